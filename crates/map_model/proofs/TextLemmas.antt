@@ -1,0 +1,125 @@
+-- Lines of a text, and the lines that replies are.
+use Rattle.std.proofs.Common.{◌≡◌, ℕ, zero, suc, ◌+◌, ◌*◌, ◌/◌, ◌%◌, ◌<◌, ◌≤◌, Bool, true, false, cond, not, ◌&&◌, ◌||◌, eqb, nat_eq, nat_lt, List, [], ◌∷◌, ◌++◌, length, codes, decimal, Option, Some, None, IsTrue, Contains, count_by, get_or, arith, refl, sym, ap, ◌∙◌, subst, append_assoc, mod-lt, inl, inr, ◌⊎◌}
+use Rattle.std.specs.List.{onto_first, list_all, starts_with}
+use Rattle.std.specs.Fmt.{digits, digits_onto, digit_glyph}
+use Rattle.std.proofs.lemmas.Bool.{cases_Bool, true≢false, false≢true, and_parts, not-true, cond_both}
+use Rattle.std.proofs.lemmas.Bool.Decides.{nat_tests}
+use Rattle.std.proofs.lemmas.List.Sums.{sum_by-cons}
+use Rattle.map_model.specs.Refusal.{Refusal, NoCommand, NoLayer, Duplicate, NoMemory, refusal_text}
+use Rattle.map_model.specs.Reply.{Reply, Made, Updated, Counted, Refused, is_refusal, reply_text, reply_line, written_for}
+use Rattle.map_model.specs.Text.{lines, whole_lines, onto_first_if_any, refusals}
+
+-- a list of bytes with no line feed
+abbrev pub one_line : List ℕ → Bool
+one_line text = list_all (λ byte. not (nat_eq byte 10)) text
+
+-- A text that begins with a whole line has that line first.
+pub lines-line : (text rest : List ℕ) → one_line text ≡ true → lines (text ++ 10 ∷ rest) ≡ text ∷ lines rest
+lines-line [] rest h = refl
+lines-line (byte ∷ text) rest h =
+    let parts = and_parts (not (nat_eq byte 10)) (one_line text) h in
+    let ordinary : nat_eq byte 10 ≡ false = not-true (nat_eq byte 10) parts.0 in
+    ap (λ b. cond b ([] ∷ lines (text ++ 10 ∷ rest)) (onto_first byte (lines (text ++ 10 ∷ rest)))) ordinary ∙ ap (onto_first byte) (lines-line text rest parts.1)
+
+pub whole_lines-line : (text rest : List ℕ) → one_line text ≡ true → whole_lines (text ++ 10 ∷ rest) ≡ text ∷ whole_lines rest
+whole_lines-line [] rest h = refl
+whole_lines-line (byte ∷ text) rest h =
+    let parts = and_parts (not (nat_eq byte 10)) (one_line text) h in
+    let ordinary : nat_eq byte 10 ≡ false = not-true (nat_eq byte 10) parts.0 in
+    ap (λ b. cond b ([] ∷ whole_lines (text ++ 10 ∷ rest)) (onto_first_if_any byte (whole_lines (text ++ 10 ∷ rest)))) ordinary ∙ ap (onto_first_if_any byte) (whole_lines-line text rest parts.1)
+
+-- A text with no line feed is its one line, and has no whole one.
+pub lines-rest : (byte : ℕ) (text : List ℕ) → one_line (byte ∷ text) ≡ true → lines (byte ∷ text) ≡ (byte ∷ text) ∷ []
+lines-rest byte [] h =
+    let parts = and_parts (not (nat_eq byte 10)) true h in
+    ap (λ b. cond b ([] ∷ []) ((byte ∷ []) ∷ [])) (not-true (nat_eq byte 10) parts.0)
+lines-rest byte (next ∷ text) h =
+    let parts = and_parts (not (nat_eq byte 10)) (one_line (next ∷ text)) h in
+    ap (λ b. cond b ([] ∷ lines (next ∷ text)) (onto_first byte (lines (next ∷ text)))) (not-true (nat_eq byte 10) parts.0) ∙ ap (onto_first byte) (lines-rest next text parts.1)
+
+pub whole_lines-rest : (text : List ℕ) → one_line text ≡ true → whole_lines text ≡ []
+whole_lines-rest [] h = refl
+whole_lines-rest (byte ∷ text) h =
+    let parts = and_parts (not (nat_eq byte 10)) (one_line text) h in
+    ap (λ b. cond b ([] ∷ whole_lines text) (onto_first_if_any byte (whole_lines text))) (not-true (nat_eq byte 10) parts.0) ∙ ap (onto_first_if_any byte) (whole_lines-rest text parts.1)
+
+-- what stands before a line feed begins with a line
+has_line : (text : List ℕ) → (line : List ℕ) × (more : List (List ℕ)) × (lines (text ++ 10 ∷ []) ≡ line ∷ more)
+has_line [] = ([], [], refl)
+has_line (byte ∷ text) =
+    let r = has_line text in
+    elim (cases_Bool (nat_eq byte 10)) [
+      inl yes' ↦ ([], lines (text ++ 10 ∷ []), ap (λ b. cond b ([] ∷ lines (text ++ 10 ∷ [])) (onto_first byte (lines (text ++ 10 ∷ [])))) yes')
+    | inr no' ↦ (byte ∷ r.0, r.1, ap (λ b. cond b ([] ∷ lines (text ++ 10 ∷ [])) (onto_first byte (lines (text ++ 10 ∷ [])))) no' ∙ ap (onto_first byte) r.2)
+    ]
+
+-- The lines of a text that a line feed ends, with another text behind it, are the lines of both.
+pub lines-append : (text rest : List ℕ) → lines ((text ++ 10 ∷ []) ++ rest) ≡ lines (text ++ 10 ∷ []) ++ lines rest
+lines-append [] rest = refl
+lines-append (byte ∷ text) rest =
+    let r = has_line text in
+    let first : onto_first byte (lines (text ++ 10 ∷ []) ++ lines rest) ≡ onto_first byte (lines (text ++ 10 ∷ [])) ++ lines rest =
+      ap (λ ls. onto_first byte (ls ++ lines rest)) r.2 ∙ sym (ap (λ ls. onto_first byte ls ++ lines rest) r.2) in
+    elim (cases_Bool (nat_eq byte 10)) [
+      inl yes' ↦ ap (λ b. cond b ([] ∷ lines ((text ++ 10 ∷ []) ++ rest)) (onto_first byte (lines ((text ++ 10 ∷ []) ++ rest)))) yes'
+        ∙ ap (λ ls. [] ∷ ls) (lines-append text rest)
+        ∙ sym (ap (λ b. cond b ([] ∷ lines (text ++ 10 ∷ [])) (onto_first byte (lines (text ++ 10 ∷ []))) ++ lines rest) yes')
+    | inr no' ↦ ap (λ b. cond b ([] ∷ lines ((text ++ 10 ∷ []) ++ rest)) (onto_first byte (lines ((text ++ 10 ∷ []) ++ rest)))) no'
+        ∙ ap (onto_first byte) (lines-append text rest) ∙ first
+        ∙ sym (ap (λ b. cond b ([] ∷ lines (text ++ 10 ∷ [])) (onto_first byte (lines (text ++ 10 ∷ []))) ++ lines rest) no')
+    ]
+
+-- ---- replies
+
+glyph_ordinary : (n : ℕ) → not (nat_eq (digit_glyph false (n % 10)) 10) ≡ true
+glyph_ordinary n =
+    let small : n % 10 < 10 = mod-lt n (omega arith) in
+    grind (arith, nat_tests)
+
+digits_onto_one_line : (k n : ℕ) (acc : List ℕ) → one_line acc ≡ true → one_line (digits_onto k 10 false n acc) ≡ true
+digits_onto_one_line zero n acc h = h
+digits_onto_one_line (suc k) n acc h =
+    let more : one_line (digit_glyph false (n % 10) ∷ acc) ≡ true = ap (λ b. b && one_line acc) (glyph_ordinary n) ∙ h in
+    cond_both (nat_eq (n / 10) 0) (digit_glyph false (n % 10) ∷ acc) (digits_onto k 10 false (n / 10) (digit_glyph false (n % 10) ∷ acc)) (λ ds. one_line ds ≡ true) (λ _. more) (λ _. digits_onto_one_line k (n / 10) (digit_glyph false (n % 10) ∷ acc) more)
+
+pub decimal_one_line : (n : ℕ) → one_line (decimal n) ≡ true
+unfolding digits
+decimal_one_line n = digits_onto_one_line 64 n [] refl
+
+refusal_one_line : (cause : Refusal) → one_line (refusal_text cause) ≡ true
+refusal_one_line NoCommand = refl
+refusal_one_line NoLayer = refl
+refusal_one_line (Duplicate id) = decimal_one_line id
+refusal_one_line NoMemory = refl
+
+pub reply_one_line : (reply : Reply) → one_line (reply_text reply) ≡ true
+reply_one_line Made = refl
+reply_one_line Updated = refl
+reply_one_line (Counted n) = decimal_one_line n
+reply_one_line (Refused cause) = refusal_one_line cause
+
+pub lines-reply : (reply : Reply) (rest : List ℕ) → lines (reply_line reply ++ rest) ≡ reply_text reply ∷ lines rest
+lines-reply reply rest = ap lines (append_assoc (reply_text reply) (10 ∷ []) rest) ∙ lines-line (reply_text reply) rest (reply_one_line reply)
+
+begins_no : (reply : Reply) → starts_with nat_eq (reply_text reply) (codes "no ") ≡ is_refusal reply
+begins_no Made = refl
+begins_no Updated = refl
+begins_no (Counted n) = refl
+begins_no (Refused NoCommand) = refl
+begins_no (Refused NoLayer) = refl
+begins_no (Refused (Duplicate id)) = refl
+begins_no (Refused NoMemory) = refl
+
+-- one, where a line was refused
+abbrev pub refusal_of : Option Reply → ℕ
+refusal_of None = 0
+refusal_of (Some reply) = cond (is_refusal reply) 1 0
+
+-- What was written begins with `no ` once for each refusal.
+pub refusals-append : (reply : Option Reply) (rest : List ℕ) → refusals (written_for reply ++ rest) ≡ refusal_of reply + refusals rest
+refusals-append None rest = omega arith
+refusals-append (Some reply) rest =
+    let test : List ℕ → Bool = λ line. starts_with nat_eq line (codes "no ") in
+    ap (count_by test) (lines-reply reply rest)
+    ∙ sum_by-cons (λ line. cond (test line) 1 0) (reply_text reply) (lines rest)
+    ∙ ap (λ b. cond b 1 0 + count_by test (lines rest)) (begins_no reply)

@@ -1,0 +1,9 @@
+pub mod Shapes
+pub mod State
+pub mod Refusal
+pub mod Command
+pub mod Reply
+pub mod Machine
+pub mod Grammar
+pub mod Text
+pub mod Output

@@ -1,0 +1,30 @@
+-- What a command is answered, and the line that says so.
+use Rattle.std.specs.Prelude.{ℕ, List, [], ◌∷◌, ◌++◌, Bool, true, false, Option, Some, None, codes, decimal}
+use Rattle.map_model.specs.Refusal.{Refusal, refusal_text}
+
+pub data Reply : Type 0 where
+  Made : Reply
+  Updated : Reply
+  Counted : (n : ℕ) → Reply
+  Refused : (cause : Refusal) → Reply
+
+abbrev pub is_refusal : Reply → Bool
+is_refusal Made = false
+is_refusal Updated = false
+is_refusal (Counted n) = false
+is_refusal (Refused cause) = true
+
+abbrev pub reply_text : Reply → List ℕ
+reply_text Made = codes "ok"
+reply_text Updated = codes "ok"
+reply_text (Counted n) = codes "count " ++ decimal n
+reply_text (Refused cause) = refusal_text cause
+
+-- the text, and a line feed
+abbrev pub reply_line : Reply → List ℕ
+reply_line reply = reply_text reply ++ 10 ∷ []
+
+-- a line that is nothing has no reply, and nothing is written for it
+abbrev pub written_for : Option Reply → List ℕ
+written_for None = []
+written_for (Some reply) = reply_line reply

@@ -1,0 +1,21 @@
+-- A text's lines.
+use Rattle.std.specs.Prelude.{◌==◌, ℕ, List, [], ◌∷◌, if◌then◌else◌, count_by, codes, nat_eq}
+use Rattle.std.specs.List.{onto_first, starts_with}
+
+-- cut at each line feed; a last line without one counts where it isn't empty
+abbrev pub lines : List ℕ → List (List ℕ)
+lines [] = []
+lines (byte ∷ bytes) = if byte == 10 then [] ∷ lines bytes else onto_first byte (lines bytes)
+
+abbrev pub onto_first_if_any : ℕ → List (List ℕ) → List (List ℕ)
+onto_first_if_any byte [] = []
+onto_first_if_any byte (line ∷ lines) = (byte ∷ line) ∷ lines
+
+-- the lines that a line feed ended
+abbrev pub whole_lines : List ℕ → List (List ℕ)
+whole_lines [] = []
+whole_lines (byte ∷ bytes) = if byte == 10 then [] ∷ whole_lines bytes else onto_first_if_any byte (whole_lines bytes)
+
+-- how many lines of what was written begin with `no `
+abbrev pub refusals : List ℕ → ℕ
+refusals written = count_by (λ line. starts_with nat_eq line (codes "no ")) (lines written)

@@ -1,0 +1,56 @@
+//! What a map is, what a script's line says and what it is answered: the definitions that every other crate's
+//! contracts speak of, and the laws that hold of them.
+//!
+//! The definitions stand in `specs/`; `docs/DEFINITIONS.md` reads them aloud. Each function here is a law: it does
+//! nothing, and its contract holds of every map, every script and everything that may be written for it.
+#![tactic(auto)]
+
+ghost use Rattle.std.specs.Prelude.{◌≡◌, ℕ, ◌+◌, List, [], ◌∷◌, ◌++◌, Contains, codes, IsTrue};
+ghost use Rattle.map_model.specs.State.{State};
+ghost use Rattle.map_model.specs.Text.{lines, whole_lines};
+ghost use Rattle.map_model.specs.Output.{Output, machine_text, machine_end, never_lacks_memory};
+
+/// The lines and the bytes written for them fix the map at the end. So they tell which commands memory refused.
+pub fn end_is_fixed()
+    ensures { (start first second : State) (script : List (List ℕ)) (written : List ℕ) →
+        Output start script written first → Output start script written second → first ≡ second }
+{
+}
+
+/// What is written for one text, and then from the map that it leads to for a second one, is written for both,
+/// where a line feed ends the first.
+pub fn outputs_join()
+    ensures { (start middle end : State) (first second : List ℕ) (v w : List ℕ) →
+        Output start (lines (first ++ 10 ∷ [])) v middle → Output middle (lines second) w end →
+        Output start (lines ((first ++ 10 ∷ []) ++ second)) (v ++ w) end }
+{
+}
+
+/// What is written for two texts is what is written for the first, and then from the map that it leads to what is
+/// written for the second.
+pub fn outputs_split()
+    ensures { (start end : State) (first second written : List ℕ) →
+        Output start (lines ((first ++ 10 ∷ []) ++ second)) written end →
+        (v : List ℕ) × (w : List ℕ) × (middle : State) × (written ≡ v ++ w)
+            × Output start (lines (first ++ 10 ∷ [])) v middle × Output middle (lines second) w end }
+{
+}
+
+/// A script in which no `add` could be accepted has exactly one output: that of the machine.
+pub fn one_output()
+    ensures exists { (start : State) (script : List (List ℕ)) →
+        Output start script (machine_text start script) (machine_end start script) }
+    ensures unique { (start end : State) (script : List (List ℕ)) (written : List ℕ) →
+        IsTrue (never_lacks_memory start script) → Output start script written end →
+        (written ≡ machine_text start script) × (end ≡ machine_end start script) }
+{
+}
+
+/// Where no line `no memory` was written, the written bytes are exactly the replies of the machine, one command
+/// after another, and the map is its map.
+pub fn without_refused_memory()
+    ensures { (start end : State) (script : List (List ℕ)) (written : List ℕ) →
+        (Contains (lines written) (codes "no memory") → ⊥) → Output start script written end →
+        (written ≡ machine_text start script) × (end ≡ machine_end start script) }
+{
+}

@@ -1,0 +1,4 @@
+pub mod NameBytes
+pub mod Point
+pub mod Rect
+pub mod Name

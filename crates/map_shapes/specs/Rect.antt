@@ -1,0 +1,6 @@
+-- A rectangle as the definitions have it.
+use Rattle.map_model.specs.Shapes as model
+use Rattle.map_shapes.specs.declared.rect.Rect.{Rect}
+
+abbrev pub rect_of : Rect → model.Rect
+rect_of r = record { x1 = r.x1; y1 = r.y1; x2 = r.x2; y2 = r.y2 }

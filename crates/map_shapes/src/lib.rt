@@ -1,0 +1,10 @@
+//! The shapes of a map, and the names of its layers.
+#![tactic(auto)]
+
+mod name;
+mod point;
+mod rect;
+
+pub use name::Name;
+pub use point::Point;
+pub use rect::Rect;

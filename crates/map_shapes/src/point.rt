@@ -1,0 +1,32 @@
+// A point with a weight.
+ghost use Rattle.std.specs.Prelude.{◌<◌, ◌^◌};
+
+use crate::Rect;
+
+/// A point of a layer. Coordinates and weights are at most 2,147,483,647; `stamp` is the number of adds that its
+/// layer accepted before it.
+#[derive(Clone, Copy, Debug)]
+pub struct Point {
+    pub id: u64,
+    pub x: u32,
+    pub y: u32,
+    pub w: u32,
+    pub stamp: u64,
+    pub ghost x_in_range: { x < 2 ^ 31 },
+    pub ghost y_in_range: { y < 2 ^ 31 },
+    pub ghost w_in_range: { w < 2 ^ 31 },
+}
+
+impl Point {
+    ghost use Rattle.std.specs.Prelude.{◌≡◌};
+    ghost use Rattle.map_model.specs.Shapes.{is_inside};
+    ghost use Rattle.map_shapes.specs.Point.{shape_of};
+    ghost use Rattle.map_shapes.specs.Rect.{rect_of};
+
+    /// Whether it lies in the rectangle or on its border.
+    pub fn is_inside(&self, rect: &Rect) -> bool
+        ensures { result ≡ is_inside (rect_of rect.now) (shape_of self.now) }
+    {
+        rect.x1 <= self.x && self.x <= rect.x2 && rect.y1 <= self.y && self.y <= rect.y2
+    }
+}

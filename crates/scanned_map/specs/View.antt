@@ -1,0 +1,12 @@
+-- The map that a vector of points stands for.
+use Rattle.std.specs.Prelude.{List, [], ◌∷◌, map, Option, Some, None}
+use Rattle.map_model.specs.State.{Layer, State}
+use Rattle.map_shapes.specs.Point.{item_of}
+use Rattle.scanned_map.specs.declared.layer.ScannedLayer.{ScannedLayer}
+
+abbrev pub layer_of : ScannedLayer → Layer
+layer_of layer = record { name = layer.name; items = map item_of layer.points.items }
+
+abbrev pub state_of : Option ScannedLayer → State
+state_of None = []
+state_of (Some layer) = layer_of layer ∷ []
