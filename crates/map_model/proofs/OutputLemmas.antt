@@ -1,16 +1,16 @@
 -- The laws of the output relation.
-use Rattle.std.proofs.Common.{◌≡◌, ℕ, zero, suc, ◌+◌, ◌<◌, ◌≤◌, Bool, true, false, cond, not, ◌&&◌, List, [], ◌∷◌, ◌++◌, length, take, codes, Option, Some, None, Result, Ok, Err, IsTrue, Contains, get_or, arith, refl, sym, ap, ◌∙◌, subst, append_assoc, append-nil, inl, inr, ◌⊎◌}
+use Rattle.std.proofs.Common.{◌≡◌, ℕ, zero, suc, ◌+◌, ◌<◌, ◌≤◌, Bool, true, false, cond, not, ◌&&◌, List, [], ◌∷◌, ◌++◌, length, take, codes, Option, Some, None, Result, Ok, Err, IsTrue, Contains, get_or, arith, refl, sym, ap, ◌∙◌, subst, append_assoc, append-nil, inl, inr, ◌⊎◌, add_assoc, add-zero, zero-add, length-append, take_at, le_of_lt}
 use Rattle.std.proofs.lemmas.Bool.{cases_Bool, true≢false, false≢true, and_parts, not-true, not-false, both_ways, eqb-false}
-use Rattle.std.proofs.lemmas.List.{append_cancel_left}
+use Rattle.std.proofs.lemmas.List.{append_cancel_left, get_or_at, take-append-le, get_or_append_left}
 use Rattle.map_model.specs.State.{State}
 use Rattle.map_model.specs.Refusal.{Refusal, NoCommand, NoLayer, Duplicate, NoMemory}
 use Rattle.map_model.specs.Command.{Command, takes_memory}
-use Rattle.map_model.specs.Reply.{Reply, Made, Updated, Counted, Refused, is_refusal, reply_text, reply_line, written_for}
+use Rattle.map_model.specs.Reply.{Reply, Made, Updated, Counted, Refused, is_refusal, refusal_count, reply_text, reply_line, written_for}
 use Rattle.map_model.specs.Machine.{step}
 use Rattle.map_model.specs.Grammar.{parse}
-use Rattle.map_model.specs.Text.{lines}
-use Rattle.map_model.specs.Output.{Answer, answer, answer_to, may_lack_memory, may_lack_memory_at, no_memory, Answers, Output, machine_text, machine_end, never_lacks_memory}
-use Rattle.map_model.proofs.TextLemmas.{lines-reply}
+use Rattle.map_model.specs.Text.{lines, refusals}
+use Rattle.map_model.specs.Output.{Answer, answer, answer_to, may_lack_memory, may_lack_memory_at, no_memory, Answers, Output, Interrupted, machine_text, machine_end, never_lacks_memory}
+use Rattle.map_model.proofs.TextLemmas.{lines-reply, refusals-append}
 
 -- what no refusal begins with, `no memory` doesn't
 accepted≢no_memory : (reply : Reply) (x y : List ℕ) → is_refusal reply ≡ false → reply_line reply ++ x ≡ reply_line (Refused NoMemory) ++ y → ⊥
@@ -103,3 +103,56 @@ output_without_refusals start end (line ∷ script) written h p =
     | inr lacking ↦ absurd (untold (subst (λ (g : Answer). Contains (lines (written_for g.reply ++ p.2)) (codes "no memory")) (sym lacking.1)
         (subst (λ (ls : List (List ℕ)). Contains ls (codes "no memory")) (sym (lines-reply (Refused NoMemory) p.2)) (contains_first (codes "no memory") (lines p.2)))))
     ]
+
+-- Behind an output, what is written refuses what it refuses alone.
+pub refusals-append_output : (start end : State) (script : List (List ℕ)) (written more : List ℕ) → Output start script written end → refusals (written ++ more) ≡ refusals written + refusals more
+refusals-append_output start end [] written more p =
+    ap (λ (z : List ℕ). refusals (z ++ more)) p.0 ∙ sym (ap (λ (z : List ℕ). refusals z + refusals more) p.0 ∙ zero-add (refusals more))
+refusals-append_output start end (line ∷ script) written more p =
+    let front = written_for p.0.reply in
+    let count = refusal_count p.0.reply in
+    ap (λ (z : List ℕ). refusals (z ++ more)) p.3
+    ∙ ap refusals (append_assoc front p.2 more)
+    ∙ refusals-append p.0.reply (p.2 ++ more)
+    ∙ ap (λ n. count + n) (refusals-append_output p.0.state end script p.2 more p.4)
+    ∙ sym (add_assoc count (refusals p.2) (refusals more))
+    ∙ ap (λ n. n + refusals more) (sym (refusals-append p.0.reply p.2))
+    ∙ ap (λ (z : List ℕ). refusals z + refusals more) (sym p.3)
+
+-- one answer more: what it refuses is added
+pub refusals-push : (start end : State) (script : List (List ℕ)) (written : List ℕ) (reply : Option Reply) → Output start script written end → refusals (written ++ written_for reply) ≡ refusals written + refusal_count reply
+refusals-push start end script written reply p =
+    refusals-append_output start end script written (written_for reply) p
+    ∙ ap (λ n. refusals written + n) (sym (ap refusals (append-nil (written_for reply))) ∙ refusals-append reply [] ∙ add-zero (refusal_count reply))
+
+-- Lines that are answered, and then one that writing stopped in.
+pub Interrupted-from : (start before : State) (answered more script : List (List ℕ)) (line full : List ℕ) (given : Answer) (part : ℕ) → script ≡ answered ++ line ∷ more → Output start answered full before → Answers before line given → part < length (written_for given.reply) → Interrupted start script (full ++ take part (written_for given.reply)) given.state
+Interrupted-from start before answered more script line full given part e p a small = record {
+  answered = length answered;
+  has_next = subst (λ (ls : List (List ℕ)). length answered < length ls) (sym e) (omega (arith, length-append answered (line ∷ more)));
+  full = full;
+  before = before;
+  answers_before = subst (λ (ls : List (List ℕ)). Output start ls full before) (sym (ap (take (length answered)) e ∙ take_at answered (line ∷ more) (length answered) refl)) p;
+  given = given;
+  answers_next = subst (λ (l : List ℕ). Answers before l given) (sym (ap (λ (ls : List (List ℕ)). get_or ls (length answered) []) e ∙ get_or_at answered line more [] (length answered) refl)) a;
+  executed = refl;
+  part = part;
+  is_part = small;
+  is_written = refl;
+}
+
+-- more lines behind those that writing stopped in
+pub Interrupted-append : (start end : State) (script more : List (List ℕ)) (written : List ℕ) → Interrupted start script written end → Interrupted start (script ++ more) written end
+Interrupted-append start end script more written h = record {
+  answered = h.answered;
+  has_next = omega (arith, h.has_next, length-append script more);
+  full = h.full;
+  before = h.before;
+  answers_before = subst (λ (ls : List (List ℕ)). Output start ls h.full h.before) (sym (take-append-le h.answered script more (le_of_lt h.has_next))) h.answers_before;
+  given = h.given;
+  answers_next = subst (λ (l : List ℕ). Answers h.before l h.given) (sym (get_or_append_left script more [] h.answered h.has_next)) h.answers_next;
+  executed = h.executed;
+  part = h.part;
+  is_part = h.is_part;
+  is_written = h.is_written;
+}

@@ -6,12 +6,8 @@ use Rattle.std.proofs.lemmas.Bool.{cases_Bool, true≢false, false≢true, and_p
 use Rattle.std.proofs.lemmas.Bool.Decides.{nat_tests}
 use Rattle.std.proofs.lemmas.List.Sums.{sum_by-cons}
 use Rattle.map_model.specs.Refusal.{Refusal, NoCommand, NoLayer, Duplicate, NoMemory, refusal_text}
-use Rattle.map_model.specs.Reply.{Reply, Made, Updated, Counted, Refused, is_refusal, reply_text, reply_line, written_for}
-use Rattle.map_model.specs.Text.{lines, whole_lines, onto_first_if_any, refusals}
-
--- a list of bytes with no line feed
-abbrev pub one_line : List ℕ → Bool
-one_line text = list_all (λ byte. not (nat_eq byte 10)) text
+use Rattle.map_model.specs.Reply.{Reply, Made, Updated, Counted, Refused, is_refusal, refusal_count, reply_text, reply_line, written_for}
+use Rattle.map_model.specs.Text.{lines, whole_lines, onto_first_if_any, one_line, refusals}
 
 -- A text that begins with a whole line has that line first.
 pub lines-line : (text rest : List ℕ) → one_line text ≡ true → lines (text ++ 10 ∷ rest) ≡ text ∷ lines rest
@@ -110,16 +106,29 @@ begins_no (Refused NoLayer) = refl
 begins_no (Refused (Duplicate id)) = refl
 begins_no (Refused NoMemory) = refl
 
--- one, where a line was refused
-abbrev pub refusal_of : Option Reply → ℕ
-refusal_of None = 0
-refusal_of (Some reply) = cond (is_refusal reply) 1 0
-
 -- What was written begins with `no ` once for each refusal.
-pub refusals-append : (reply : Option Reply) (rest : List ℕ) → refusals (written_for reply ++ rest) ≡ refusal_of reply + refusals rest
+pub refusals-append : (reply : Option Reply) (rest : List ℕ) → refusals (written_for reply ++ rest) ≡ refusal_count reply + refusals rest
 refusals-append None rest = omega arith
 refusals-append (Some reply) rest =
     let test : List ℕ → Bool = λ line. starts_with nat_eq line (codes "no ") in
     ap (count_by test) (lines-reply reply rest)
     ∙ sum_by-cons (λ line. cond (test line) 1 0) (reply_text reply) (lines rest)
     ∙ ap (λ b. cond b 1 0 + count_by test (lines rest)) (begins_no reply)
+
+-- The whole lines of a text are the first lines of the text with more behind it.
+pub lines_begin_whole : (text more : List ℕ) → (tail : List (List ℕ)) × (lines (text ++ more) ≡ whole_lines text ++ tail)
+lines_begin_whole [] more = (lines more, refl)
+lines_begin_whole (byte ∷ text) more =
+    let r = lines_begin_whole text more in
+    elim (cases_Bool (nat_eq byte 10)) [
+      inl yes' ↦ (r.0, ap (λ b. cond b ([] ∷ lines (text ++ more)) (onto_first byte (lines (text ++ more)))) yes' ∙ ap (λ ls. [] ∷ ls) r.1
+        ∙ sym (ap (λ b. cond b ([] ∷ whole_lines text) (onto_first_if_any byte (whole_lines text)) ++ r.0) yes'))
+    | inr no' ↦
+        let joined = onto_whole byte (lines (text ++ more)) (whole_lines text) r.0 r.1 in
+        (joined.0, ap (λ b. cond b ([] ∷ lines (text ++ more)) (onto_first byte (lines (text ++ more)))) no' ∙ joined.1
+          ∙ sym (ap (λ b. cond b ([] ∷ whole_lines text) (onto_first_if_any byte (whole_lines text)) ++ joined.0) no'))
+    ]
+  where
+    onto_whole : (byte : ℕ) (all whole tail : List (List ℕ)) → all ≡ whole ++ tail → (tail' : List (List ℕ)) × (onto_first byte all ≡ onto_first_if_any byte whole ++ tail')
+    onto_whole byte all [] tail e = (onto_first byte all, refl)
+    onto_whole byte all (line ∷ whole) tail e = (tail, ap (onto_first byte) e)

@@ -1,7 +1,8 @@
 -- What a line of bytes without its line feed says: nothing, a command, or no command at all.
 use Rattle.std.specs.Prelude.{◌==◌, ℕ, ◌-◌, ◌^◌, Bool, true, false, ◌&&◌, ◌||◌, not, List, [], ◌∷◌, length, Option, Some, None, Result, Ok, Err, nat_le, nat_lt, bytes_eq, codes, filter, option_and_then, if◌then◌else◌, take}
 use Rattle.std.specs.List.{list_all, slice_split, starts_with}
-use Rattle.std.specs.Char.{is_ascii_digit, is_ascii_alphanumeric}
+use Rattle.std.specs.Char.{is_ascii_alphanumeric}
+use Rattle.std.specs.Str.{all_ascii_digits}
 use Rattle.std.specs.Str.Parse.{digits_value}
 use Rattle.map_model.specs.Shapes.{Shape, Point, Rect}
 use Rattle.map_model.specs.Refusal.{Refusal, NoCommand}
@@ -10,6 +11,9 @@ use Rattle.map_model.specs.Command.{Command, MakeLayer, Add, Count}
 -- a space or a tab
 abbrev pub is_blank : ℕ → Bool
 is_blank byte = (byte == 32) || (byte == 9)
+
+abbrev pub is_word_byte : ℕ → Bool
+is_word_byte byte = not (is_blank byte)
 
 abbrev pub is_filled : List ℕ → Bool
 is_filled [] = false
@@ -29,7 +33,7 @@ is_name word = nat_le 1 (length word) && nat_le (length word) 16 && list_all is_
 
 -- one or more digits, whose number is at most the limit
 abbrev pub is_number : ℕ → List ℕ → Bool
-is_number limit word = is_filled word && list_all is_ascii_digit word && nat_le (digits_value 10 word) limit
+is_number limit word = is_filled word && all_ascii_digits word && nat_le (digits_value 10 word) limit
 
 abbrev pub greatest_coordinate : ℕ
 greatest_coordinate = 2 ^ 31 - 1

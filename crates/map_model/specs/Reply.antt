@@ -1,5 +1,5 @@
 -- What a command is answered, and the line that says so.
-use Rattle.std.specs.Prelude.{ℕ, List, [], ◌∷◌, ◌++◌, Bool, true, false, Option, Some, None, codes, decimal}
+use Rattle.std.specs.Prelude.{ℕ, List, [], ◌∷◌, ◌++◌, Bool, true, false, Option, Some, None, codes, decimal, if◌then◌else◌}
 use Rattle.map_model.specs.Refusal.{Refusal, refusal_text}
 
 pub data Reply : Type 0 where
@@ -19,6 +19,11 @@ reply_text Made = codes "ok"
 reply_text Updated = codes "ok"
 reply_text (Counted n) = codes "count " ++ decimal n
 reply_text (Refused cause) = refusal_text cause
+
+-- one, where a reply is a refusal
+abbrev pub refusal_count : Option Reply → ℕ
+refusal_count None = 0
+refusal_count (Some reply) = if is_refusal reply then 1 else 0
 
 -- the text, and a line feed
 abbrev pub reply_line : Reply → List ℕ

@@ -1,6 +1,6 @@
 -- A text's lines.
-use Rattle.std.specs.Prelude.{◌==◌, ℕ, List, [], ◌∷◌, if◌then◌else◌, count_by, codes, nat_eq}
-use Rattle.std.specs.List.{onto_first, starts_with}
+use Rattle.std.specs.Prelude.{◌==◌, ℕ, List, [], ◌∷◌, if◌then◌else◌, count_by, codes, nat_eq, Bool, not}
+use Rattle.std.specs.List.{onto_first, list_all, starts_with}
 
 -- cut at each line feed; a last line without one counts where it isn't empty
 abbrev pub lines : List ℕ → List (List ℕ)
@@ -15,6 +15,10 @@ onto_first_if_any byte (line ∷ lines) = (byte ∷ line) ∷ lines
 abbrev pub whole_lines : List ℕ → List (List ℕ)
 whole_lines [] = []
 whole_lines (byte ∷ bytes) = if byte == 10 then [] ∷ whole_lines bytes else onto_first_if_any byte (whole_lines bytes)
+
+-- a list of bytes with no line feed
+abbrev pub one_line : List ℕ → Bool
+one_line text = list_all (λ byte. not (nat_eq byte 10)) text
 
 -- how many lines of what was written begin with `no `
 abbrev pub refusals : List ℕ → ℕ

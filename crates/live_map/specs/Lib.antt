@@ -1,0 +1,5 @@
+pub mod Script
+pub mod Replies
+pub mod Session
+pub mod Run
+pub mod Intake

@@ -1,0 +1,38 @@
+// One command on the map.
+ghost use Rattle.std.specs.Prelude.{◌≡◌};
+ghost use Rattle.live_map.specs.Script.{command_of, IsInRange};
+ghost use Rattle.live_map.specs.Replies.{reply_of};
+ghost use Rattle.live_map.specs.Session.{MayGive};
+
+use super::reply::{Refusal, Reply};
+use super::script::Command;
+use scanned_map::{AskFault, CreateFault, ScannedMap, UpdateFault};
+
+/// Executes a command.
+pub fn execute(map: &mut ScannedMap, command: Command) -> Reply
+    requires { IsInRange command }
+    ensures { MayGive map.old (command_of command) map.new (reply_of result) }
+{
+    match command {
+        Command::Layer { name } => match map.create(name) {
+            Ok(()) => Reply::Made,
+            Err(CreateFault::NoRoom) => refused(Refusal::Command),
+        },
+        Command::Add { name, id, x, y, w } => match map.add_point(&name, id, x, y, w) {
+            Ok(()) => Reply::Updated,
+            Err(UpdateFault::NoLayer) => refused(Refusal::NoLayer),
+            Err(UpdateFault::Duplicate(id)) => refused(Refusal::Duplicate { id }),
+            Err(UpdateFault::NoMemory) => refused(Refusal::NoMemory),
+        },
+        Command::Count { name, rect } => match map.count(&name, &rect) {
+            Ok(n) => Reply::Count { n },
+            Err(AskFault::NoLayer) => refused(Refusal::NoLayer),
+        },
+    }
+}
+
+fn refused(cause: Refusal) -> Reply
+    ensures { result ≡ Reply.Refused cause }
+{
+    Reply::Refused { cause }
+}
