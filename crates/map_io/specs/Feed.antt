@@ -1,0 +1,27 @@
+-- A source over memory as contracts see it.
+use Rattle.std.specs.Prelude.{ℕ, ◌+◌, List, drop}
+use Rattle.map_io.specs.Calls.{counted, numbers_after}
+
+pub record Feed : Type 0 where
+  -- the bytes not yet taken
+  pub rest : List ℕ
+  -- how many a call gives at most
+  pub piece : ℕ
+  -- the numbers of the failing calls that are still to come
+  pub failing : List ℕ
+  -- the calls so far; it stands still at 2^64 - 1
+  pub calls : ℕ
+  -- the failing calls so far; it stands still at 2^64 - 1
+  pub faults : ℕ
+
+-- after a call
+abbrev pub feed_after_call : Feed → Feed
+feed_after_call f = record f { failing = numbers_after (f.calls + 1) f.failing; calls = counted f.calls }
+
+-- after a call that failed
+abbrev pub feed_after_failing : Feed → Feed
+feed_after_failing f = record (feed_after_call f) { faults = counted f.faults }
+
+-- after a call that gave n bytes
+abbrev pub feed_after_taking : ℕ → Feed → Feed
+feed_after_taking n f = record (feed_after_call f) { rest = drop n f.rest }

@@ -1,0 +1,5 @@
+pub mod Calls
+pub mod Faults
+pub mod Feed
+pub mod Parts
+pub mod Store

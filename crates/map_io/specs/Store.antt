@@ -1,0 +1,29 @@
+-- A sink over memory as contracts see it.
+use Rattle.std.specs.Prelude.{ℕ, ◌+◌, ◌-◌, List, ◌++◌, length}
+use Rattle.map_io.specs.Calls.{counted, numbers_after}
+
+pub record Store : Type 0 where
+  -- the bytes taken
+  pub written : List ℕ
+  -- the places left
+  pub room : ℕ
+  -- how many a call takes at most
+  pub piece : ℕ
+  -- the numbers of the failing calls that are still to come
+  pub failing : List ℕ
+  -- the calls so far; it stands still at 2^64 - 1
+  pub calls : ℕ
+  -- the failed calls so far; it stands still at 2^64 - 1
+  pub faults : ℕ
+
+-- after a call
+abbrev pub store_after_call : Store → Store
+store_after_call s = record s { failing = numbers_after (s.calls + 1) s.failing; calls = counted s.calls }
+
+-- after a call that failed
+abbrev pub store_after_failing : Store → Store
+store_after_failing s = record (store_after_call s) { faults = counted s.faults }
+
+-- after a call that took bs
+abbrev pub store_after_taking : List ℕ → Store → Store
+store_after_taking bs s = record (store_after_call s) { written = s.written ++ bs; room = s.room - length bs }

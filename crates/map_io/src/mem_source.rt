@@ -1,0 +1,101 @@
+// A source over memory.
+ghost use Rattle.std.specs.Prelude.{◌≡◌, ◌↔◌, ℕ, ◌+◌, ◌-◌, ◌^◌, ◌<◌, ◌≤◌, List, [], min, ◌++◌, take, drop, length, All, Contains, Some, IfOk, IsErr, OnErr};
+ghost use Rattle.std.specs.List.Sorted.{IsStrictlyIncreasing};
+ghost use Rattle.std.specs.Io.KnownBytes.{ReadConsumes};
+ghost use Rattle.map_io.specs.Faults.{Rose};
+ghost use Rattle.map_io.specs.Feed.{feed_after_failing, feed_after_taking};
+
+use super::plan::Plan;
+use super::source::{Failed, Source, count_fault};
+use std::marker::Model;
+
+/// A source over bytes in memory, for tests: it gives them in pieces, and fails where it is told to.
+///
+/// Contracts see it as a `Feed`: the bytes that are left, the piece, the numbers of the failing
+/// calls that are still to come, the calls so far and the failing calls so far.
+#[derive(Drop)]
+pub struct MemSource {
+    bytes: Vec<u8>,
+    taken: usize,
+    piece: usize,
+    plan: Plan,
+    faults: u64,
+}
+
+impl Model for MemSource {
+    ghost use Rattle.std.specs.Prelude.{◌≤◌, drop, vec_len};
+    ghost use Rattle.map_io.specs.Feed.{Feed};
+
+    ghost Value = { Feed };
+
+    ghost view = { λ s. record {
+      rest = drop s.taken s.bytes.items;
+      piece = s.piece;
+      failing = s.plan.failing;
+      calls = s.plan.made;
+      faults = s.faults;
+    } };
+
+    ghost invariant = { λ s. (s.taken ≤ vec_len s.bytes) × (1 ≤ s.piece) };
+}
+
+impl MemSource {
+    /// A source that gives `bytes` in pieces of at most `piece` bytes.
+    ///
+    /// `failing` has the numbers of the calls that fail, counted from 1. A call after call
+    /// 2^64 - 1 has no number.
+    pub fn new(bytes: Vec<u8>, piece: usize, failing: Vec<u64>) -> MemSource
+        requires some { 1 ≤ piece }
+        requires rising { IsStrictlyIncreasing failing.items }
+        requires numbered { All (λ n. 0 < n) failing.items }
+        ensures { result ≡ record {
+          rest = bytes.items;
+          piece = piece;
+          failing = failing.items;
+          calls = 0;
+          faults = 0;
+        } }
+    {
+        MemSource {
+            bytes,
+            taken: 0,
+            piece,
+            plan: Plan::new(failing),
+            faults: 0,
+        }
+    }
+}
+
+impl Source for MemSource {
+    ghost rest = { λ s. Some s.rest };
+
+    ghost faults = { λ s. s.faults };
+
+    /// Copies the bytes that it gives; the rest of the call takes a fixed number of steps.
+    fn read(&mut self, into: &mut [u8]) -> Result<usize, Failed>
+        requires { 0 < length into.old }
+        ensures bound { IfOk result (λ n. n ≤ length into.old) }
+        ensures taken { ReadConsumes (Some self.old.rest) (Some self.new.rest) result into.new }
+        ensures kept { self.old.faults ≤ self.new.faults }
+        ensures bounded { self.new.faults ≤ 2 ^ 64 - 1 }
+        ensures failed { OnErr result (Rose self.old.faults self.new.faults) }
+
+        ensures fails { IsErr result ↔ Contains self.old.failing (self.old.calls + 1) }
+        ensures refused { OnErr result (self.new ≡ feed_after_failing self.old) }
+        ensures untouched { OnErr result (into.new ≡ into.old) }
+
+        ensures given { IfOk result (λ n. self.new ≡ feed_after_taking n self.old) }
+        ensures count { IfOk result (λ n. n ≡ min (length into.old) (min self.old.piece (length self.old.rest))) }
+        ensures filled { IfOk result (λ n. into.new ≡ take n self.old.rest ++ drop n into.old) }
+    {
+        if self.plan.count() {
+            return Err(count_fault(&mut self.faults));
+        }
+        let left = self.bytes.len() - self.taken;
+        let given = into.len().min(self.piece).min(left);
+        let end = self.taken + given;
+        into[..given].copy_from_slice(&self.bytes[self.taken..end]);
+        self.taken = end;
+        Ok(given)
+    }
+}

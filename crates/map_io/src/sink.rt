@@ -1,0 +1,54 @@
+// What takes bytes.
+ghost use Rattle.std.specs.Prelude.{ℕ, Option, ◌-◌, ◌^◌, ◌<◌, ◌≤◌, List, length, IfOk, OnOk, OnErr};
+ghost use Rattle.std.specs.Io.KnownBytes.{Appends, WriteAppends};
+ghost use Rattle.map_io.specs.Faults.{Rose};
+ghost use Rattle.map_io.specs.Parts.{AppendsPart};
+
+use super::source::Failed;
+
+/// A line that could not be written whole.
+#[derive(Clone, Copy, Debug, PartialEq, Eq)]
+pub struct WriteFault;
+
+/// A writer that counts how often the outside failed.
+pub trait Sink {
+    /// The bytes taken so far, where the sink tells them.
+    ghost written: { Self → Option (List ℕ) };
+
+    /// How often the outside has failed; it never falls and stands still at 2^64 - 1.
+    ghost faults: { Self → ℕ };
+
+    /// Takes bytes from the front of `piece`, at least one, and says how many.
+    ///
+    /// After `Failed`, which took nothing, the same bytes can be handed in again.
+    fn write(&mut self, piece: &[u8]) -> Result<usize, Failed>
+        requires { 0 < length piece.now }
+        ensures bound { IfOk result (λ n. (1 ≤ n) × (n ≤ length piece.now)) }
+        ensures appended { WriteAppends (written self.old) (written self.new) result piece.now }
+
+        ensures kept { faults self.old ≤ faults self.new }
+        ensures bounded { faults self.new ≤ 2 ^ 64 - 1 }
+        ensures failed { OnErr result (Rose (faults self.old) (faults self.new)) };
+}
+
+/// Hands all bytes to the sink, in as many calls as it asks for.
+///
+/// It stops at the first call that fails, and no call is tried again. No bytes take no call.
+pub fn write_all<K: Sink>(sink: &mut K, bytes: &[u8]) -> Result<(), WriteFault>
+    ensures all { OnOk result (Appends (K.written sink.old) (K.written sink.new) bytes.now) }
+
+    // A part of the bytes, not all of them.
+    ensures part { OnErr result (AppendsPart (K.written sink.old) (K.written sink.new) bytes.now) }
+
+    ensures kept { K.faults sink.old ≤ K.faults sink.new }
+    ensures failed { OnErr result (Rose (K.faults sink.old) (K.faults sink.new)) }
+{
+    let mut done = 0;
+    while done < bytes.len() {
+        match sink.write(&bytes[done..]) {
+            Ok(taken) => done += taken,
+            Err(Failed) => return Err(WriteFault),
+        }
+    }
+    Ok(())
+}

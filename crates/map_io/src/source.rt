@@ -1,0 +1,43 @@
+// What gives bytes.
+ghost use Rattle.std.specs.Prelude.{◌≡◌, ℕ, Option, ◌-◌, ◌^◌, ◌<◌, ◌≤◌, List, length, IfOk, OnErr};
+ghost use Rattle.std.specs.Io.KnownBytes.{ReadConsumes};
+ghost use Rattle.map_io.specs.Calls.{counted};
+ghost use Rattle.map_io.specs.Faults.{Rose};
+
+/// A read or a write that the outside refused.
+///
+/// It carries no cause: what a caller can know of it is that the count of faults of the source or
+/// the sink rose.
+#[derive(Clone, Copy, Debug, PartialEq, Eq)]
+pub struct Failed;
+
+// Counts a fault, up to the last value of the count.
+pub(crate) fn count_fault(faults: &mut u64) -> Failed
+    ensures { faults.new ≡ counted faults.old }
+{
+    *faults = faults.saturating_add(1);
+    Failed
+}
+
+/// A reader that counts how often the outside failed.
+pub trait Source {
+    /// The bytes not yet taken, where the source tells them.
+    ghost rest: { Self → Option (List ℕ) };
+
+    /// How often the outside has failed; it never falls and stands still at 2^64 - 1.
+    ghost faults: { Self → ℕ };
+
+    /// Takes the next bytes and puts them at the front of `into`.
+    ///
+    /// `Ok(0)` means the end. A call may take fewer bytes than are left and fit. After `Failed`,
+    /// which took nothing, the same bytes can be asked for again; what stands in `into` then is
+    /// not said.
+    fn read(&mut self, into: &mut [u8]) -> Result<usize, Failed>
+        requires { 0 < length into.old }
+        ensures bound { IfOk result (λ n. n ≤ length into.old) }
+        ensures taken { ReadConsumes (rest self.old) (rest self.new) result into.new }
+
+        ensures kept { faults self.old ≤ faults self.new }
+        ensures bounded { faults self.new ≤ 2 ^ 64 - 1 }
+        ensures failed { OnErr result (Rose (faults self.old) (faults self.new)) };
+}
