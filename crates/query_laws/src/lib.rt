@@ -12,10 +12,12 @@
 mod item;
 mod question;
 pub mod step_ledger;
+mod total;
 
 pub use item::{Item, Named};
 pub use question::{derived_laws, Question, Tally};
 pub use step_ledger::NoMemory;
+pub use total::Total;
 
 #[cfg(test)]
 mod tests;

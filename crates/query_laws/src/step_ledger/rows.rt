@@ -59,8 +59,9 @@ impl<T: Copy> Row<T> {
         ensures read_or { result ≡ slice_index_or self.now.items index result }
         ensures touched { steps.new ≡ one_touch steps.old }
     {
+        let entry = self.entries[index];
         steps.touch();
-        self.entries[index]
+        entry
     }
 
     /// Writes the entry at an index, and no other: one touch.

@@ -1,13 +1,12 @@
 //! Items with a key and a weight, and the weight of those below a limit, as a question.
-ghost use Rattle.std.specs.Prelude.{◌≡◌, ◌<◌, ◌^◌, Bool, false, refl, nat_lt, if◌then◌else◌, length, sum_by};
+ghost use Rattle.std.specs.Prelude.{◌≡◌, ◌<◌, ◌^◌, false, refl, nat_lt, if◌then◌else◌, length};
 ghost use Rattle.query_laws.specs.Orders.{before_in};
 ghost use Rattle.query_laws.specs.OrderLaws.{IsStrictTotalOrder-before_in};
 ghost use Rattle.query_laws.specs.Sums.{capped_sum, capped_add, FitsU64, IsDecomposable-capped_sum};
-ghost use Rattle.query_laws.specs.StepLedger.{Spends};
 
 use super::callers::Asked;
 use crate::step_ledger::{Row, Steps};
-use crate::{Item, Named, NoMemory, Question, Tally};
+use crate::{Item, Named, NoMemory, Question, Total};
 use std::alloc::Global;
 use std::sync::ledger::Ledger;
 
@@ -59,37 +58,6 @@ impl Named for Tag {
     }
 }
 
-/// A sum that stays at its greatest value.
-#[derive(Drop)]
-pub struct Total {
-    sum: u64,
-}
-
-impl Total {
-    /// Adds a number.
-    pub fn add(&mut self, n: u64)
-        ensures { self.new ≡ record { sum = capped_add self.old.sum n } }
-    {
-        self.sum = self.sum.saturating_add(n);
-    }
-}
-
-impl Tally for Total {
-    type Answer = u64;
-
-    ghost so_far = { λ total. total.sum };
-
-    ghost can_refuse = { λ _. false };
-
-    fn can_refuse(&self) -> bool {
-        false
-    }
-
-    fn finish(self) -> Result<u64, NoMemory> {
-        Ok(self.sum)
-    }
-}
-
 /// The sum of the weights of the tags with a key below a limit.
 #[derive(Clone, Copy)]
 pub struct WeightBelow {
@@ -125,12 +93,12 @@ impl Question for WeightBelow {
 
     ghost lawful = { λ q. FitsU64 };
 
-    ghost owns = { λ q total. FitsU64 total.sum };
+    ghost owns = { λ q total. FitsU64 total };
 
     ghost refusable = { false };
 
     fn tally(&self, _alloc: Global) -> Total {
-        Total { sum: 0 }
+        Total::new()
     }
 
     ghost decomposable = {

@@ -5,8 +5,8 @@ use Rattle.query_laws.proofs.tests.tags.PileAskedWeightBelow.ask.Given as goal
 
 abbrev pub invariant-loop-k : goal.invariant-loop-k
 invariant-loop-k g l = record {
-  owned : l.tally.sum < 2 ^ 64;
-  joined : l.tally.sum ≡ capped_add l.initial.tally.sum
+  owned : l.tally < 2 ^ 64;
+  joined : l.tally ≡ capped_add l.initial.tally
       (capped_sum (λ tag. if nat_lt tag.key l.q.limit then tag.weight else 0) (take l.k l.self.tags.items));
   spent : Spends l.initial.steps l.steps 0 0 l.k
 }
