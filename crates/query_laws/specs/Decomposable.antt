@@ -1,5 +1,5 @@
 -- Decomposable searching problems, after Bentley and Saxe 1980.
-use Rattle.std.specs.Prelude.{◌≡◌, List, [], ◌∷◌, ◌++◌}
+use Rattle.std.specs.Prelude.{◌≡◌, List, [], ◌++◌}
 
 -- The answer over a list is made by `join` from the answers over its parts. Among the lawful answers `join` is associative
 -- and commutative with `unit`, the answer over nothing.

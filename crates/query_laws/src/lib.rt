@@ -15,7 +15,7 @@ pub mod step_ledger;
 mod total;
 
 pub use item::{Item, Named};
-pub use question::{derived_laws, Question, Tally};
+pub use question::{Question, Tally, derived_laws};
 pub use step_ledger::NoMemory;
 pub use total::Total;
 

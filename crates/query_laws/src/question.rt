@@ -78,18 +78,12 @@ pub fn derived_laws<Q: Question>()
     ensures any_order { (q : Q) (xs ys : List Q.Item) → IsPermutation xs ys → Q.value q xs ≡ Q.value q ys }
 
     // The value of several lists together is the fold of their values, and the lists may come in any order.
-    ensures of_several {
-        (q : Q) (parts : List (List Q.Item))
-        → Q.value q (flat_map (λ xs. xs) parts) ≡ fold (Q.join q) (Q.unit q) (map (Q.value q) parts)
-    }
-    ensures several_in_any_order {
-        (q : Q) (parts others : List (List Q.Item)) → IsPermutation parts others
-        → Q.value q (flat_map (λ xs. xs) parts) ≡ Q.value q (flat_map (λ xs. xs) others)
-    }
+    ensures of_several { (q : Q) (parts : List (List Q.Item))
+        → Q.value q (flat_map (λ xs. xs) parts) ≡ fold (Q.join q) (Q.unit q) (map (Q.value q) parts) }
+    ensures several_in_any_order { (q : Q) (parts others : List (List Q.Item)) → IsPermutation parts others
+        → Q.value q (flat_map (λ xs. xs) parts) ≡ Q.value q (flat_map (λ xs. xs) others) }
 
     // One item taken out, and the rest.
-    ensures one_taken_out {
-        (q : Q) (xs : List Q.Item) (x : Q.Item) (ys : List Q.Item)
-        → Q.value q (xs ++ x ∷ ys) ≡ Q.join q (Q.value q (x ∷ [])) (Q.value q (xs ++ ys))
-    }
+    ensures one_taken_out { (q : Q) (xs : List Q.Item) (x : Q.Item) (ys : List Q.Item)
+        → Q.value q (xs ++ x ∷ ys) ≡ Q.join q (Q.value q (x ∷ [])) (Q.value q (xs ++ ys)) }
 {}

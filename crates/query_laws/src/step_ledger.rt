@@ -10,9 +10,8 @@ ghost use Rattle.query_laws.specs.StepLedger.{nothing_counted, lap_begun, one_tu
 mod meter;
 mod rows;
 
-pub use rows::Row;
-
 use meter::Meter;
+pub use rows::Row;
 use std::alloc::{AllocError, AllocFailed};
 use std::marker::Model;
 use std::sync::ledger::{Blank, Book, Ledger};
@@ -80,14 +79,12 @@ impl<L: Ledger> Model for Steps<L> {
 
     ghost Value = { Counts };
 
-    ghost view = {
-        λ s. record {
-            turns = s.turns.0 + s.turns.1;
-            marks = s.marks.0 + s.marks.1;
-            touches = s.touches.0 + s.touches.1;
-            lap_start = record { turns = s.turns.0; marks = s.marks.0; touches = s.touches.0 }
-        }
-    };
+    ghost view = { λ s. record {
+      turns = s.turns.0 + s.turns.1;
+      marks = s.marks.0 + s.marks.1;
+      touches = s.touches.0 + s.touches.1;
+      lap_start = record { turns = s.turns.0; marks = s.marks.0; touches = s.touches.0 };
+    } };
 }
 
 impl<L: Ledger> Steps<L> {

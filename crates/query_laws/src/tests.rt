@@ -1,18 +1,18 @@
 //! Rows and laps on their happy path, and a question of its own through its bound.
-ghost use Rattle.std.specs.Prelude.{◌≡◌, ◌<◌, IfOk, length};
+ghost use Rattle.std.specs.Prelude.{◌≡◌, ◌<◌};
 
 mod callers;
 mod sums;
 mod tags;
 
-use crate::step_ledger::{blank, Row, Steps, SHARES};
-use crate::{derived_laws, Item, Named, NoMemory};
-use callers::{ask_all, Held};
+use crate::step_ledger::{Row, SHARES, Steps, blank};
+use crate::{Item, Named, NoMemory, derived_laws};
+use callers::{Held, ask_all};
 use std::alloc::Global;
 use std::marker::Brand;
 use std::sync::ledger::{Blank, Ledger};
 use std::test::Fail;
-use sums::{largest_uncounted, rows_largest};
+use sums::largest_uncounted;
 use tags::{Pile, Tag, WeightBelow};
 
 /// What a row of three holds after a write, and the laps before and after a new one begins.
@@ -38,8 +38,18 @@ fn row_and_laps<L: Ledger>(alloc: Global, blank: Blank) -> Result<([u64; 5], [u6
     let touches = steps.lap_touches();
     steps.start_lap();
     steps.turn();
-    let laps = [turns, marks, touches, steps.lap_turns(), steps.lap_marks(), steps.lap_touches()];
-    Ok(([first, second, third, row.len() as u64, row.cap() as u64], laps))
+    let laps = [
+        turns,
+        marks,
+        touches,
+        steps.lap_turns(),
+        steps.lap_marks(),
+        steps.lap_touches(),
+    ];
+    Ok((
+        [first, second, third, row.len() as u64, row.cap() as u64],
+        laps,
+    ))
 }
 
 #[test]
@@ -51,7 +61,11 @@ fn counts_rows_and_laps(rt: HostRuntime) -> Result<(), Fail> {
 }
 
 /// A pile of tags with these keys and weights, stamped in their order.
-fn pile<L: Ledger>(alloc: Global, tags: &[(u32, u32)], steps: &mut Steps<L>) -> Result<Pile, NoMemory> {
+fn pile<L: Ledger>(
+    alloc: Global,
+    tags: &[(u32, u32)],
+    steps: &mut Steps<L>,
+) -> Result<Pile, NoMemory> {
     let mut row = Row::room(alloc, tags.len())?;
     let mut stamp = 0;
     for (key, weight) in tags {
@@ -65,33 +79,50 @@ fn pile<L: Ledger>(alloc: Global, tags: &[(u32, u32)], steps: &mut Steps<L>) -> 
         );
         stamp += 1;
     }
-    Ok(Pile {
-        tags: row,
-    })
+    Ok(Pile { tags: row })
 }
 
-/// The weight below 10 in two piles, asked at once and one after the other, with the touches of both.
+/// The weight below a limit in some piles, asked at once.
+fn weight_at_once<L: Ledger>(
+    alloc: Global,
+    question: WeightBelow,
+    piles: &[Pile; 2],
+    steps: &mut Steps<L>,
+) -> Result<u64, NoMemory> {
+    ask_all(alloc, &question, piles, steps)
+}
+
+/// The same, asked of one pile after the other.
+fn weight_in_steps<L: Ledger>(
+    alloc: Global,
+    question: WeightBelow,
+    piles: &[Pile; 2],
+    steps: &mut Steps<L>,
+) -> Result<u64, NoMemory> {
+    derived_laws::<WeightBelow>();
+    let mut held = Held::new(alloc, question);
+    held.ask(&piles[0], steps)?;
+    held.ask(&piles[1], steps)?;
+    held.finish()
+}
+
+/// The weight below 10 in two piles, at once and in steps, with the touches of both.
 fn weigh<L: Ledger>(alloc: Global, blank: Blank) -> Result<(u64, u64, u64), NoMemory>
     requires name { blank.name ≡ L.name }
     requires parts { blank.parts ≡ L.parts }
     requires shares { blank.parts ≡ SHARES }
 {
-    derived_laws::<WeightBelow>();
     let mut steps = Steps::<L>::new(blank);
-    let piles = [
-        pile(alloc, &[(1, 100), (12, 200), (9, 50)], &mut steps)?,
-        pile(alloc, &[(10, 1), (0, 7)], &mut steps)?,
-    ];
+    let first = pile(alloc, &[(1, 100), (12, 200), (9, 50)], &mut steps)?;
+    let second = pile(alloc, &[(10, 1), (0, 7)], &mut steps)?;
+    let piles = [first, second];
     let question = WeightBelow {
         limit: 10,
     };
     steps.start_lap();
-    let at_once = ask_all(alloc, &question, &piles, &mut steps)?;
-    let mut held = Held::new(alloc, question);
-    for pile in &piles {
-        held.ask(pile, &mut steps)?;
-    }
-    Ok((at_once, held.finish()?, steps.lap_touches()))
+    let at_once = weight_at_once(alloc, question, &piles, &mut steps)?;
+    let in_steps = weight_in_steps(alloc, question, &piles, &mut steps)?;
+    Ok((at_once, in_steps, steps.lap_touches()))
 }
 
 #[test]

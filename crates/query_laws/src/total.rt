@@ -25,9 +25,7 @@ impl Total {
     pub fn new() -> Total
         ensures { result ≡ 0 }
     {
-        Total {
-            sum: 0,
-        }
+        Total { sum: 0 }
     }
 
     /// Adds a number.

@@ -21,9 +21,7 @@ impl<L: Ledger> Model for Meter<L> {
     ghost view = { λ m. (m.before.amount, m.within.amount) };
 
     // A part moves from `before` at each new lap, and comes back with the amount of the old one.
-    ghost invariant = {
-        λ m. (2 ≤ m.before.parts) × (1 ≤ m.within.parts) × (m.lap ≡ min m.within.amount (2 ^ 64 - 1))
-    };
+    ghost invariant = { λ m. (2 ≤ m.before.parts) × (1 ≤ m.within.parts) × (m.lap ≡ min m.within.amount (2 ^ 64 - 1)) };
 }
 
 impl<L: Ledger> Meter<L> {

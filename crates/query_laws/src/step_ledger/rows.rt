@@ -33,9 +33,7 @@ impl<T: Copy> Row<T> {
         ensures { IfOk result (λ row. row ≡ record { items = []; capacity = cap }) }
     {
         let entries = Vec::with_capacity(alloc, cap)?;
-        Ok(Row {
-            entries,
-        })
+        Ok(Row { entries })
     }
 
     /// Appends an entry, where there is room: one touch.

@@ -2,8 +2,8 @@
 ghost use Rattle.std.specs.Prelude.{◌≡◌, ℕ, ◌+◌, ◌-◌, ◌*◌, ◌<◌, ◌≤◌, All, length};
 ghost use Rattle.query_laws.specs.StepLedger.{Spends};
 
-use crate::step_ledger::{blank, Row, Steps, SHARES};
 use crate::NoMemory;
+use crate::step_ledger::{Row, SHARES, Steps, blank};
 use std::alloc::Global;
 use std::marker::Brand;
 use std::sync::ledger::{Blank, Ledger};
@@ -52,10 +52,8 @@ pub fn rows_largest<L: Ledger>(rows: &[Row<u32>], most: usize, steps: &mut Steps
 pub fn fill<L: Ledger>(row: &mut Row<u32>, steps: &mut Steps<L>)
     requires { length row.old.items ≤ row.old.capacity }
     ensures full { length row.new.items ≡ row.old.capacity }
-    ensures cost {
-        Spends steps.old steps.new (row.old.capacity - length row.old.items) 0
-            (row.old.capacity - length row.old.items)
-    }
+    ensures cost { Spends steps.old steps.new (row.old.capacity - length row.old.items) 0
+        (row.old.capacity - length row.old.items) }
 {
     while row.len() < row.cap() {
         row.push(0, steps);

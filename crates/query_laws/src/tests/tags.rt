@@ -45,9 +45,7 @@ impl Item for Tag {
 
     ghost two_orders = { refl };
 
-    ghost ordered = {
-        λ order below. IsStrictTotalOrder-before_in (λ tag. tag.key) (λ tag. tag.weight) (λ tag. tag.stamp) order
-    };
+    ghost ordered = { λ order below. IsStrictTotalOrder-before_in (λ tag. tag.key) (λ tag. tag.weight) (λ tag. tag.stamp) order };
 }
 
 impl Named for Tag {
@@ -101,9 +99,7 @@ impl Question for WeightBelow {
         Total::new()
     }
 
-    ghost decomposable = {
-        λ q. IsDecomposable-capped_sum (λ tag. if nat_lt tag.key q.limit then tag.weight else 0)
-    };
+    ghost decomposable = { λ q. IsDecomposable-capped_sum (λ tag. if nat_lt tag.key q.limit then tag.weight else 0) };
 
     ghost owned_lawful = { λ q t owned. owned };
 }
@@ -121,13 +117,13 @@ impl Asked<WeightBelow> for Pile {
 
     fn ask<L: Ledger>(
         &self,
-        q: &WeightBelow,
+        question: &WeightBelow,
         tally: &mut Total,
         steps: &mut Steps<L>,
     ) -> Result<(), NoMemory> {
         for k in 0..self.tags.len() {
             let tag = self.tags.at(k, steps);
-            tally.add(q.weight_of(tag));
+            tally.add(question.weight_of(tag));
         }
         Ok(())
     }

@@ -4,10 +4,10 @@ use Rattle.query_laws.proofs.question.derived_laws.Goals as goal
 
 pub returns : goal.returns
 returns g c =
-  let laws = g.met.Q.Question.decomposable in record {
-    any_order = λ q. value-IsPermutation (laws q);
-    of_several = λ q. value-flat_map (laws q) (λ xs. xs);
-    several_in_any_order = λ q parts others p.
-        value-flat_map_Permuted (laws q) (λ xs. xs) (Permuted-from_IsPermutation parts others p);
-    one_taken_out = λ q. value-middle (laws q);
-  }
+    let laws = g.met.Q.Question.decomposable in record {
+      any_order = λ q. value-IsPermutation (laws q);
+      of_several = λ q. value-flat_map (laws q) (λ xs. xs);
+      several_in_any_order = λ q parts others p.
+          value-flat_map_Permuted (laws q) (λ xs. xs) (Permuted-from_IsPermutation parts others p);
+      one_taken_out = λ q. value-middle (laws q);
+    }

@@ -5,5 +5,5 @@ abbrev pub invariant-loop-key : goal.invariant-loop-key
 invariant-loop-key g l = record {
   pushed : length l.row.items ≡ l.key-index;
   stamped : l.stamp ≡ l.key-index;
-  room : l.row.capacity ≡ length l.tags
+  room : l.row.capacity ≡ length l.tags;
 }

@@ -7,7 +7,7 @@ invariant-loop-row g l = record {
   room : l.row.capacity ≡ l.initial.row.capacity;
   within : length l.row.items ≤ l.row.capacity;
   more : length l.initial.row.items ≤ length l.row.items;
-  spent : Spends l.initial.steps l.steps (length l.row.items - length l.initial.row.items) 0 (length l.row.items - length l.initial.row.items)
+  spent : Spends l.initial.steps l.steps (length l.row.items - length l.initial.row.items) 0 (length l.row.items - length l.initial.row.items);
 }
 
 abbrev pub decreases-loop-row : goal.decreases-loop-row

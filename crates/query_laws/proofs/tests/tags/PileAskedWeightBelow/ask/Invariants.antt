@@ -7,6 +7,6 @@ abbrev pub invariant-loop-k : goal.invariant-loop-k
 invariant-loop-k g l = record {
   owned : l.tally < 2 ^ 64;
   joined : l.tally ≡ capped_add l.initial.tally
-      (capped_sum (λ tag. if nat_lt tag.key l.q.limit then tag.weight else 0) (take l.k l.self.tags.items));
-  spent : Spends l.initial.steps l.steps 0 0 l.k
+      (capped_sum (λ tag. if nat_lt tag.key l.question.limit then tag.weight else 0) (take l.k l.self.tags.items));
+  spent : Spends l.initial.steps l.steps 0 0 l.k;
 }
