@@ -68,3 +68,6 @@ module _ {old new : Counts} {turns marks touches : ℕ} where
   -- a weaker bound on touches
   pub Spends-weaker : {touches' : ℕ} → Spends old new turns marks touches → touches ≤ touches' → Spends old new turns marks touches'
   Spends-weaker spent more = Spends-within spent refl refl more
+
+-- all of them, for a tactic's list or a `using` of the attribute
+pub ruleset counting = (Spends-nothing, Spends-one_turn, Spends-one_mark, Spends-one_touch, Spends-then, Spends-weaker)

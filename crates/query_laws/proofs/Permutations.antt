@@ -1,5 +1,5 @@
 -- Laws of `Permuted`, and its translations to and from the library's `IsPermutation`.
-use Rattle.std.proofs.Common.{◌≡◌, ℕ, zero, suc, ◌<◌, Bool, true, false, List, [], ◌∷◌, ◌++◌, length, get_or, set, map, refl, ap, arith, ◌∙◌, cond, append-nil, append_assoc}
+use Rattle.std.proofs.Common.{◌≡◌, ℕ, zero, suc, ◌<◌, Bool, true, false, List, [], ◌∷◌, ◌++◌, length, get_or, set, map, refl, ap, arith, ◌∙◌, cond, not, append-nil, append_assoc}
 use Rattle.std.specs.List.{swap, filter, flat_map}
 use Rattle.std.specs.List.Sorted.{IsPermutation}
 use Rattle.std.proofs.lemmas.List.Sorted.{IsPermutation-refl, IsPermutation-cons, IsPermutation-swap, IsPermutation-trans, IsPermutation-keeps}
@@ -99,6 +99,18 @@ module _ {A : Type 0} where
   Permuted-filter p (same_head x h) = kept_head (p x) x (Permuted-filter p h)
   Permuted-filter p (swapped_heads x y xs) = kept_heads (p x) (p y) x y (filter p xs)
   Permuted-filter p (composed h k) = composed (Permuted-filter p h) (Permuted-filter p k)
+
+  -- one more item in one of two parts
+  part_head : (b : Bool) (x : A) (us vs : List A) {xs : List A} → Permuted (us ++ vs) xs
+      → Permuted (cond b (x ∷ us) us ++ cond (not b) (x ∷ vs) vs) (x ∷ xs)
+  part_head true x us vs p = same_head x p
+  part_head false x us vs p = composed (Permuted-middle us x vs) (same_head x p)
+
+  -- the items that pass a test, and then the others
+  pub Permuted-partition : (p : A → Bool) (xs : List A) → Permuted (filter p xs ++ filter (λ x. not (p x)) xs) xs
+  Permuted-partition p [] = nothing
+  Permuted-partition p (x ∷ xs) =
+      part_head (p x) x (filter p xs) (filter (λ y. not (p y)) xs) (Permuted-partition p xs)
 
 module _ {A B : Type 0} where
   -- what a function gives of each item, or the lists that it gives, one after another

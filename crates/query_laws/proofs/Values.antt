@@ -1,11 +1,11 @@
 -- What follows from the laws of a decomposable question, once for all questions.
-use Rattle.std.proofs.Common.{◌≡◌, ℕ, ◌<◌, List, [], ◌∷◌, ◌++◌, length, get_or, map, fold, refl, sym, ap, ◌∙◌}
-use Rattle.std.specs.List.{flat_map, remove}
+use Rattle.std.proofs.Common.{◌≡◌, ℕ, ◌<◌, Bool, not, List, [], ◌∷◌, ◌++◌, length, get_or, map, fold, refl, sym, ap, ◌∙◌}
+use Rattle.std.specs.List.{filter, flat_map, remove}
 use Rattle.std.specs.List.Sorted.{IsPermutation}
 use Rattle.std.proofs.lemmas.List.Sorted.{IsPermutation-remove}
 use Rattle.query_laws.specs.Decomposable.{IsDecomposable}
 use Rattle.query_laws.specs.Permuted.{Permuted, nothing, same_head, swapped_heads, composed}
-use Rattle.query_laws.proofs.Permutations.{Permuted-from_IsPermutation, Permuted-middle, Permuted-flat_map}
+use Rattle.query_laws.proofs.Permutations.{Permuted-from_IsPermutation, Permuted-middle, Permuted-flat_map, Permuted-partition}
 
 module _ {I A : Type 0} {value : List I → A} {join : A → A → A} {unit : A} {lawful : A → Type 0}
     (laws : IsDecomposable value join unit lawful) where
@@ -48,6 +48,12 @@ module _ {I A : Type 0} {value : List I → A} {join : A → A → A} {unit : A}
   pub value-remove : (xs : List I) (i : ℕ) (x : I) → i < length xs → x ≡ get_or xs i x
       → value xs ≡ join (value (x ∷ [])) (value (remove xs i))
   value-remove xs i x h e = value-IsPermutation xs (x ∷ remove xs i) (IsPermutation-remove xs i x h e) ∙ value-cons x (remove xs i)
+
+  -- the items that pass a test, and the others
+  pub value-partition : (p : I → Bool) (xs : List I)
+      → value xs ≡ join (value (filter p xs)) (value (filter (λ x. not (p x)) xs))
+  value-partition p xs =
+      sym (value-Permuted (Permuted-partition p xs)) ∙ laws.of_both (filter p xs) (filter (λ x. not (p x)) xs)
 
   -- an answer joined with two values, one after the other
   pub join-values : (a : A) (xs ys : List I) → lawful a → join (join a (value xs)) (value ys) ≡ join a (value (xs ++ ys))

@@ -17,7 +17,7 @@ pub trait Tally: Drop {
 
     ghost can_refuse: { Self → Bool };
 
-    /// Whether a call of this tally may want memory. It stays as it is for the tally's life.
+    /// Whether a call of this tally may answer that memory wasn't given.
     fn can_refuse(&self) -> bool
         ensures { result ≡ can_refuse self.now };
 
@@ -53,7 +53,7 @@ pub trait Question: Copy {
     /// The answers that the laws of `join` speak of. Each value is one.
     ghost lawful: { Self → Self.Answer → Type 0 };
 
-    /// The tally is one of this question. Each call of a tally keeps that.
+    /// The tally is one of this question, as a list of the `k` nearest is of a question for `k`.
     ghost owns: { Self → Self.Tally → Type 0 };
 
     /// Whether tallies of this type of question can refuse.

@@ -116,9 +116,7 @@ fn weigh<L: Ledger>(alloc: Global, blank: Blank) -> Result<(u64, u64, u64), NoMe
     let first = pile(alloc, &[(1, 100), (12, 200), (9, 50)], &mut steps)?;
     let second = pile(alloc, &[(10, 1), (0, 7)], &mut steps)?;
     let piles = [first, second];
-    let question = WeightBelow {
-        limit: 10,
-    };
+    let question = WeightBelow { limit: 10 };
     steps.start_lap();
     let at_once = weight_at_once(alloc, question, &piles, &mut steps)?;
     let in_steps = weight_in_steps(alloc, question, &piles, &mut steps)?;

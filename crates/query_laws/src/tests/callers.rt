@@ -25,7 +25,7 @@ pub trait Asked<Q: Question> {
         requires { Q.owns question.now tally.old }
         ensures owned { Q.owns question.now tally.new }
         ensures joined { IfOk result (λ _. Q.Tally.so_far tally.new
-          ≡ Q.join question.now (Q.Tally.so_far tally.old) (Q.value question.now (items self.now))) }
+            ≡ Q.join question.now (Q.Tally.so_far tally.old) (Q.value question.now (items self.now))) }
         ensures refused { IsErr result → IsTrue (Q.Tally.can_refuse tally.old) }
         ensures same_refusal { Q.Tally.can_refuse tally.new ≡ Q.Tally.can_refuse tally.old }
         ensures cost { Spends steps.old steps.new 0 0 (price question.now self.now) };
@@ -38,9 +38,7 @@ pub fn ask_all<Q: Question, P: Asked<Q>, L: Ledger>(
     parts: &[P],
     steps: &mut Steps<L>,
 ) -> Result<Q::Answer, NoMemory>
-    ensures answer {
-        IfOk result (λ answer. answer ≡ Q.value question.now (flat_map P.items parts.now))
-    }
+    ensures answer { IfOk result (λ answer. answer ≡ Q.value question.now (flat_map P.items parts.now)) }
     ensures refused { IsErr result → IsTrue Q.refusable }
     ensures cost { Spends steps.old steps.new 0 0 (sum_by (P.price question.now) parts.now) }
 {
@@ -59,13 +57,9 @@ pub fn ask_two<Q: Question, P: Asked<Q>, L: Ledger>(
     second: &P,
     steps: &mut Steps<L>,
 ) -> Result<Q::Answer, NoMemory>
-    ensures answer {
-        IfOk result (λ answer. answer ≡ Q.value question.now (P.items second.now ++ P.items first.now))
-    }
+    ensures answer { IfOk result (λ answer. answer ≡ Q.value question.now (P.items second.now ++ P.items first.now)) }
     ensures refused { IsErr result → IsTrue Q.refusable }
-    ensures cost {
-        Spends steps.old steps.new 0 0 (P.price question.now first.now + P.price question.now second.now)
-    }
+    ensures cost { Spends steps.old steps.new 0 0 (P.price question.now first.now + P.price question.now second.now) }
 {
     let mut tally = question.tally(alloc);
     first.ask(question, &mut tally, steps)?;
@@ -85,28 +79,21 @@ impl<Q: Question> Model for Held<Q> {
 
     ghost Value = { Holding Q Q.Answer };
 
-    ghost view = {
-        λ h. record {
-            question = h.question;
-            so_far = Q.Tally.so_far h.tally;
-            can_refuse = Q.Tally.can_refuse h.tally
-        }
-    };
+    ghost view = { λ h. record {
+      question = h.question;
+      so_far = Q.Tally.so_far h.tally;
+      can_refuse = Q.Tally.can_refuse h.tally;
+    } };
 
     ghost invariant = { λ h. Q.owns h.question h.tally };
 }
 
 impl<Q: Question> Held<Q> {
     pub fn new(alloc: Global, question: Q) -> Held<Q>
-        ensures {
-            result ≡ record { question = question; so_far = Q.unit question; can_refuse = Q.refusable }
-        }
+        ensures { result ≡ record { question = question; so_far = Q.unit question; can_refuse = Q.refusable } }
     {
         let tally = question.tally(alloc);
-        Held {
-            question,
-            tally,
-        }
+        Held { question, tally }
     }
 
     pub fn ask<P: Asked<Q>, L: Ledger>(
