@@ -1,0 +1,7 @@
+pub mod StepLedger
+pub mod Orders
+pub mod OrderLaws
+pub mod Decomposable
+pub mod Sums
+pub mod Permuted
+pub mod Holding

@@ -1,0 +1,35 @@
+-- That the usual orders are strict and total.
+use Rattle.std.specs.Prelude.{◌≡◌, ◌≢◌, ℕ, ◌==◌, Bool, true, false, IsTrue, ◌⊎◌}
+use Rattle.std.proofs.Common.{arith, cond}
+use Rattle.std.proofs.lemmas.Bool.Decides.{nat_tests}
+use Rattle.query_laws.specs.Orders.{IsStrictTotalOrder, before_by, before_in}
+
+module _ {Item : Type 0} (first second stamp : Item → ℕ) where
+  pub before_by-irreflexive : (a : Item) → before_by first second stamp a a ≡ false
+  before_by-irreflexive a = grind (arith, nat_tests)
+
+  pub before_by-transitive : (a b c : Item) → IsTrue (before_by first second stamp a b) → IsTrue (before_by first second stamp b c)
+      → IsTrue (before_by first second stamp a c)
+  before_by-transitive a b c h k = grind (arith, nat_tests)
+
+  pub before_by-total : (a b : Item) → stamp a ≢ stamp b
+      → IsTrue (before_by first second stamp a b) ⊎ IsTrue (before_by first second stamp b a)
+  before_by-total a b h = grind (arith, nat_tests)
+
+  -- by two numbers and then the stamp, in this order of theirs
+  pub IsStrictTotalOrder-before_by : IsStrictTotalOrder stamp (before_by first second stamp)
+  IsStrictTotalOrder-before_by = record {
+    irreflexive = before_by-irreflexive;
+    transitive = before_by-transitive;
+    total = before_by-total;
+  }
+
+module _ {Item : Type 0} (first second stamp : Item → ℕ) where
+  -- of two such orders the one that a test picks
+  picked : (b : Bool) → IsStrictTotalOrder stamp (λ x y. cond b (before_by first second stamp x y) (before_by second first stamp x y))
+  picked true = IsStrictTotalOrder-before_by first second stamp
+  picked false = IsStrictTotalOrder-before_by second first stamp
+
+  -- both orders of an item with two numbers and a stamp
+  pub IsStrictTotalOrder-before_in : (order : ℕ) → IsStrictTotalOrder stamp (before_in first second stamp order)
+  IsStrictTotalOrder-before_in order = picked (order == 0)

@@ -1,0 +1,19 @@
+-- Orders of items.
+use Rattle.std.specs.Prelude.{◌≡◌, ◌≢◌, ℕ, ◌==◌, ◌&&◌, ◌||◌, Bool, false, nat_lt, if◌then◌else◌, IsTrue, ◌⊎◌}
+
+-- a strict order, which tells apart any two items with different stamps
+pub record IsStrictTotalOrder {Item : Type 0} (stamp : Item → ℕ) (before : Item → Item → Bool) : Type 0 where
+  pub irreflexive : (a : Item) → before a a ≡ false
+  pub transitive : (a b c : Item) → IsTrue (before a b) → IsTrue (before b c) → IsTrue (before a c)
+  pub total : (a b : Item) → stamp a ≢ stamp b → IsTrue (before a b) ⊎ IsTrue (before b a)
+
+-- the order by one number, then by a second, then by the stamp
+abbrev pub before_by : {Item : Type 0} → (Item → ℕ) → (Item → ℕ) → (Item → ℕ) → Item → Item → Bool
+before_by first second stamp a b =
+    nat_lt (first a) (first b)
+    || ((first a == first b) && (nat_lt (second a) (second b) || ((second a == second b) && nat_lt (stamp a) (stamp b))))
+
+-- order 0 by the first number and then the second, and order 1 the other way round
+abbrev pub before_in : {Item : Type 0} → (Item → ℕ) → (Item → ℕ) → (Item → ℕ) → ℕ → Item → Item → Bool
+before_in first second stamp order a b =
+    if order == 0 then before_by first second stamp a b else before_by second first stamp a b

@@ -1,0 +1,50 @@
+-- What contracts see of the ledger of steps, and of a counted row.
+use Rattle.std.specs.Prelude.{◌≡◌, ℕ, ◌+◌, ◌-◌, ◌^◌, ◌≤◌, List, min}
+
+-- three whole numbers without limit: units of building work, marks of items as dead, row entries read or written
+pub record Totals : Type 0 where
+  pub turns : ℕ
+  pub marks : ℕ
+  pub touches : ℕ
+
+-- what was counted so far, and what stood there as the lap began
+pub record Counts : Type 0 where
+  pub turns : ℕ
+  pub marks : ℕ
+  pub touches : ℕ
+  pub lap_start : Totals
+
+-- nothing is counted
+abbrev pub nothing_counted : Counts
+nothing_counted = record { turns = 0; marks = 0; touches = 0; lap_start = record { turns = 0; marks = 0; touches = 0 } }
+
+-- the same counts, with a lap that begins at them
+abbrev pub lap_begun : Counts → Counts
+lap_begun steps = record steps { lap_start = record { turns = steps.turns; marks = steps.marks; touches = steps.touches } }
+
+-- one more turn, mark or touch, and nothing else changes
+abbrev pub one_turn : Counts → Counts
+one_turn steps = record steps { turns = steps.turns + 1 }
+
+abbrev pub one_mark : Counts → Counts
+one_mark steps = record steps { marks = steps.marks + 1 }
+
+abbrev pub one_touch : Counts → Counts
+one_touch steps = record steps { touches = steps.touches + 1 }
+
+-- how far a count stands above where the lap began, cut at the greatest u64
+abbrev pub lap_of : ℕ → ℕ → ℕ
+lap_of start now = min (now - start) (2 ^ 64 - 1)
+
+-- from the steps `old` to the steps `new`: exactly so many turns and marks, at most so many touches, and the same lap
+pub record Spends (old new : Counts) (turns marks touches : ℕ) : Type 0 where
+  pub turns_spent : new.turns ≡ old.turns + turns
+  pub marks_spent : new.marks ≡ old.marks + marks
+  pub touches_kept : old.touches ≤ new.touches
+  pub touches_bound : new.touches ≤ old.touches + touches
+  pub same_lap : new.lap_start ≡ old.lap_start
+
+-- a row: its entries in order, and how many it takes without growing
+pub record Entries (T : Type 0) : Type 0 where
+  pub items : List T
+  pub capacity : ℕ

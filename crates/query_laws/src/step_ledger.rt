@@ -1,0 +1,167 @@
+//! The ledger of steps: what work is counted, and the only calls that count it.
+//!
+//! Three things are counted. A turn is one unit of building work. A mark is one attempt to mark an item of a part as dead.
+//! A touch is one read or write of one entry of a [`Row`].
+//!
+//! Time, bytes, the copying and freeing of vectors, the work of std's maps, and reads of anything but a `Row` are not.
+ghost use Rattle.std.specs.Prelude.{◌≡◌, ℕ};
+ghost use Rattle.query_laws.specs.StepLedger.{nothing_counted, lap_begun, one_turn, one_mark, one_touch, lap_of};
+
+mod meter;
+mod rows;
+
+use meter::Meter;
+pub use rows::Row;
+use std::alloc::{AllocError, AllocFailed};
+use std::marker::Model;
+use std::sync::ledger::{Blank, Book, Ledger};
+
+/// Memory was wanted and not given. `?` makes it of each error that std's collections give for that.
+#[derive(Clone, Copy, Debug, PartialEq, Eq)]
+pub struct NoMemory;
+
+impl From<AllocError> for NoMemory {
+    fn from(_refused: AllocError) -> NoMemory {
+        NoMemory
+    }
+}
+
+impl<T: Drop> From<AllocFailed<T>> for NoMemory {
+    fn from(_refused: AllocFailed<T>) -> NoMemory {
+        NoMemory
+    }
+}
+
+/// Into how many shares the ledger of one [`Steps`] is cut: three for each of the three counts.
+pub const SHARES: u64 = 9;
+
+/// A blank ledger for one [`Steps`]. It takes no bytes.
+///
+/// `Steps` has its ledger as a parameter, which stands for a name that only proofs see. So the function that makes a
+/// `Steps` is generic in the ledger and is handed a blank:
+///
+/// ```text
+/// fn largest_counted<L: Ledger>(row: &Row<u32>, blank: Blank) -> u32
+///     requires name { blank.name ≡ L.name }
+///     requires parts { blank.parts ≡ L.parts }
+///     requires shares { blank.parts ≡ SHARES }
+/// {
+///     let mut steps = Steps::<L>::new(blank);
+///     // calls that count, and readings of the laps
+/// }
+/// ```
+///
+/// A caller that counts nothing passes `Brand` of `std::marker` for the ledger and a blank of its own, as
+/// `largest_counted::<Brand>(&row, blank())`. In its `Invariants.antt` it picks the name of that blank:
+/// `ghosts-largest_counted a = record { name = a.blank.name; parts = a.blank.parts }`, with `g` before `a` where the caller
+/// has bounds, and in a test.
+pub fn blank() -> Blank
+    ensures { result.parts ≡ SHARES }
+{
+    Blank::new(SHARES)
+}
+
+/// What was counted so far, and in the lap.
+///
+/// Contracts see the three counts as whole numbers without limit, and what they were as the lap began. At run time there
+/// are only three u64, one for the lap of each count, which stay at their greatest value.
+#[derive(Drop)]
+pub struct Steps<L: Ledger> {
+    book: Book<L>,
+    turns: Meter<L>,
+    marks: Meter<L>,
+    touches: Meter<L>,
+}
+
+impl<L: Ledger> Model for Steps<L> {
+    ghost use Rattle.std.specs.Prelude.{◌+◌};
+    ghost use Rattle.query_laws.specs.StepLedger.{Counts};
+
+    ghost Value = { Counts };
+
+    ghost view = { λ s. record {
+      turns = s.turns.0 + s.turns.1;
+      marks = s.marks.0 + s.marks.1;
+      touches = s.touches.0 + s.touches.1;
+      lap_start = record { turns = s.turns.0; marks = s.marks.0; touches = s.touches.0 };
+    } };
+}
+
+impl<L: Ledger> Steps<L> {
+    /// Steps at zero, in a lap that begins there. [`blank`] makes what it takes.
+    pub fn new(blank: Blank) -> Steps<L>
+        requires name { blank.name ≡ L.name }
+        requires parts { blank.parts ≡ L.parts }
+        requires shares { blank.parts ≡ SHARES }
+        ensures { result ≡ nothing_counted }
+    {
+        let (book, mut all) = blank.open::<L>();
+        let turns = Meter::new(&mut all);
+        let marks = Meter::new(&mut all);
+        let touches = Meter::new(&mut all);
+        Steps {
+            book,
+            turns,
+            marks,
+            touches,
+        }
+    }
+
+    /// Counts one turn.
+    #[inline]
+    pub fn turn(&mut self)
+        ensures { self.new ≡ one_turn self.old }
+    {
+        self.turns.count_one(&mut self.book);
+    }
+
+    /// Counts one mark.
+    #[inline]
+    pub fn mark(&mut self)
+        ensures { self.new ≡ one_mark self.old }
+    {
+        self.marks.count_one(&mut self.book);
+    }
+
+    /// Counts one touch. The calls of [`Row`] do it themselves.
+    #[inline]
+    pub fn touch(&mut self)
+        ensures { self.new ≡ one_touch self.old }
+    {
+        self.touches.count_one(&mut self.book);
+    }
+
+    /// Begins a lap: the three laps are zero, and the counts stay.
+    #[inline]
+    pub fn start_lap(&mut self)
+        ensures { self.new ≡ lap_begun self.old }
+    {
+        self.turns.start_lap();
+        self.marks.start_lap();
+        self.touches.start_lap();
+    }
+
+    /// The turns since the lap began, or 2^64 - 1 where there were more.
+    #[inline]
+    pub fn lap_turns(&self) -> u64
+        ensures { result ≡ lap_of self.now.lap_start.turns self.now.turns }
+    {
+        self.turns.lap()
+    }
+
+    /// The marks since the lap began, or 2^64 - 1 where there were more.
+    #[inline]
+    pub fn lap_marks(&self) -> u64
+        ensures { result ≡ lap_of self.now.lap_start.marks self.now.marks }
+    {
+        self.marks.lap()
+    }
+
+    /// The touches since the lap began, or 2^64 - 1 where there were more.
+    #[inline]
+    pub fn lap_touches(&self) -> u64
+        ensures { result ≡ lap_of self.now.lap_start.touches self.now.touches }
+    {
+        self.touches.lap()
+    }
+}

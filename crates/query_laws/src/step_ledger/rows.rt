@@ -1,0 +1,92 @@
+//! A vector that counts each read and write of an entry.
+ghost use Rattle.std.specs.Prelude.{◌≡◌, ◌<◌, ◌≤◌, [], ◌∷◌, ◌++◌, length, Some, IfOk, slice_get, slice_index_or, slice_set};
+ghost use Rattle.query_laws.specs.StepLedger.{one_touch};
+
+use super::{NoMemory, Steps};
+use std::alloc::Global;
+use std::marker::Model;
+use std::sync::ledger::Ledger;
+
+/// A vector whose entries are read and written only by calls that count a touch each.
+///
+/// Contracts see it as the list of its entries and how many it takes. It never grows beyond that, so no call but `room`
+/// takes memory.
+#[derive(Drop)]
+pub struct Row<T: Copy> {
+    entries: Vec<T>,
+}
+
+impl<T: Copy> Model for Row<T> {
+    ghost use Rattle.std.specs.Prelude.{◌≤◌, vec_len, vec_capacity};
+    ghost use Rattle.query_laws.specs.StepLedger.{Entries};
+
+    ghost Value = { Entries T };
+
+    ghost view = { λ r. record { items = r.entries.items; capacity = vec_capacity r.entries } };
+
+    ghost invariant = { λ r. vec_len r.entries ≤ vec_capacity r.entries };
+}
+
+impl<T: Copy> Row<T> {
+    /// An empty row that takes `cap` entries.
+    pub fn room(alloc: Global, cap: usize) -> Result<Row<T>, NoMemory>
+        ensures { IfOk result (λ row. row ≡ record { items = []; capacity = cap }) }
+    {
+        let entries = Vec::with_capacity(alloc, cap)?;
+        Ok(Row { entries })
+    }
+
+    /// Appends an entry, where there is room: one touch.
+    #[inline]
+    pub fn push<L: Ledger>(&mut self, entry: T, steps: &mut Steps<L>)
+        requires { length self.old.items < self.old.capacity }
+        ensures appended { self.new ≡ record self.old { items = self.old.items ++ entry ∷ [] } }
+        ensures touched { steps.new ≡ one_touch steps.old }
+    {
+        self.entries.push_reserved(entry);
+        steps.touch();
+    }
+
+    /// The entry at an index: one touch.
+    #[inline]
+    pub fn at<L: Ledger>(&self, index: usize, steps: &mut Steps<L>) -> T
+        requires { index < length self.now.items }
+        ensures read { slice_get self.now.items index ≡ Some result }
+
+        // The same, in the form of the library's lemmas on lists.
+        ensures read_or { result ≡ slice_index_or self.now.items index result }
+        ensures touched { steps.new ≡ one_touch steps.old }
+    {
+        let entry = self.entries[index];
+        steps.touch();
+        entry
+    }
+
+    /// Writes the entry at an index, and no other: one touch.
+    #[inline]
+    pub fn set<L: Ledger>(&mut self, index: usize, entry: T, steps: &mut Steps<L>)
+        requires { index < length self.old.items }
+        ensures written { self.new ≡ record self.old { items = slice_set self.old.items index entry } }
+        ensures touched { steps.new ≡ one_touch steps.old }
+    {
+        self.entries[index] = entry;
+        steps.touch();
+    }
+
+    /// How many entries there are. It counts nothing.
+    #[inline]
+    pub fn len(&self) -> usize
+        ensures value { result ≡ length self.now.items }
+        ensures within { result ≤ self.now.capacity }
+    {
+        self.entries.len()
+    }
+
+    /// How many entries the row takes. It counts nothing.
+    #[inline]
+    pub fn cap(&self) -> usize
+        ensures { result ≡ self.now.capacity }
+    {
+        self.entries.capacity()
+    }
+}

@@ -1,0 +1,173 @@
+//! Rows and laps on their happy path, and a question of its own through its bound.
+ghost use Rattle.std.specs.Prelude.{◌≡◌, ◌<◌};
+
+mod callers;
+mod sums;
+mod tags;
+
+use crate::step_ledger::{Row, SHARES, Steps, blank};
+use crate::{Item, Named, NoMemory, derived_laws};
+use callers::{Held, ask_all};
+use std::alloc::Global;
+use std::marker::Brand;
+use std::sync::ledger::{Blank, Ledger};
+use std::test::Fail;
+use sums::largest_uncounted;
+use tags::{Pile, Tag, WeightBelow};
+
+/// What a row of three holds after a write, and the laps before and after a new one begins.
+fn row_and_laps<L: Ledger>(alloc: Global, blank: Blank) -> Result<([u64; 5], [u64; 6]), NoMemory>
+    requires name { blank.name ≡ L.name }
+    requires parts { blank.parts ≡ L.parts }
+    requires shares { blank.parts ≡ SHARES }
+{
+    let mut steps = Steps::<L>::new(blank);
+    let mut row = Row::room(alloc, 3)?;
+    row.push(5u64, &mut steps);
+    row.push(6, &mut steps);
+    row.push(7, &mut steps);
+    row.set(1, 60, &mut steps);
+    let first = row.at(0, &mut steps);
+    let second = row.at(1, &mut steps);
+    let third = row.at(2, &mut steps);
+    steps.turn();
+    steps.mark();
+    steps.mark();
+    let turns = steps.lap_turns();
+    let marks = steps.lap_marks();
+    let touches = steps.lap_touches();
+    steps.start_lap();
+    steps.turn();
+    let laps = [
+        turns,
+        marks,
+        touches,
+        steps.lap_turns(),
+        steps.lap_marks(),
+        steps.lap_touches(),
+    ];
+    Ok((
+        [first, second, third, row.len() as u64, row.cap() as u64],
+        laps,
+    ))
+}
+
+#[test]
+fn counts_rows_and_laps(rt: HostRuntime) -> Result<(), Fail> {
+    let (row, laps) = row_and_laps::<Brand>(rt.alloc(), blank())?;
+    assert_eq!(rt; row, [5, 60, 7, 3, 3]);
+    assert_eq!(rt; laps, [1, 2, 7, 1, 0, 0]);
+    Ok(())
+}
+
+/// A pile of tags with these keys and weights, stamped in their order.
+fn pile<L: Ledger>(
+    alloc: Global,
+    tags: &[(u32, u32)],
+    steps: &mut Steps<L>,
+) -> Result<Pile, NoMemory> {
+    let mut row = Row::room(alloc, tags.len())?;
+    let mut stamp = 0;
+    for (key, weight) in tags {
+        row.push(
+            Tag {
+                key: *key,
+                weight: *weight,
+                stamp,
+            },
+            steps,
+        );
+        stamp += 1;
+    }
+    Ok(Pile { tags: row })
+}
+
+/// The weight below a limit in some piles, asked at once.
+fn weight_at_once<L: Ledger>(
+    alloc: Global,
+    question: WeightBelow,
+    piles: &[Pile; 2],
+    steps: &mut Steps<L>,
+) -> Result<u64, NoMemory> {
+    ask_all(alloc, &question, piles, steps)
+}
+
+/// The same, asked of one pile after the other.
+fn weight_in_steps<L: Ledger>(
+    alloc: Global,
+    question: WeightBelow,
+    piles: &[Pile; 2],
+    steps: &mut Steps<L>,
+) -> Result<u64, NoMemory> {
+    derived_laws::<WeightBelow>();
+    let mut held = Held::new(alloc, question);
+    held.ask(&piles[0], steps)?;
+    held.ask(&piles[1], steps)?;
+    held.finish()
+}
+
+/// The weight below 10 in two piles, at once and in steps, with the touches of both.
+fn weigh<L: Ledger>(alloc: Global, blank: Blank) -> Result<(u64, u64, u64), NoMemory>
+    requires name { blank.name ≡ L.name }
+    requires parts { blank.parts ≡ L.parts }
+    requires shares { blank.parts ≡ SHARES }
+{
+    let mut steps = Steps::<L>::new(blank);
+    let first = pile(alloc, &[(1, 100), (12, 200), (9, 50)], &mut steps)?;
+    let second = pile(alloc, &[(10, 1), (0, 7)], &mut steps)?;
+    let piles = [first, second];
+    let question = WeightBelow { limit: 10 };
+    steps.start_lap();
+    let at_once = weight_at_once(alloc, question, &piles, &mut steps)?;
+    let in_steps = weight_in_steps(alloc, question, &piles, &mut steps)?;
+    Ok((at_once, in_steps, steps.lap_touches()))
+}
+
+#[test]
+fn weighs_by_parts(rt: HostRuntime) -> Result<(), Fail> {
+    let (at_once, in_steps, touches) = weigh::<Brand>(rt.alloc(), blank())?;
+    assert_eq!(rt; at_once, 157);
+    assert_eq!(rt; in_steps, 157);
+    assert_eq!(rt; touches, 10);
+    Ok(())
+}
+
+/// The identifiers of two items in one of their orders.
+fn in_order<I: Named>(first: I, second: I, order: usize) -> [u64; 2]
+    requires { order < 2 }
+{
+    if second.before(order, &first) {
+        [second.id(), first.id()]
+    } else {
+        [first.id(), second.id()]
+    }
+}
+
+#[test]
+fn orders_tags(rt: HostRuntime) {
+    let light = Tag {
+        key: 8,
+        weight: 1,
+        stamp: 4,
+    };
+    let heavy = Tag {
+        key: 3,
+        weight: 2,
+        stamp: 5,
+    };
+    let later = Tag {
+        key: 8,
+        weight: 1,
+        stamp: 6,
+    };
+    assert_eq!(rt; in_order(light, heavy, 0), [3, 8]);
+    assert_eq!(rt; in_order(heavy, light, 1), [8, 3]);
+    assert!(rt; light.before(0, &later) && !later.before(1, &light) && !light.before(0, &light));
+    assert_eq!(rt; (light.stamp(), Tag::ORDERS), (4, 2));
+}
+
+#[test]
+fn counts_nothing(rt: HostRuntime) -> Result<(), Fail> {
+    assert_eq!(rt; largest_uncounted(rt.alloc(), &[3, 9, 4])?, 9);
+    Ok(())
+}
