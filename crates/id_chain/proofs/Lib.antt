@@ -1,0 +1,4 @@
+pub mod Entries
+pub mod Links
+pub mod Runs
+pub mod Chains
