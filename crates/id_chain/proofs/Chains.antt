@@ -1,16 +1,14 @@
 -- The refinement: what each operation on the nodes and the ends makes of the list that they stand for.
-use Rattle.std.proofs.Common.{◌↔◌, ◌≡◌, ◌≢◌, ◌⊎◌, ℕ, zero, suc, ◌+◌, ◌==◌, ◌||◌, Bool, true, false, IsTrue, List, [], ◌∷◌, ◌++◌, length, Option, Some, None, refl, sym, ap, ◌∙◌, inl, inr, arith, rules, subst, append_assoc, append-nil, length-append, reverse, add-zero}
-use Rattle.std.proofs.lemmas.Bool.{cases_eq}
+use Rattle.std.proofs.Common.{◌↔◌, ◌≡◌, ◌≢◌, ℕ, ◌+◌, Bool, true, false, List, [], ◌∷◌, ◌++◌, Option, Some, None, refl, sym, ap, ◌∙◌, arith, subst, append-nil, length-append, reverse, add-zero}
 use Rattle.std.proofs.lemmas.Bool.Decides.{nat_tests}
-use Rattle.std.proofs.lemmas.Grind.{common_steps}
 use Rattle.std.specs.Option.{option_map_or}
 use Rattle.slab.proofs.SlabLemmas.{vacant_after_removal}
 use Rattle.slab.specs.Slab.{Slab, get, slab_len, ContainsKey, Updates}
 use Rattle.id_chain.specs.declared.node.Node.{Node}
-use Rattle.id_chain.specs.Chained.{Entry, is_linked, HandlesDiffer, item_at, before, after, first_or, last_or, first_handle, last_handle}
-use Rattle.id_chain.specs.Linking.{walk, walk_back, IsRun, IsChainOf, list_of, SetsNext, SetsPrev}
+use Rattle.id_chain.specs.Chained.{Entry, is_linked, item_at, before, after, first_or, last_or, first_handle, last_handle}
+use Rattle.id_chain.specs.Linking.{walk_back, IsRun, IsChainOf, Refines, list_of, SetsNext, SetsPrev}
 use Rattle.id_chain.proofs.Links.{ContainsKey-some}
-use Rattle.id_chain.proofs.Entries.{not_false, not_true, last_handle-linked, first_handle-linked, IsSplitAt, split_at, no_end, linked_head, linked_tail, unlinked_parts, unlinked_both, unlinked_head, unlinked_more, is_linked-append, first_or-append, last_or-append, last_or-other, first_or-other, last_or-some, Apart, Apart-parts, HandlesDiffer-append}
+use Rattle.id_chain.proofs.Entries.{not_false, not_true, last_handle-linked, first_handle-linked, split_at, no_end, linked_head, linked_tail, unlinked_parts, unlinked_both, unlinked_head, unlinked_more, first_or-append, last_or-append, last_or-other, first_or-other, Apart-parts, HandlesDiffer-append}
 use Rattle.id_chain.proofs.Runs.{walk-run, walk_back-run, IsRun-parts, IsRun-append, IsRun-same, IsRun-next, IsRun-prev, node_at, linked_apart, run_linked, vacant_unlinked, first_or-linked, last_or-linked}
 
 module _ {I : Type 0} where
@@ -25,10 +23,17 @@ module _ {I : Type 0} where
   walk_back-chain nodes first last es chain =
       rw (sym chain.full, chain.last_is) (rw (add-zero, append-nil) at (walk_back-run (get nodes) None es None 0 chain.run))
 
+  pub Refines-chain : (nodes : Slab (Node I)) (first last : Option ℕ) (es : List (Entry I)) → IsChainOf nodes first last es → Refines nodes first last es
+  Refines-chain nodes first last es chain = record {
+    links = chain;
+    forward = list_of-chain nodes first last es chain;
+    backward = walk_back-chain nodes first last es chain;
+  }
+
   -- so what stands for a list stands for the one that the walk gives
-  pub IsChainOf-walked : (nodes : Slab (Node I)) (first last : Option ℕ) (es : List (Entry I)) → IsChainOf nodes first last es
-      → IsChainOf nodes first last (list_of nodes first)
-  IsChainOf-walked nodes first last es chain = rw (list_of-chain nodes first last es chain) chain
+  pub Refines-walked : (nodes : Slab (Node I)) (first last : Option ℕ) (es : List (Entry I)) → IsChainOf nodes first last es
+      → Refines nodes first last (list_of nodes first)
+  Refines-walked nodes first last es chain = rw (list_of-chain nodes first last es chain) (Refines-chain nodes first last es chain)
 
   -- a place is linked exactly where it has a node
   pub has_node : (nodes : Slab (Node I)) (first last : Option ℕ) (es : List (Entry I)) (place : ℕ) → IsChainOf nodes first last es
@@ -151,9 +156,8 @@ module _ {I : Type 0} where
   })
 
   -- the list of an open value
-  pub opened : (nodes : Slab (Node I)) (first last : Option ℕ) (es : List (Entry I)) → IsChainOf nodes first last (list_of nodes first) → list_of nodes first ≡ es
-      → IsChainOf nodes first last es
-  opened nodes first last es chain is = rw is at chain
+  pub opened : (nodes : Slab (Node I)) (first last : Option ℕ) (es : List (Entry I)) → Refines nodes first last (list_of nodes first) → list_of nodes first ≡ es → IsChainOf nodes first last es
+  opened nodes first last es refines is = rw is at refines.links
 
   -- a node reads as the list says
   pub record ReadsAs (node : Node I) (handle : ℕ) (es : List (Entry I)) : Type 0 where

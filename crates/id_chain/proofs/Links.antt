@@ -1,8 +1,8 @@
 -- What the writes of one link change.
-use Rattle.std.proofs.Common.{◌≡◌, ◌≢◌, ℕ, ◌+◌, ◌<◌, Bool, cond, List, [], ◌∷◌, length, get_or, set, Option, Some, None, is_some, IsSome, refl, sym, ap, ◌∙◌, arith, rules, count_by}
+use Rattle.std.proofs.Common.{◌≡◌, ℕ, cond, Option, Some, None, is_some, IsSome, refl, sym, ap, ◌∙◌, arith, rules}
 use Rattle.std.proofs.lemmas.List.Sums.{sum_by-set}
 use Rattle.std.proofs.lemmas.Grind.{common_steps}
-use Rattle.slab.specs.Slab.{Slab, get, with_value, slab_len, ContainsKey, Updates}
+use Rattle.slab.specs.Slab.{Slab, get, with_value, slab_len, ContainsKey}
 use Rattle.slab.proofs.SlabLemmas.{Updates-with_value, ContainsKey-within}
 use Rattle.id_chain.specs.declared.node.Node.{Node}
 use Rattle.id_chain.specs.Linking.{SetsNext, SetsPrev}

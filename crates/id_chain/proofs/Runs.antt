@@ -1,14 +1,14 @@
 -- Runs of linked nodes.
-use Rattle.std.proofs.Common.{◌≡◌, ◌≢◌, ◌⊎◌, ℕ, zero, suc, ◌+◌, ◌==◌, ◌||◌, Bool, true, false, IsTrue, List, [], ◌∷◌, ◌++◌, length, Option, Some, None, refl, sym, ap, ◌∙◌, inl, inr, arith, rules, append_assoc, zero-add, reverse}
+use Rattle.std.proofs.Common.{◌≡◌, ◌≢◌, ℕ, suc, ◌+◌, true, false, List, [], ◌∷◌, ◌++◌, length, Option, Some, None, refl, sym, ap, ◌∙◌, inl, inr, arith, append_assoc, zero-add, reverse}
 use Rattle.std.proofs.lemmas.Bool.{cases_eq}
 use Rattle.std.proofs.lemmas.Bool.Decides.{nat_tests}
-use Rattle.std.proofs.lemmas.Grind.{common_steps, reverse_onto}
+use Rattle.std.proofs.lemmas.Grind.{reverse_onto}
 use Rattle.std.specs.Option.{option_map_or}
-use Rattle.slab.specs.Slab.{Slab, get, slab_len, ContainsKey, Updates}
+use Rattle.slab.specs.Slab.{Slab, get}
 use Rattle.id_chain.specs.declared.node.Node.{Node}
-use Rattle.id_chain.specs.Chained.{Entry, is_linked, HandlesDiffer, item_at, before, after, first_or, last_or, first_handle, last_handle}
-use Rattle.id_chain.specs.Linking.{walk, walk_back, IsRun, IsChainOf, list_of, SetsNext, SetsPrev}
-use Rattle.id_chain.proofs.Entries.{not_true, is_linked-append, first_or-append, last_or-append, last_or-other, first_or-other, last_or-some, Apart, Apart-parts, HandlesDiffer-append}
+use Rattle.id_chain.specs.Chained.{Entry, is_linked, HandlesDiffer, first_or, last_or}
+use Rattle.id_chain.specs.Linking.{walk, walk_back, IsRun, SetsNext, SetsPrev}
+use Rattle.id_chain.proofs.Entries.{not_true, first_or-append, last_or-other, last_or-some}
 
 module _ {I : Type 0} where
   -- the walk by `next` over a run gives its entries

@@ -1,9 +1,9 @@
 -- How the links of nodes in a slab make a list. No public clause cites this module.
-use Rattle.std.specs.Prelude.{◌≡◌, ℕ, zero, suc, false, List, [], ◌∷◌, length, Option, Some, None}
+use Rattle.std.specs.Prelude.{◌≡◌, ℕ, zero, suc, false, List, [], ◌∷◌, length, reverse, Option, Some, None}
 use Rattle.std.specs.Option.{option_map_or}
 use Rattle.slab.specs.Slab.{Slab, get, slab_len}
 use Rattle.id_chain.specs.declared.node.Node.{Node}
-use Rattle.id_chain.specs.Chained.{Entry, is_linked, HandlesDiffer, first_or, last_or, first_handle, last_handle}
+use Rattle.id_chain.specs.Chained.{Entry, is_linked, HandlesDiffer, first_or, first_handle, last_handle}
 
 module _ {I : Type 0} where
   -- the entries that so many steps by `next` come by, from a place on
@@ -36,6 +36,13 @@ module _ {I : Type 0} where
   -- the list that the fields stand for: the walk by `next` from the first place, over as many nodes as there are
   abbrev pub list_of : Slab (Node I) → Option ℕ → List (Entry I)
   list_of nodes first = walk (get nodes) (slab_len nodes) first
+
+  -- the refinement: the nodes are linked as this list, the walk by `next` from the first place gives it, and the walk by
+  -- `prev` from the last gives it reversed
+  pub record Refines (nodes : Slab (Node I)) (first last : Option ℕ) (es : List (Entry I)) : Type 0 where
+    pub links : IsChainOf nodes first last es
+    pub forward : walk (get nodes) (slab_len nodes) first ≡ es
+    pub backward : walk_back (get nodes) (slab_len nodes) last ≡ reverse es
 
   -- the node at the place, where there is one, has this next, and all else stays
   pub record SetsNext (old new : Slab (Node I)) (place to : Option ℕ) : Type 0 where

@@ -30,14 +30,14 @@ impl<I: Copy> Model for Chain<I> {
 
     ghost coded = { chained_code I.code };
 
-    ghost use Rattle.id_chain.specs.Linking.{list_of, IsChainOf};
+    ghost use Rattle.id_chain.specs.Linking.{list_of, Refines};
 
     ghost view = { λ c. record {
       entries = list_of c.nodes c.first;
       spare = c.nodes.capacity - slab_len c.nodes;
     } };
 
-    ghost invariant = { λ c. IsChainOf c.nodes c.first c.last (list_of c.nodes c.first) };
+    ghost invariant = { λ c. Refines c.nodes c.first c.last (list_of c.nodes c.first) };
 }
 
 impl<I: Copy> Chain<I> {

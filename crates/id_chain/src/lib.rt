@@ -9,3 +9,6 @@ mod node;
 
 pub use chain::Chain;
 pub use handle::Handle;
+
+#[cfg(test)]
+mod tests;

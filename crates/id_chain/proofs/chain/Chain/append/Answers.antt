@@ -1,5 +1,5 @@
-use Rattle.std.proofs.Common.{◌≡◌, ap}
-use Rattle.id_chain.proofs.Chains.{opened, present_last, appended_at, appended_new, IsChainOf-walked, list_of-chain}
+use Rattle.std.proofs.Common.{ap}
+use Rattle.id_chain.proofs.Chains.{opened, present_last, appended_at, appended_new, Refines-walked, list_of-chain}
 use Rattle.id_chain.proofs.chain.Chain.append.Goals as goal
 
 pub link_next-requires : goal.link_next-requires
@@ -10,7 +10,7 @@ link_next-requires g c =
 pub invariant_of-self : goal.invariant_of-self
 invariant_of-self g c =
     let chain = opened _ _ _ _ c.self.invariant (ap (λ v. v.entries) c.self.view_is) in
-    IsChainOf-walked _ _ _ _ (appended_at _ _ _ _ _ _ _ _ _ c.args.item chain c.insert_reserved-place.ensures.was_vacant c.insert_reserved-place.ensures.updates c.insert_reserved-place.ensures.len c.at-handle.ensures c.link_next.ensures.nodes c.link_next.ensures.first)
+    Refines-walked _ _ _ _ (appended_at _ _ _ _ _ _ _ _ _ c.args.item chain c.insert_reserved-place.ensures.was_vacant c.insert_reserved-place.ensures.updates c.insert_reserved-place.ensures.len c.at-handle.ensures c.link_next.ensures.nodes c.link_next.ensures.first)
 
 pub returns-clause-new_handle : goal.returns-clause-new_handle
 returns-clause-new_handle g c =

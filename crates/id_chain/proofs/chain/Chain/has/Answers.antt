@@ -1,4 +1,4 @@
-use Rattle.std.proofs.Common.{◌≡◌, ap, sym, ◌∙◌}
+use Rattle.std.proofs.Common.{ap, ◌∙◌}
 use Rattle.id_chain.specs.Chained.{is_linked}
 use Rattle.id_chain.proofs.Chains.{opened, has_is}
 use Rattle.id_chain.proofs.chain.Chain.has.Goals as goal

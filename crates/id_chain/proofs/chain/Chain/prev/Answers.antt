@@ -1,4 +1,4 @@
-use Rattle.std.proofs.Common.{◌≡◌, true, ap, sym, ◌∙◌}
+use Rattle.std.proofs.Common.{ap, sym, ◌∙◌}
 use Rattle.slab.specs.Slab.{get}
 use Rattle.id_chain.specs.Chained.{is_linked}
 use Rattle.id_chain.proofs.Chains.{opened, linked_present, reads}

@@ -1,7 +1,7 @@
-use Rattle.std.proofs.Common.{◌≡◌, ◌++◌, ap, sym, ◌∙◌}
+use Rattle.std.proofs.Common.{◌++◌, ap, sym, ◌∙◌}
 use Rattle.slab.specs.Slab.{get}
 use Rattle.id_chain.specs.Chained.{is_linked, before, after}
-use Rattle.id_chain.proofs.Chains.{opened, linked_present, reads, neighbours_stay, unlinked_at, IsChainOf-walked, list_of-chain}
+use Rattle.id_chain.proofs.Chains.{opened, linked_present, reads, neighbours_stay, unlinked_at, Refines-walked, list_of-chain}
 use Rattle.id_chain.proofs.chain.Chain.unlink.Goals as goal
 
 pub remove-node-requires : goal.remove-node-requires
@@ -25,7 +25,7 @@ pub invariant_of-self : goal.invariant_of-self
 invariant_of-self g c =
     let chain = opened _ _ _ _ c.self.invariant (ap (λ v. v.entries) c.self.view_is) in
     let linked = ap (λ h. is_linked h c.args.self.now.entries) c.handle.view_is ∙ c.requires in
-    IsChainOf-walked _ _ _ _ (unlinked_at _ _ _ _ _ _ _ _ _ c.handle.inside.place _ chain linked c.remove-node.ensures.value c.remove-node.ensures.updates c.remove-node.ensures.len c.link_next.ensures.nodes c.link_prev.ensures.nodes c.link_next.ensures.first c.link_prev.ensures.last)
+    Refines-walked _ _ _ _ (unlinked_at _ _ _ _ _ _ _ _ _ c.handle.inside.place _ chain linked c.remove-node.ensures.value c.remove-node.ensures.updates c.remove-node.ensures.len c.link_next.ensures.nodes c.link_prev.ensures.nodes c.link_next.ensures.first c.link_prev.ensures.last)
 
 pub returns-clause-item : goal.returns-clause-item
 returns-clause-item g c =
