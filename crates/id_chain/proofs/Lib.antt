@@ -2,3 +2,4 @@ pub mod Entries
 pub mod Links
 pub mod Runs
 pub mod Chains
+pub mod Stamps

@@ -1,13 +1,9 @@
-// A library with one function.
+//! Items by identifier, and in order of append.
+//!
+//! [`Directory`] is a chain of items with a map from identifier to handle beside it.
 #![tactic(auto)]
 
-ghost use Rattle.std.specs.Prelude.{◌≡◌};
-ghost use Rattle.id_directory.specs.Echo.{echo_of};
+mod directory;
+mod slots;
 
-// The `ensures` clause is the contract: what `echo` returns is `echo_of` of its argument, a definition
-// in `specs/Echo.antt`, which a caller's clause can cite too.
-pub fn echo(x: usize) -> usize
-    ensures { result ≡ echo_of x }
-{
-    x
-}
+pub use directory::Directory;

@@ -41,7 +41,8 @@ impl Recent {
 
     /// How many there are.
     pub fn len(&self) -> usize
-        ensures { result ≡ length self.now }
+        ensures count { result ≡ length self.now }
+        ensures within { result ≤ 64 }
     {
         self.ids.len()
     }
