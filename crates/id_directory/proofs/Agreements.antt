@@ -1,19 +1,19 @@
 -- What an add and a removal make of the map and the chain.
-use Rattle.std.proofs.Common.{◌≡◌, ◌≢◌, ℕ, ◌+◌, ◌==◌, ◌≤◌, Bool, true, false, if◌then◌else◌, List, [], ◌∷◌, ◌++◌, Option, Some, None, refl, sym, ap, ◌∙◌, subst, arith, inl, inr}
+use Rattle.std.proofs.Common.{◌≡◌, ℕ, ◌+◌, Bool, true, false, if◌then◌else◌, List, [], ◌∷◌, ◌++◌, Option, Some, None, refl, sym, ap, ◌∙◌, subst, arith, inl, inr}
 use Rattle.std.specs.declared.cmp.Ordering.{Ordering}
 use Rattle.std.specs.declared.cmp.Ordering.TheVariants.{Less, Equal, Greater}
 use Rattle.std.proofs.lemmas.Bool.{cases_eq}
 use Rattle.std.proofs.lemmas.Map.Lookups.{exact_unsigned}
 use Rattle.std.specs.Ordering.{nat_cmp, is_eq}
 use Rattle.std.specs.Option.{option_map_or}
-use Rattle.std.specs.BTreeMap.{BTreeMap, get, get_by, is_at, UpdatesBy}
-use Rattle.id_chain.specs.Chained.{Entry, is_linked, HandlesDiffer, item_at, before, after}
+use Rattle.std.specs.BTreeMap.{BTreeMap, get, is_at, UpdatesBy}
+use Rattle.id_chain.specs.Chained.{Entry, is_linked, HandlesDiffer, before, after}
 use Rattle.id_chain.specs.Stamped.{StampsRise}
-use Rattle.id_chain.proofs.Entries.{not_true, Apart, Apart-parts, HandlesDiffer-append, linked_tail, unlinked_head, unlinked_more, linked_head}
+use Rattle.id_chain.proofs.Entries.{not_true, Apart-parts, HandlesDiffer-append, linked_tail, unlinked_head, unlinked_more}
 use Rattle.id_chain.proofs.Stamps.{StampsRise-append, StampsRise-without}
-use Rattle.id_directory.specs.Registered.{Registered, ids, handle_of, item_of, without, IdsDiffer}
+use Rattle.id_directory.specs.Registered.{Registered, handle_of, without, IdsDiffer}
 use Rattle.id_directory.specs.Agreement.{is_pending, slot_of, Agrees}
-use Rattle.id_directory.proofs.Identifiers.{other_test, Found, find_id, handle_of-other, handle_of-removed, IdsDiffer-without, handle_of-push, handle_of-pushed, IdsDiffer-push, same_by_handle}
+use Rattle.id_directory.proofs.Identifiers.{other_test, find_id, handle_of-other, handle_of-removed, IdsDiffer-without, handle_of-push, handle_of-pushed, IdsDiffer-push, same_by_handle}
 
 equal_answer : (o : Ordering) → is_eq o ≡ true → o ≡ Equal
 equal_answer Less test = absurd (cc)
@@ -61,14 +61,14 @@ module _ {I : Type 0} (id_of stamp : I → ℕ) where
       let handles_differ : HandlesDiffer (at.front ++ at.e ∷ at.back) = let P : List (Entry I) → Type 0 = HandlesDiffer in subst P at.is.whole agrees.handles_differ in
       let rising : StampsRise stamp 0 (at.front ++ at.e ∷ at.back) adds = let P : List (Entry I) → Type 0 = λ xs. StampsRise stamp 0 xs adds in subst P at.is.whole agrees.rising in
       let gone : handle_of id_of id (at.front ++ at.back) ≡ None =
-        ap (λ i. handle_of id_of i (at.front ++ at.back)) (sym at.is.its_id) ∙ handle_of-removed id_of at.front at.e at.back ids_differ in
+      ap (λ i. handle_of id_of i (at.front ++ at.back)) (sym at.is.its_id) ∙ handle_of-removed id_of at.front at.e at.back ids_differ in
       let slots : (q : ℕ) → get nat_cmp new q ≡ slot_of id_of (at.front ++ at.back) pending q = λ q. elim (cases_eq id q) [
         | inl same ↦
             let here : handle_of id_of q (at.front ++ at.back) ≡ None = ap (λ i. handle_of id_of i (at.front ++ at.back)) (sym same) ∙ gone in
             rw (here, none) (ap (get nat_cmp new) (sym same) ∙ updates.1)
         | inr apart ↦
             let other : handle_of id_of q es ≡ handle_of id_of q (at.front ++ at.back) =
-              ap (handle_of id_of q) at.is.whole ∙ handle_of-other id_of q at.front at.e at.back (λ same. apart (sym at.is.its_id ∙ same)) in
+            ap (handle_of id_of q) at.is.whole ∙ handle_of-other id_of q at.front at.e at.back (λ same. apart (sym at.is.its_id ∙ same)) in
             updates.2 q (is_at-other id q apart) ∙ agrees.found q ∙ ap (λ o. option_map_or (λ h. Some (Some h)) o (if is_pending q pending then Some None else None)) other
       ] in
       let P : List (Entry I) → Type 0 = λ xs. Agrees id_of stamp new xs spare' adds pending in
@@ -118,3 +118,25 @@ module _ {I : Type 0} (id_of stamp : I → ℕ) where
         | inl same ↦ let two : false ≡ true = sym unlinked ∙ ap (λ h. is_linked h es) same ∙ linked in cc
         | inr apart ↦ let two : false ≡ true = sym (unlinked_more other (record { handle = handle; item = item }) [] apart refl) ∙ there in cc
       ]
+
+  -- all of a removal, with the slot that the map had and the entries that the chain keeps
+  pub Agrees-removed_at : (handles new : BTreeMap ℕ (Option ℕ)) (es es' : List (Entry I)) (spare spare' adds : ℕ) (pending : Option ℕ) (id handle : ℕ)
+      → Agrees id_of stamp handles es spare adds pending → pending ≡ None → get nat_cmp handles id ≡ Some (Some handle)
+      → UpdatesBy nat_cmp (nat_cmp id) handles new None
+      → es' ≡ before handle es ++ after handle es
+      → Agrees id_of stamp new es' spare' adds pending
+  Agrees-removed_at handles new es es' spare spare' adds pending id handle agrees none slot updates kept =
+      let found = handle_of-slot handles es spare adds pending id handle agrees slot in
+      let same = same_by_handle id_of id handle es agrees.handles_differ found in
+      let rest : es' ≡ without id_of id es = kept ∙ sym same.rest in
+      rw rest (Agrees-removed handles new es spare spare' adds pending id handle agrees none found updates)
+
+  -- all of an add, with the identifier and the entries as the calls give them
+  pub Agrees-added_at : (handles new : BTreeMap ℕ (Option ℕ)) (es es' : List (Entry I)) (spare spare' adds : ℕ) (pending : Option ℕ) (handle id : ℕ) (item : I)
+      → Agrees id_of stamp handles es spare adds pending → pending ≡ Some (id_of item) → stamp item ≡ adds → is_linked handle es ≡ false
+      → id ≡ id_of item
+      → UpdatesBy nat_cmp (nat_cmp id) handles new (Some (Some handle))
+      → es' ≡ es ++ record { handle = handle; item = item } ∷ []
+      → Agrees id_of stamp new es' spare' (adds + 1) None
+  Agrees-added_at handles new es es' spare spare' adds pending handle id item agrees is stamped unlinked its_id updates appended =
+      rw appended (Agrees-added handles new es spare spare' adds pending handle item agrees is stamped unlinked (rw its_id at updates))

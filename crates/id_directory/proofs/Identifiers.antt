@@ -1,10 +1,10 @@
 -- Lemmas on entries by identifier, for this crate and its callers.
-use Rattle.std.proofs.Common.{◌≡◌, ◌≢◌, ℕ, ◌==◌, Bool, true, false, List, [], ◌∷◌, ◌++◌, Option, Some, None, IsSome, refl, sym, ap, ◌∙◌, subst, arith, inl, inr}
+use Rattle.std.proofs.Common.{◌≡◌, ◌≢◌, ℕ, ◌==◌, true, false, List, [], ◌∷◌, ◌++◌, Some, None, refl, sym, ap, ◌∙◌, subst, arith, inl, inr}
 use Rattle.std.proofs.lemmas.Bool.{cases_eq}
 use Rattle.std.proofs.lemmas.Bool.Decides.{nat_tests}
 use Rattle.id_chain.specs.Chained.{Entry, is_linked, HandlesDiffer, item_at, before, after}
-use Rattle.id_chain.proofs.Entries.{is_linked-append, linked_head, Apart, Apart-parts, HandlesDiffer-append, before-split, after-split, item_at-split, unlinked_head, linked_tail}
-use Rattle.id_directory.specs.Registered.{ids, handle_of, item_of, without, IdsDiffer}
+use Rattle.id_chain.proofs.Entries.{linked_head, Apart-parts, before-split, after-split, item_at-split, linked_tail}
+use Rattle.id_directory.specs.Registered.{handle_of, item_of, without, IdsDiffer}
 
 pub same_test : (a b : ℕ) → a ≡ b → (a == b) ≡ true
 same_test a b same = grind (arith, nat_tests)
@@ -131,6 +131,6 @@ module _ {I : Type 0} (id_of : I → ℕ) where
       let before_it : is_linked handle at.front ≡ false = apart.back_only handle (linked_head e at.back) in
       record {
         rest = at.is.rest ∙ sym (ap (λ xs. before handle xs ++ after handle xs) whole ∙ ap (λ xs. xs ++ after handle (at.front ++ e ∷ at.back)) (before-split handle at.e.item at.front at.back before_it)
-          ∙ ap (λ xs. at.front ++ xs) (after-split handle at.e.item at.front at.back before_it));
+            ∙ ap (λ xs. at.front ++ xs) (after-split handle at.e.item at.front at.back before_it));
         item = at.is.item_is ∙ sym (ap (item_at handle) whole ∙ item_at-split handle at.e.item at.front at.back before_it);
       }

@@ -1,10 +1,10 @@
 -- The walk back from the end of a chain, and the identifiers that it has come by.
-use Rattle.std.proofs.Common.{◌≡◌, ℕ, ◌+◌, ◌-◌, ◌<◌, ◌≤◌, List, [], ◌∷◌, ◌++◌, suc, false, length, take, drop, reverse, map, min, Option, Some, None, true, refl, sym, ap, ◌∙◌, subst, arith, inl, inr, length-append, append_assoc}
+use Rattle.std.proofs.Common.{◌≡◌, ℕ, ◌+◌, ◌-◌, ◌<◌, ◌≤◌, List, [], ◌∷◌, ◌++◌, suc, false, length, take, drop, reverse, Option, Some, None, true, refl, sym, ap, ◌∙◌, subst, arith, inl, inr, length-append, append_assoc}
 use Rattle.std.proofs.Math.Seq.{take-append_seam, take-append-add}
 use Rattle.std.proofs.lemmas.List.{take-append-drop, length-take, length-reverse, reverse-append, map-append, take_all, length-map, length-drop}
-use Rattle.std.proofs.lemmas.Grind.{common_steps, reverse_onto}
-use Rattle.id_chain.specs.Chained.{Entry, is_linked, HandlesDiffer, item_at, before, after, last_or, last_handle}
-use Rattle.id_chain.proofs.Entries.{is_linked-append, front_and_last, last_or-append, linked_head, Apart, Apart-parts, before-split, item_at-split, last_handle-linked}
+use Rattle.std.proofs.lemmas.Grind.{reverse_onto}
+use Rattle.id_chain.specs.Chained.{Entry, is_linked, HandlesDiffer, item_at, before, last_handle}
+use Rattle.id_chain.proofs.Entries.{is_linked-append, front_and_last, last_or-append, linked_head, Apart-parts, before-split, item_at-split}
 use Rattle.id_directory.specs.Registered.{ids}
 
 take_next : (xs : List ℕ) (y : ℕ) (ys : List ℕ) → take (length xs + 1) (xs ++ y ∷ ys) ≡ take (length xs) (xs ++ y ∷ ys) ++ y ∷ []
@@ -18,9 +18,9 @@ module _ {I : Type 0} (id_of : I → ℕ) where
       let newest = reverse (ids id_of back) in
       let count : length newest ≡ length back = length-reverse (ids id_of back) ∙ length-map back _ in
       let whole : reverse (ids id_of (front ++ e ∷ back)) ≡ newest ++ id_of e.item ∷ reverse (ids id_of front) =
-        ap reverse (map-append _ front (e ∷ back)) ∙ reverse-append (ids id_of front) (ids id_of (e ∷ back))
-          ∙ ap (λ xs. xs ++ reverse (ids id_of front)) (reverse_onto (ids id_of back) (id_of e.item) [])
-          ∙ append_assoc newest (id_of e.item ∷ []) (reverse (ids id_of front)) in
+      ap reverse (map-append _ front (e ∷ back)) ∙ reverse-append (ids id_of front) (ids id_of (e ∷ back))
+      ∙ ap (λ xs. xs ++ reverse (ids id_of front)) (reverse_onto (ids id_of back) (id_of e.item) [])
+      ∙ append_assoc newest (id_of e.item ∷ []) (reverse (ids id_of front)) in
       rw (whole, sym count) (take_next newest (id_of e.item) (reverse (ids id_of front)))
 
   -- one step back, after `count` of them
@@ -59,10 +59,10 @@ module _ {I : Type 0} (id_of : I → ℕ) where
         let here : some.1.handle ≡ handle = let one : Some some.1.handle ≡ Some handle = sym (last_or-append None front (some.1 ∷ [])) ∙ ends in cc in
         let e : Entry I = record { handle = handle; item = some.1.item } in
         let whole : es ≡ front ++ e ∷ back =
-          sym (take-append-drop (length es - count) es) ∙ ap (λ xs. xs ++ back) some.2 ∙ append_assoc front (some.1 ∷ []) back
-            ∙ ap (λ h. front ++ record { handle = h; item = some.1.item } ∷ back) here in
+        sym (take-append-drop (length es - count) es) ∙ ap (λ xs. xs ++ back) some.2 ∙ append_assoc front (some.1 ∷ []) back
+        ∙ ap (λ h. front ++ record { handle = h; item = some.1.item } ∷ back) here in
         let taken : length front + 1 ≡ length es - count =
-          sym (length-append front (some.1 ∷ [])) ∙ ap length (sym some.2) ∙ length-take (length es - count) es ∙ omega arith in
+        sym (length-append front (some.1 ∷ [])) ∙ ap length (sym some.2) ∙ length-take (length es - count) es ∙ omega arith in
         let behind : length back ≡ count = length-drop (length es - count) es ∙ omega arith in
         (some.1.item, by_parts es count handle some.1.item front back differ whole behind)
   ]

@@ -4,7 +4,7 @@ ghost use Rattle.id_chain.specs.Chained.{is_linked, HandlesDiffer, before, after
 ghost use Rattle.id_chain.specs.Stamped.{StampsRise};
 ghost use Rattle.id_directory.specs.Registered.{ids, handle_of, item_of, without, IdsDiffer};
 
-use crate::slots::fill;
+use crate::slots::{fill, take};
 use id_chain::{Chain, Handle};
 use map_shapes::Recent;
 use query_laws::{Named, NoMemory};
@@ -81,7 +81,7 @@ impl<I: Named> Directory<I> {
         ensures { self.new ≡ record self.old { pending = None } }
     {
         if let Some(id) = self.pending {
-            self.handles.remove(&id);
+            take(&mut self.handles, id);
             self.pending = None;
         }
     }
@@ -116,7 +116,7 @@ impl<I: Named> Directory<I> {
         ensures unlinked { (handle : _) → handle_of I.id id self.old.entries ≡ Some handle
             → self.new.entries ≡ before handle self.old.entries ++ after handle self.old.entries }
     {
-        match self.handles.remove(&id) {
+        match take(&mut self.handles, id) {
             Some(Some(handle)) => self.chain.unlink(handle),
             _ => unreachable!(),
         }

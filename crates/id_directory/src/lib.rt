@@ -7,3 +7,6 @@ mod directory;
 mod slots;
 
 pub use directory::Directory;
+
+#[cfg(test)]
+mod tests;

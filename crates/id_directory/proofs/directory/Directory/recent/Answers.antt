@@ -1,4 +1,4 @@
-use Rattle.std.proofs.Common.{◌≡◌, sym, ap, ◌∙◌}
+use Rattle.std.proofs.Common.{◌∙◌}
 use Rattle.id_directory.proofs.Latest.{HasWalked-linked, HasWalked-step, HasWalked-stay}
 use Rattle.id_directory.proofs.directory.Directory.recent.Goals.{in-Some, in_default}
 use Rattle.id_directory.proofs.directory.Directory.recent.Goals as goal

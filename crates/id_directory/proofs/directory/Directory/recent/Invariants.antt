@@ -1,6 +1,3 @@
-use Rattle.std.proofs.Common.{◌≡◌, ℕ, ◌-◌, List, Option, take, reverse, length}
-use Rattle.id_chain.specs.Chained.{Entry, last_handle}
-use Rattle.id_directory.specs.Registered.{ids}
 use Rattle.id_directory.proofs.Latest.{HasWalked}
 use Rattle.id_directory.proofs.directory.Directory.recent.Given as goal
 
