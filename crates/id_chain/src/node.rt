@@ -17,14 +17,16 @@ pub(crate) struct Node<I: Copy> {
 
 fn set_next<I: Copy>(nodes: &mut Slab<Node<I>>, place: usize, to: Option<Handle>)
     requires { ContainsKey nodes.old place }
-    ensures { (node : _) → get nodes.old place ≡ Some node → nodes.new ≡ with_value nodes.old place (record node { next = to }) }
+    ensures { (node : _) → get nodes.old place ≡ Some node
+        → nodes.new ≡ with_value nodes.old place (record node { next = to }) }
 {
     nodes[place].next = to;
 }
 
 fn set_prev<I: Copy>(nodes: &mut Slab<Node<I>>, place: usize, to: Option<Handle>)
     requires { ContainsKey nodes.old place }
-    ensures { (node : _) → get nodes.old place ≡ Some node → nodes.new ≡ with_value nodes.old place (record node { prev = to }) }
+    ensures { (node : _) → get nodes.old place ≡ Some node
+        → nodes.new ≡ with_value nodes.old place (record node { prev = to }) }
 {
     nodes[place].prev = to;
 }

@@ -1,10 +1,10 @@
-//! A prepared add that is given up, adds, a removal, and the latest identifiers.
-ghost use Rattle.std.specs.Prelude.{◌≡◌, None, OnOk};
+//! A prepared add that is given up, adds, a removal, the latest identifiers, and the orders of points.
+ghost use Rattle.std.specs.Prelude.{◌≡◌, ◌<◌, ◌^◌, None, OnOk};
 
 use crate::Directory;
 use id_chain::Handle;
 use map_shapes::Point;
-use query_laws::NoMemory;
+use query_laws::{Item, NoMemory};
 use std::process::Abort;
 use std::test::Fail;
 
@@ -48,4 +48,31 @@ fn finds_and_lists(rt: HostRuntime) -> Result<(), Fail> {
     assert_eq!(rt; directory.recent(1).len(), 1);
     assert_eq!(rt; directory.recent(64).len(), 2);
     Ok(())
+}
+
+/// Whether the first stands before the second and the second not before the first, in each of the orders.
+fn stands_before<I: Item>(first: &I, second: &I) -> [bool; 2] {
+    [
+        first.before(0, second) && !second.before(0, first),
+        first.before(1, second) && !second.before(1, first),
+    ]
+}
+
+#[test]
+fn orders_points(rt: HostRuntime) {
+    let at = |x: u32, y: u32, stamp: u64| -> Point
+        requires x_in_range { x < 2 ^ 31 }
+        requires y_in_range { y < 2 ^ 31 }
+    {
+        Point {
+            id: 0,
+            x,
+            y,
+            w: 0,
+            stamp,
+        }
+    };
+    assert_eq!(rt; stands_before(&at(1, 5, 1), &at(2, 3, 0)), [true, false]);
+    assert_eq!(rt; stands_before(&at(2, 3, 0), &at(1, 5, 1)), [false, true]);
+    assert_eq!(rt; stands_before(&at(4, 4, 0), &at(4, 4, 1)), [true, true]);
 }
