@@ -41,10 +41,7 @@ pub fn take_in<S: Source>(text: &mut Vec<u8>, source: &mut S) -> Result<Ending, 
 }
 
 /// One read: `None` where it gave bytes that belong to the script.
-fn take_piece<S: Source>(
-    text: &mut Vec<u8>,
-    source: &mut S,
-) -> Result<Option<Ending>, AllocError>
+fn take_piece<S: Source>(text: &mut Vec<u8>, source: &mut S) -> Result<Option<Ending>, AllocError>
     requires { length text.old.items ≤ script_limit }
     ensures taken { MatchResult result
         (λ ending. Takes ending (S.rest source.old) (S.rest source.new) text.old.items text.new.items)
