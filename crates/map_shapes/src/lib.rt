@@ -3,8 +3,11 @@
 
 mod name;
 mod point;
+mod point_item;
+mod recent;
 mod rect;
 
 pub use name::Name;
 pub use point::Point;
+pub use recent::Recent;
 pub use rect::Rect;

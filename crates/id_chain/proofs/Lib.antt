@@ -1,0 +1,5 @@
+pub mod Entries
+pub mod Links
+pub mod Runs
+pub mod Chains
+pub mod Stamps

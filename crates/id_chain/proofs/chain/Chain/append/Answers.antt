@@ -1,0 +1,23 @@
+use Rattle.std.proofs.Common.{ap}
+use Rattle.id_chain.proofs.Chains.{opened, present_last, appended_at, appended_new, Refines-walked, list_of-chain}
+use Rattle.id_chain.proofs.chain.Chain.append.Goals as goal
+
+pub link_next-requires : goal.link_next-requires
+link_next-requires g c =
+    let chain = opened _ _ _ _ c.self.invariant (ap (λ v. v.entries) c.self.view_is) in
+    present_last _ _ _ _ _ _ _ chain c.insert_reserved-place.ensures.was_vacant c.insert_reserved-place.ensures.updates
+
+pub invariant_of-self : goal.invariant_of-self
+invariant_of-self g c =
+    let chain = opened _ _ _ _ c.self.invariant (ap (λ v. v.entries) c.self.view_is) in
+    Refines-walked _ _ _ _ (appended_at _ _ _ _ _ _ _ _ _ c.args.item chain c.insert_reserved-place.ensures.was_vacant c.insert_reserved-place.ensures.updates c.insert_reserved-place.ensures.len c.at-handle.ensures c.link_next.ensures.nodes c.link_next.ensures.first)
+
+pub returns-clause-new_handle : goal.returns-clause-new_handle
+returns-clause-new_handle g c =
+    let chain = opened _ _ _ _ c.self.invariant (ap (λ v. v.entries) c.self.view_is) in
+    appended_new _ _ _ _ _ _ chain c.insert_reserved-place.ensures.was_vacant c.at-handle.ensures
+
+pub returns-clause-entries : goal.returns-clause-entries
+returns-clause-entries g c =
+    let chain = opened _ _ _ _ c.self.invariant (ap (λ v. v.entries) c.self.view_is) in
+    list_of-chain _ _ _ _ (appended_at _ _ _ _ _ _ _ _ _ c.args.item chain c.insert_reserved-place.ensures.was_vacant c.insert_reserved-place.ensures.updates c.insert_reserved-place.ensures.len c.at-handle.ensures c.link_next.ensures.nodes c.link_next.ensures.first)

@@ -1,0 +1,40 @@
+use Rattle.std.proofs.Common.{◌++◌, ap, sym, ◌∙◌}
+use Rattle.slab.specs.Slab.{get}
+use Rattle.id_chain.specs.Chained.{is_linked, before, after}
+use Rattle.id_chain.proofs.Chains.{opened, linked_present, reads, neighbours_stay, unlinked_at, Refines-walked, list_of-chain}
+use Rattle.id_chain.proofs.chain.Chain.unlink.Goals as goal
+
+pub remove-node-requires : goal.remove-node-requires
+remove-node-requires g c =
+    let chain = opened _ _ _ _ c.self.invariant (ap (λ v. v.entries) c.self.view_is) in
+    linked_present _ _ _ _ c.handle.inside.place chain (ap (λ h. is_linked h c.args.self.now.entries) c.handle.view_is ∙ c.requires)
+
+pub link_next-requires : goal.link_next-requires
+link_next-requires g c =
+    let chain = opened _ _ _ _ c.self.invariant (ap (λ v. v.entries) c.self.view_is) in
+    let linked = ap (λ h. is_linked h c.args.self.now.entries) c.handle.view_is ∙ c.requires in
+    (neighbours_stay _ _ _ _ _ c.handle.inside.place _ chain linked c.remove-node.ensures.value c.remove-node.ensures.updates).prev
+
+pub link_prev-requires : goal.link_prev-requires
+link_prev-requires g c =
+    let chain = opened _ _ _ _ c.self.invariant (ap (λ v. v.entries) c.self.view_is) in
+    let linked = ap (λ h. is_linked h c.args.self.now.entries) c.handle.view_is ∙ c.requires in
+    (neighbours_stay _ _ _ _ _ c.handle.inside.place _ chain linked c.remove-node.ensures.value c.remove-node.ensures.updates).next _ c.link_next.ensures.nodes
+
+pub invariant_of-self : goal.invariant_of-self
+invariant_of-self g c =
+    let chain = opened _ _ _ _ c.self.invariant (ap (λ v. v.entries) c.self.view_is) in
+    let linked = ap (λ h. is_linked h c.args.self.now.entries) c.handle.view_is ∙ c.requires in
+    Refines-walked _ _ _ _ (unlinked_at _ _ _ _ _ _ _ _ _ c.handle.inside.place _ chain linked c.remove-node.ensures.value c.remove-node.ensures.updates c.remove-node.ensures.len c.link_next.ensures.nodes c.link_prev.ensures.nodes c.link_next.ensures.first c.link_prev.ensures.last)
+
+pub returns-clause-item : goal.returns-clause-item
+returns-clause-item g c =
+    let chain = opened _ _ _ _ c.self.invariant (ap (λ v. v.entries) c.self.view_is) in
+    (reads _ _ _ _ c.args.handle c.remove-node.result chain c.requires (ap (get c.self.inside.nodes) (sym c.handle.view_is) ∙ c.remove-node.ensures.value)).item
+
+pub returns-clause-entries : goal.returns-clause-entries
+returns-clause-entries g c =
+    let chain = opened _ _ _ _ c.self.invariant (ap (λ v. v.entries) c.self.view_is) in
+    let linked = ap (λ h. is_linked h c.args.self.now.entries) c.handle.view_is ∙ c.requires in
+    list_of-chain _ _ _ _ (unlinked_at _ _ _ _ _ _ _ _ _ c.handle.inside.place _ chain linked c.remove-node.ensures.value c.remove-node.ensures.updates c.remove-node.ensures.len c.link_next.ensures.nodes c.link_prev.ensures.nodes c.link_next.ensures.first c.link_prev.ensures.last)
+    ∙ ap (λ h. before h c.args.self.now.entries ++ after h c.args.self.now.entries) c.handle.view_is

@@ -1,0 +1,68 @@
+-- What a contract sees of a chain.
+use Rattle.std.specs.Prelude.{◌≡◌, ℕ, ◌==◌, ◌||◌, Bool, false, if◌then◌else◌, List, [], ◌∷◌, Option, Some, None, refl}
+use Rattle.std.specs.Coded.{Coded, code_by, coded×, coded_ℕ, coded_list}
+
+-- an item, and the handle under which it is linked
+pub record Entry (I : Type 0) : Type 0 where
+  pub handle : ℕ
+  pub item : I
+
+-- the entries in order of append, and how many appends need no further memory
+pub record Chained (I : Type 0) : Type 0 where
+  pub entries : List (Entry I)
+  pub spare : ℕ
+
+abbrev pub entry_code : {I : Type 0} → Coded I → Coded (Entry I)
+entry_code {I} code =
+    code_by (ℕ × I) (coded× coded_ℕ code) (λ e. (e.handle, e.item)) (λ p. record { handle = p.0; item = p.1 }) (λ _. refl)
+
+abbrev pub chained_code : {I : Type 0} → Coded I → Coded (Chained I)
+chained_code {I} code =
+    code_by
+    (List (Entry I) × ℕ)
+    (coded× (coded_list (entry_code code)) coded_ℕ)
+    (λ c. (c.entries, c.spare))
+    (λ p. record { entries = p.0; spare = p.1 })
+    (λ _. refl)
+
+module _ {I : Type 0} where
+  -- whether an entry has this handle
+  abbrev pub is_linked : ℕ → List (Entry I) → Bool
+  is_linked handle [] = false
+  is_linked handle (e ∷ es) = (e.handle == handle) || is_linked handle es
+
+  -- all handles of the list differ
+  abbrev pub HandlesDiffer : List (Entry I) → Type 0
+  HandlesDiffer [] = Unit {0}
+  HandlesDiffer (e ∷ es) = (is_linked e.handle es ≡ false) × HandlesDiffer es
+
+  -- the item under a handle
+  abbrev pub item_at : ℕ → List (Entry I) → Option I
+  item_at handle [] = None
+  item_at handle (e ∷ es) = if e.handle == handle then Some e.item else item_at handle es
+
+  -- the entries before a handle, and those after it
+  abbrev pub before : ℕ → List (Entry I) → List (Entry I)
+  before handle [] = []
+  before handle (e ∷ es) = if e.handle == handle then [] else e ∷ before handle es
+
+  abbrev pub after : ℕ → List (Entry I) → List (Entry I)
+  after handle [] = []
+  after handle (e ∷ es) = if e.handle == handle then es else after handle es
+
+  -- the first handle of these entries, or else the one that follows them
+  abbrev pub first_or : List (Entry I) → Option ℕ → Option ℕ
+  first_or [] next = next
+  first_or (e ∷ es) next = Some e.handle
+
+  -- the last handle of these entries, or else the one that they follow
+  abbrev pub last_or : Option ℕ → List (Entry I) → Option ℕ
+  last_or prev [] = prev
+  last_or prev (e ∷ es) = last_or (Some e.handle) es
+
+  -- the handles at the two ends of a list
+  abbrev pub first_handle : List (Entry I) → Option ℕ
+  first_handle es = first_or es None
+
+  abbrev pub last_handle : List (Entry I) → Option ℕ
+  last_handle es = last_or None es

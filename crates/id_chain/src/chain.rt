@@ -1,0 +1,155 @@
+//! The chain itself.
+ghost use Rattle.std.specs.Prelude.{◌≡◌, ◌+◌, ◌≤◌, [], ◌∷◌, ◌++◌, length, Some, false, IsTrue, OnOk};
+ghost use Rattle.id_chain.specs.Chained.{is_linked, HandlesDiffer, item_at, before, after, first_handle, last_handle};
+
+use crate::handle::Handle;
+use crate::node::{Node, link_next, link_prev};
+use query_laws::NoMemory;
+use slab::Slab;
+use std::alloc::Global;
+use std::marker::Model;
+
+/// Items in order of append, each linked to its neighbours.
+///
+/// Contracts see the entries in order, each an item with its handle, and how many appends need no further memory. Only
+/// [`reserve`](Chain::reserve) takes memory, and no call moves an item. Every call but `reserve` takes the same short time
+/// however long the chain is; `reserve` copies the nodes where it grows.
+#[derive(Drop)]
+pub struct Chain<I: Copy> {
+    nodes: Slab<Node<I>>,
+    first: Option<Handle>,
+    last: Option<Handle>,
+}
+
+impl<I: Copy> Model for Chain<I> {
+    ghost use Rattle.std.specs.Prelude.{◌-◌};
+    ghost use Rattle.slab.specs.Slab.{slab_len};
+    ghost use Rattle.id_chain.specs.Chained.{Chained, chained_code};
+
+    ghost Value = { Chained I };
+
+    ghost coded = { chained_code I.code };
+
+    ghost use Rattle.id_chain.specs.Linking.{list_of, Refines};
+
+    ghost view = { λ c. record {
+      entries = list_of c.nodes c.first;
+      spare = c.nodes.capacity - slab_len c.nodes;
+    } };
+
+    ghost invariant = { λ c. Refines c.nodes c.first c.last (list_of c.nodes c.first) };
+}
+
+impl<I: Copy> Chain<I> {
+    /// An empty chain, which takes its memory from `alloc` later, in [`reserve`](Chain::reserve).
+    pub fn new(alloc: Global) -> Chain<I>
+        ensures { result.entries ≡ [] }
+    {
+        Chain {
+            nodes: Slab::new(alloc),
+            first: None,
+            last: None,
+        }
+    }
+
+    /// Makes room for one more append. It takes no memory where there is room.
+    pub fn reserve(&mut self) -> Result<(), NoMemory>
+        ensures room { OnOk result (1 ≤ self.new.spare) }
+        ensures entries { self.new.entries ≡ self.old.entries }
+        ensures spare { self.old.spare ≤ self.new.spare }
+    {
+        self.nodes.reserve(1)?;
+        Ok(())
+    }
+
+    /// How many appends need no further memory.
+    pub fn spare(&self) -> usize
+        ensures { result ≡ self.now.spare }
+    {
+        self.nodes.capacity() - self.nodes.len()
+    }
+
+    /// Links an item at the end, under a handle that is not linked yet.
+    pub fn append(&mut self, item: I) -> Handle
+        requires { 1 ≤ self.old.spare }
+        ensures new_handle { is_linked result self.old.entries ≡ false }
+        ensures entries { self.new.entries ≡ self.old.entries ++ record { handle = result; item = item } ∷ [] }
+        ensures spare { self.old.spare ≤ self.new.spare + 1 }
+    {
+        let place = self.nodes.insert_reserved(Node {
+            item,
+            prev: self.last,
+            next: None,
+        });
+        let handle = Handle::at(place);
+        link_next(&mut self.nodes, &mut self.first, self.last, Some(handle));
+        self.last = Some(handle);
+        handle
+    }
+
+    /// Takes an item out and links its neighbours to each other. Its handle and no other is no longer good.
+    pub fn unlink(&mut self, handle: Handle) -> I
+        requires { IsTrue (is_linked handle self.old.entries) }
+        ensures item { item_at handle self.old.entries ≡ Some result }
+        ensures entries { self.new.entries ≡ before handle self.old.entries ++ after handle self.old.entries }
+        ensures spare { self.old.spare ≤ self.new.spare }
+    {
+        let node = self.nodes.remove(handle.place);
+        link_next(&mut self.nodes, &mut self.first, node.prev, node.next);
+        link_prev(&mut self.nodes, &mut self.last, node.next, node.prev);
+        node.item
+    }
+
+    /// Whether the handle is good.
+    pub fn has(&self, handle: Handle) -> bool
+        ensures { result ≡ is_linked handle self.now.entries }
+    {
+        self.nodes.contains(handle.place)
+    }
+
+    /// The item under a handle.
+    pub fn item(&self, handle: Handle) -> I
+        requires { IsTrue (is_linked handle self.now.entries) }
+        ensures { item_at handle self.now.entries ≡ Some result }
+    {
+        self.nodes[handle.place].item
+    }
+
+    /// The handle of the item that was appended next of those that are linked, or `None` at the end.
+    pub fn next(&self, handle: Handle) -> Option<Handle>
+        requires { IsTrue (is_linked handle self.now.entries) }
+        ensures { result ≡ first_handle (after handle self.now.entries) }
+    {
+        self.nodes[handle.place].next
+    }
+
+    /// The handle of the item that was appended just before of those that are linked, or `None` at the front.
+    pub fn prev(&self, handle: Handle) -> Option<Handle>
+        requires { IsTrue (is_linked handle self.now.entries) }
+        ensures { result ≡ last_handle (before handle self.now.entries) }
+    {
+        self.nodes[handle.place].prev
+    }
+
+    /// The handle at the front, or `None` where the chain is empty.
+    pub fn first(&self) -> Option<Handle>
+        ensures { result ≡ first_handle self.now.entries }
+    {
+        self.first
+    }
+
+    /// The handle at the end, or `None` where the chain is empty.
+    pub fn last(&self) -> Option<Handle>
+        ensures { result ≡ last_handle self.now.entries }
+    {
+        self.last
+    }
+
+    /// How many items are linked.
+    pub fn len(&self) -> usize
+        ensures count { result ≡ length self.now.entries }
+        ensures differ { HandlesDiffer self.now.entries }
+    {
+        self.nodes.len()
+    }
+}

@@ -1,0 +1,3 @@
+pub mod Identifiers
+pub mod Agreements
+pub mod Latest

@@ -1,0 +1,44 @@
+-- What a contract sees of a directory.
+use Rattle.std.specs.Prelude.{◌≡◌, ℕ, ◌==◌, if◌then◌else◌, List, [], ◌∷◌, Option, Some, None, map, refl}
+use Rattle.std.specs.Coded.{Coded, code_by, coded×, coded_ℕ, coded_list, coded_option}
+use Rattle.id_chain.specs.Chained.{Entry, entry_code}
+
+-- the entries in order of append, how many adds there were, and the identifier that an add is prepared for
+pub record Registered (I : Type 0) : Type 0 where
+  pub entries : List (Entry I)
+  pub adds : ℕ
+  pub pending : Option ℕ
+
+abbrev pub registered_code : {I : Type 0} → Coded I → Coded (Registered I)
+registered_code {I} code =
+    code_by
+    (List (Entry I) × (ℕ × Option ℕ))
+    (coded× (coded_list (entry_code code)) (coded× coded_ℕ (coded_option coded_ℕ)))
+    (λ r. (r.entries, (r.adds, r.pending)))
+    (λ p. record { entries = p.0; adds = p.1.0; pending = p.1.1 })
+    (λ _. refl)
+
+module _ {I : Type 0} (id_of : I → ℕ) where
+  -- the identifiers, in order of append
+  abbrev pub ids : List (Entry I) → List ℕ
+  ids es = map (λ e. id_of e.item) es
+
+  -- the handle of the item with this identifier
+  abbrev pub handle_of : ℕ → List (Entry I) → Option ℕ
+  handle_of id [] = None
+  handle_of id (e ∷ es) = if id_of e.item == id then Some e.handle else handle_of id es
+
+  -- that item
+  abbrev pub item_of : ℕ → List (Entry I) → Option I
+  item_of id [] = None
+  item_of id (e ∷ es) = if id_of e.item == id then Some e.item else item_of id es
+
+  -- the entries without it, all others in their order
+  abbrev pub without : ℕ → List (Entry I) → List (Entry I)
+  without id [] = []
+  without id (e ∷ es) = if id_of e.item == id then es else e ∷ without id es
+
+  -- no identifier stands twice
+  abbrev pub IdsDiffer : List (Entry I) → Type 0
+  IdsDiffer [] = Unit {0}
+  IdsDiffer (e ∷ es) = (handle_of (id_of e.item) es ≡ None) × IdsDiffer es

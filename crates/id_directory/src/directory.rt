@@ -1,0 +1,157 @@
+//! The directory itself.
+ghost use Rattle.std.specs.Prelude.{◌≡◌, ◌+◌, ◌<◌, ◌≤◌, ◌^◌, [], ◌∷◌, ◌++◌, Some, None, false, OnOk, OnErr, IsSome, take, reverse};
+ghost use Rattle.id_chain.specs.Chained.{is_linked, HandlesDiffer, before, after};
+ghost use Rattle.id_chain.specs.Stamped.{StampsRise};
+ghost use Rattle.id_directory.specs.Registered.{ids, handle_of, item_of, without, IdsDiffer};
+
+use crate::slots::{fill, take};
+use id_chain::{Chain, Handle};
+use map_shapes::Recent;
+use query_laws::{Named, NoMemory};
+use std::alloc::Global;
+use std::collections::BTreeMap;
+use std::marker::Model;
+
+/// Items that are found by identifier, and kept in order of append.
+///
+/// An add is in two calls: [`prepare_add`](Directory::prepare_add) takes all memory that it needs, and
+/// [`add`](Directory::add) can't fail. Between them the identifier is pending, and no item has it yet.
+#[derive(Drop)]
+pub struct Directory<I: Named> {
+    chain: Chain<I>,
+    // The handle of each item, and `None` at the pending identifier.
+    handles: BTreeMap<u64, Option<Handle>>,
+    adds: u64,
+    pending: Option<u64>,
+}
+
+impl<I: Named> Model for Directory<I> {
+    ghost use Rattle.id_directory.specs.Registered.{Registered, registered_code};
+
+    ghost Value = { Registered I };
+
+    ghost coded = { registered_code I.code };
+
+    ghost use Rattle.id_directory.specs.Agreement.{Agrees};
+
+    ghost view = { λ d. record { entries = d.chain.entries; adds = d.adds; pending = d.pending } };
+
+    ghost invariant = { λ d. Agrees I.id I.stamp d.handles d.chain.entries d.chain.spare d.adds d.pending };
+}
+
+impl<I: Named> Directory<I> {
+    /// An empty directory, which takes its memory from `alloc` later.
+    pub fn new(alloc: Global) -> Directory<I>
+        ensures { result ≡ record { entries = []; adds = 0; pending = None } }
+    {
+        Directory {
+            chain: Chain::new(alloc),
+            handles: BTreeMap::new(alloc),
+            adds: 0,
+            pending: None,
+        }
+    }
+
+    /// The handle of the item with this identifier. It takes as long as a look-up in std's map.
+    pub fn find(&self, id: u64) -> Option<Handle>
+        ensures { result ≡ handle_of I.id id self.now.entries }
+    {
+        match self.handles.get(&id) {
+            Some(Some(handle)) => Some(*handle),
+            _ => None,
+        }
+    }
+
+    /// Takes the memory for one add of an item with this identifier, which is pending then.
+    pub fn prepare_add(&mut self, id: u64) -> Result<(), NoMemory>
+        requires none_pending { self.old.pending ≡ None }
+        requires new_id { handle_of I.id id self.old.entries ≡ None }
+        ensures prepared { OnOk result (self.new ≡ record self.old { pending = Some id }) }
+        ensures refused { OnErr result (self.new ≡ self.old) }
+    {
+        self.chain.reserve()?;
+        self.handles.insert(id, None)?;
+        self.pending = Some(id);
+        Ok(())
+    }
+
+    /// Gives up the prepared add.
+    pub fn cancel_add(&mut self)
+        requires { IsSome self.old.pending }
+        ensures { self.new ≡ record self.old { pending = None } }
+    {
+        if let Some(id) = self.pending {
+            take(&mut self.handles, id);
+            self.pending = None;
+        }
+    }
+
+    /// Appends the item whose add is prepared. It takes no memory.
+    pub fn add(&mut self, item: I) -> Handle
+        requires pending { self.old.pending ≡ Some (I.id item) }
+        requires stamped { I.stamp item ≡ self.old.adds }
+        requires adds { self.old.adds < 2 ^ 63 }
+        ensures new_handle { is_linked result self.old.entries ≡ false }
+        ensures added { self.new ≡ record {
+          entries = self.old.entries ++ record { handle = result; item = item } ∷ [];
+          adds = self.old.adds + 1;
+          pending = None;
+        } }
+    {
+        let handle = self.chain.append(item);
+        fill(&mut self.handles, item.id(), handle);
+        self.pending = None;
+        self.adds += 1;
+        handle
+    }
+
+    /// Takes out the item with this identifier. Its handle is no longer good.
+    pub fn remove(&mut self, id: u64) -> I
+        requires none_pending { self.old.pending ≡ None }
+        requires present { IsSome (handle_of I.id id self.old.entries) }
+        ensures item { item_of I.id id self.old.entries ≡ Some result }
+        ensures removed { self.new ≡ record self.old { entries = without I.id id self.old.entries } }
+
+        // The same by the handle that `find` gives.
+        ensures unlinked { (handle : _) → handle_of I.id id self.old.entries ≡ Some handle
+            → self.new.entries ≡ before handle self.old.entries ++ after handle self.old.entries }
+    {
+        match take(&mut self.handles, id) {
+            Some(Some(handle)) => self.chain.unlink(handle),
+            _ => unreachable!(),
+        }
+    }
+
+    /// The identifiers of the last `k` items, the newest first, or of all where there are fewer.
+    pub fn recent(&self, k: usize) -> Recent
+        requires { k ≤ 64 }
+        ensures { result ≡ take k (reverse (ids I.id self.now.entries)) }
+    {
+        let mut recent = Recent::new();
+        let mut at = self.chain.last();
+        for _done in 0..k {
+            if let Some(handle) = at {
+                recent.push(self.chain.item(handle).id());
+                at = self.chain.prev(handle);
+            }
+        }
+        recent
+    }
+
+    /// The items in order of append.
+    pub fn chain(&self) -> &Chain<I>
+        ensures entries { result.now.entries ≡ self.now.entries }
+        ensures ids_differ { IdsDiffer I.id self.now.entries }
+        ensures handles_differ { HandlesDiffer self.now.entries }
+        ensures stamps_rise { StampsRise I.stamp 0 self.now.entries self.now.adds }
+    {
+        &self.chain
+    }
+
+    /// How many items were ever added.
+    pub fn adds(&self) -> u64
+        ensures { result ≡ self.now.adds }
+    {
+        self.adds
+    }
+}
