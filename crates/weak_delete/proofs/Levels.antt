@@ -1,9 +1,9 @@
 -- Levels of numbers, and the blocks that are halves of larger blocks.
-use Rattle.std.proofs.Common.{◌≡◌, ℕ, zero, suc, ◌+◌, ◌-◌, ◌*◌, ◌/◌, ◌%◌, ◌^◌, ◌<◌, ◌≤◌, ◌⊎◌, inl, inr, refl, sym, ap, ap₂, subst, ◌∙◌, arith, pow-suc, add-one}
+use Rattle.std.proofs.Common.{◌≡◌, ◌≢◌, ℕ, zero, suc, ◌+◌, ◌-◌, ◌*◌, ◌/◌, ◌%◌, ◌^◌, ◌<◌, ◌≤◌, ◌⊎◌, inl, inr, refl, sym, ap, ap₂, subst, ◌∙◌, arith, pow-suc, add-one}
 use Rattle.std.specs.Int.{w64, trailing_zeros}
-use Rattle.std.proofs.lemmas.Nat.{pow_pos, leading_length}
+use Rattle.std.proofs.lemmas.Nat.{pow_pos, leading_length, shl-shr}
 use Rattle.std.proofs.lemmas.Bool.{cases_lt}
-use Rattle.std.proofs.Math.Nat.{pow-le-pow_right}
+use Rattle.std.proofs.Math.Nat.{pow-le-pow_right, mul-le-mul_right}
 use Rattle.std.proofs.Math.Pow.{pow-lt}
 use Rattle.std.specs.Int.Count.{count_trailing_zeros, count_leading_zeros, under}
 use Rattle.weak_delete.specs.Levels.{level_of, IsMultiple}
@@ -126,8 +126,9 @@ pub record IsHalved (start level half : ℕ) : Type 0 where
   pub twice : 2 ^ level ≡ half + half
   pub some : 0 < half
   pub own : 2 ^ level_of (start + half) ≡ half
+  pub at : level_of (start + half) ≡ level - 1
 
-halved_next : (start level : ℕ) → IsMultiple start (level + 1) → level < 64 → IsHalved start (level + 1) (2 ^ level)
+pub halved_next : (start level : ℕ) → IsMultiple start (level + 1) → level < 64 → IsHalved start (level + 1) (2 ^ level)
 halved_next start level multiple small =
     let low : level ≡ level + 1 - 1 = omega arith in record {
       first = subst (IsMultiple start) low (first_half start level multiple);
@@ -136,6 +137,7 @@ halved_next start level multiple small =
       twice = pow_next level;
       some = pow_pos level;
       own = ap (λ i. 2 ^ i) (level_of-middle start level multiple small);
+      at = level_of-middle start level multiple small ∙ low;
     }
 
 pub halved : (start level half : ℕ) → IsMultiple start level → 0 < level → level ≤ 64 → half ≡ 2 ^ (level - 1) → IsHalved start level half
@@ -144,3 +146,63 @@ halved start level half multiple pos small is =
     let next = halved_next start (level - 1) (subst (IsMultiple start) high multiple) (omega arith) in
     let P : ℕ → Type 0 = λ l. IsHalved start l half in
     subst P (sym high) (subst (IsHalved start (level - 1 + 1)) (sym is) next)
+
+-- a number is an odd number of blocks of its level
+pub record IsMiddle (n level : ℕ) : Type 0 where
+  pub times : ℕ
+  pub is : n ≡ (2 * times + 1) * 2 ^ level
+
+trailing_odd : (k n : ℕ) → 0 < n → n < 2 ^ k → IsMiddle n (count_trailing_zeros k n)
+unfolding count_trailing_zeros
+trailing_odd zero n pos small = let no : ⊥ = omega arith in absurd no
+trailing_odd (suc k) n pos small = elim (half_of n) [
+  | inl even ↦
+      let t = count_trailing_zeros k (n / 2) in
+      let below = trailing_odd k (n / 2) (omega arith) (omega (arith, pow-suc 2 k)) in
+      let level : suc t ≡ under (n % 2) t = sym (ap (λ d. under d t) even) in
+      subst (IsMiddle n) level (record { times = below.times; is = omega (arith, below.is, ap (λ x. (2 * below.times + 1) * x) (pow-suc 2 t)) })
+  | inr odd ↦
+      let level : 0 ≡ under (n % 2) (count_trailing_zeros k (n / 2)) = sym (ap (λ d. under d (count_trailing_zeros k (n / 2))) odd) in
+      subst (IsMiddle n) level (record { times = n / 2; is = omega arith })
+]
+
+pub middle_of : (n : ℕ) → 0 < n → n < 2 ^ 64 → IsMiddle n (level_of n)
+unfolding level_of
+middle_of n pos small = trailing_odd 64 n pos small
+
+-- a lower power of two has a lower exponent
+pub below_from_pow : (i j : ℕ) → 2 ^ i < 2 ^ j → i < j
+below_from_pow i j h = elim (cases_lt i j) [
+  | inl low ↦ low
+  | inr high ↦ let le : 2 ^ j ≤ 2 ^ i = pow-le-pow_right (omega arith) high in let no : ⊥ = omega arith in absurd no
+]
+
+pub level_of-inside : (start level n : ℕ) → IsMultiple start level → level ≤ 64 → start < n → n < start + 2 ^ level → level_of n < level
+level_of-inside start level n multiple small after before =
+    below_from_pow _ _ (omega (arith, starts_inside start level n multiple small after before))
+
+-- more blocks reach farther
+pub times_below : (a b half : ℕ) → a * half < b * half → a < b
+times_below a b half h = elim (cases_lt a b) [
+  | inl low ↦ low
+  | inr high ↦ let le : b * half ≤ a * half = mul-le-mul_right half high in let no : ⊥ = omega arith in absurd no
+]
+
+-- blocks that begin at an even or an odd block of the level
+pub even_block : (start level half : ℕ) → IsMultiple start level → half ≡ 2 ^ level → start / half % 2 ≡ 0 → IsMultiple start (level + 1)
+even_block start level half multiple is even =
+    let blocks : start / half ≡ multiple.times = ap₂ (λ s h. s / h) multiple.is is ∙ shl-shr multiple.times level in
+    let twice : multiple.times ≡ multiple.times / 2 * 2 = omega (arith, ap (λ n. n % 2) blocks) in
+    record {
+      times = multiple.times / 2;
+      is = omega (arith, multiple.is, ap (λ n. n * 2 ^ level) twice, ap (λ x. multiple.times / 2 * x) (pow_next level));
+    }
+
+pub odd_block : (start level half : ℕ) → IsMultiple start level → half ≡ 2 ^ level → start / half % 2 ≢ 0 → IsMultiple (start + half) (level + 1)
+odd_block start level half multiple is odd =
+    let blocks : start / half ≡ multiple.times = ap₂ (λ s h. s / h) multiple.is is ∙ shl-shr multiple.times level in
+    let twice : multiple.times + 1 ≡ (multiple.times + 1) / 2 * 2 = omega (arith, ap (λ n. n % 2) blocks) in
+    record {
+      times = (multiple.times + 1) / 2;
+      is = omega (arith, multiple.is, is, ap (λ n. n * 2 ^ level) twice, ap (λ x. (multiple.times + 1) / 2 * x) (pow_next level));
+    }

@@ -1,5 +1,5 @@
 -- Places in order, each with an amount, live until it is cleared.
-use Rattle.std.specs.Prelude.{◌≡◌, ℕ, List, [], Bool, true, false, IsTrue, if◌then◌else◌, slice_index_or, slice_set}
+use Rattle.std.specs.Prelude.{◌≡◌, ℕ, List, [], Bool, true, false, IsTrue, ◌&&◌, nat_le, if◌then◌else◌, slice_index_or, slice_set}
 use Rattle.weak_delete.specs.declared.place.Place.{Place}
 
 -- a structure over places that is filled by puts, sealed, and built by turns
@@ -42,3 +42,7 @@ IsLive places k = IsTrue (is_live (place_at places k))
 -- the same places, of which the one at this index is no longer live
 abbrev pub cleared : List Place → ℕ → List Place
 cleared places k = slice_set places k (record (place_at places k) { live = false })
+
+-- the place is live, and its amount reaches the bound
+abbrev pub is_live_at_least : ℕ → Place → Bool
+is_live_at_least bound place = place.live && nat_le bound place.amount

@@ -4,9 +4,11 @@
 
 mod level;
 mod live_counts;
+mod live_max;
 mod place;
 
 pub use live_counts::LiveCounts;
+pub use live_max::LiveMax;
 pub use place::Place;
 
 #[cfg(test)]

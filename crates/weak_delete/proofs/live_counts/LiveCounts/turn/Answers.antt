@@ -13,10 +13,10 @@ overflow_sub-end g c =
     let small = pow_level_of-le c.self.inside.unturned (omega arith) (omega arith) in
     omega (arith, ap (λ i. 2 ^ i) c.level_at.ensures.value)
 
-pub overflow_sub-turned : goal.overflow_sub-node
+pub overflow_sub-turned : goal.overflow_sub-turned
 overflow_sub-turned g c = (before-le _ _ _ _ _ c.whole-whole.ensures.over c.whole-before.ensures.over (omega arith)).0
 
-pub overflow_sub-turned-2 : goal.overflow_sub-node-2
+pub overflow_sub-turned-2 : goal.overflow_sub-turned-2
 overflow_sub-turned-2 g c = (before-le _ _ _ _ _ c.whole-whole.ensures.over c.whole-before.ensures.over (omega arith)).1
 
 pub invariant_of-self : goal.invariant_of-self
