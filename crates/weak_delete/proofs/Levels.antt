@@ -1,10 +1,8 @@
 -- Levels of numbers, and the blocks that are halves of larger blocks.
 use Rattle.std.proofs.Common.{◌≡◌, ◌≢◌, ℕ, zero, suc, ◌+◌, ◌-◌, ◌*◌, ◌/◌, ◌%◌, ◌^◌, ◌<◌, ◌≤◌, ◌⊎◌, inl, inr, refl, sym, ap, ap₂, subst, ◌∙◌, arith, pow-suc, add-one}
-use Rattle.std.specs.Int.{w64, trailing_zeros}
 use Rattle.std.proofs.lemmas.Nat.{pow_pos, leading_length, shl-shr}
 use Rattle.std.proofs.lemmas.Bool.{cases_lt}
 use Rattle.std.proofs.Math.Nat.{pow-le-pow_right, mul-le-mul_right}
-use Rattle.std.proofs.Math.Pow.{pow-lt}
 use Rattle.std.specs.Int.Count.{count_trailing_zeros, count_leading_zeros, under}
 use Rattle.weak_delete.specs.Levels.{level_of, IsMultiple}
 

@@ -1,7 +1,6 @@
 -- The nodes of a Fenwick tree over their places.
-use Rattle.std.proofs.Common.{◌≡◌, ◌≢◌, ℕ, zero, suc, ◌+◌, ◌-◌, ◌*◌, ◌^◌, ◌<◌, ◌≤◌, ◌⊎◌, inl, inr, Bool, if◌then◌else◌, List, length, take, set, get_or, true, false, cond, IsTrue, min, refl, sym, ap, subst, ◌∙◌, arith, get_or-set_same, get_or-set_other}
+use Rattle.std.proofs.Common.{◌≡◌, ℕ, ◌+◌, ◌-◌, ◌*◌, ◌^◌, ◌<◌, ◌≤◌, ◌⊎◌, inl, inr, Bool, if◌then◌else◌, List, length, take, set, get_or, true, false, cond, refl, sym, ap, subst, ◌∙◌, arith, get_or-set_same, get_or-set_other}
 use Rattle.std.specs.List.{sum_by, count_by}
-use Rattle.std.proofs.lemmas.Nat.{pow_pos}
 use Rattle.std.proofs.Math.Seq.{take-set-lt}
 use Rattle.std.proofs.lemmas.List.{take-take, take-set-le, get_or_past, get_or_read, get_or-take, length-take, length-set}
 use Rattle.std.proofs.lemmas.List.Sums.{sum_by-take-le, sum_by-set, sum_by_more, count_by-le-length}
@@ -10,8 +9,8 @@ use Rattle.std.proofs.lemmas.Bool.Decides.{nat_tests}
 use Rattle.weak_delete.specs.declared.place.Place.{Place}
 use Rattle.weak_delete.specs.declared.live_counts.Node.{Node}
 use Rattle.weak_delete.specs.Places.{is_live, live_amount, IsLive, cleared, no_place}
-use Rattle.weak_delete.specs.Levels.{level_of, IsMultiple}
-use Rattle.weak_delete.proofs.Levels.{level_of-middle, starts_inside, pow_next, pow_level_of-le, halved, IsHalved}
+use Rattle.weak_delete.specs.Levels.{level_of}
+use Rattle.weak_delete.proofs.Levels.{starts_inside, IsHalved}
 use Rattle.weak_delete.specs.Fenwick.{IsOver, AreNodes, start_of, no_node}
 
 -- a shorter prefix weighs no more

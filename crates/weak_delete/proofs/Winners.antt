@@ -1,16 +1,17 @@
 -- The winners of blocks of places.
-use Rattle.std.proofs.Common.{◌≡◌, ◌≢◌, ℕ, zero, suc, ◌+◌, ◌-◌, ◌*◌, ◌/◌, ◌%◌, ◌^◌, ◌<◌, ◌≤◌, ◌⊎◌, inl, inr, max, Option, None, Some, List, [], ◌∷◌, ◌&&◌, cond, if◌then◌else◌, nat_le, slice_range, add-zero, IsTrue, ◌↔◌, length, take, drop, set, get_or, true, false, Bool, refl, sym, ap, subst, ◌∙◌, arith, mod-lt, length-set, get_or-set_same, get_or-set_other}
+use Rattle.std.proofs.Common.{◌≡◌, ◌≢◌, ℕ, zero, suc, ◌+◌, ◌-◌, ◌*◌, ◌/◌, ◌%◌, ◌^◌, ◌<◌, ◌≤◌, inl, inr, max, Option, None, Some, List, [], ◌∷◌, ◌&&◌, cond, if◌then◌else◌, nat_le, slice_range, add-zero, IsTrue, ◌↔◌, length, get_or, true, false, Bool, refl, sym, ap, subst, ◌∙◌, arith, mod-lt, length-set, get_or-set_other}
 use Rattle.std.proofs.lemmas.Nat.{pow_pos, shr-shr, div-add-mod'}
-use Rattle.std.proofs.lemmas.List.{get_or_past, get_or_read, get_or-take, get_or-drop, length-take, length-drop}
-use Rattle.std.specs.List.{position_from}
+use Rattle.std.proofs.lemmas.List.{get_or_past, get_or-take, get_or-drop, length-take, length-drop}
+use Rattle.std.specs.List.{position_from, position_or_len}
+use Rattle.std.proofs.lemmas.List.Sums.{fails_before_first, passes_at_first}
 use Rattle.std.proofs.lemmas.Bool.Decides.{nat_tests}
 use Rattle.std.proofs.lemmas.Bool.{cases_lt, cases_eq, cases_order}
-use Rattle.std.proofs.Math.Nat.{pow-le-pow_right, mul-le-mul_right}
+use Rattle.std.proofs.Math.Nat.{mul-le-mul_right}
 use Rattle.weak_delete.specs.declared.place.Place.{Place}
 use Rattle.weak_delete.specs.Places.{place_at, no_place, cleared, is_live_at_least}
 use Rattle.weak_delete.specs.Levels.{level_of, IsMultiple}
 use Rattle.weak_delete.specs.Tournament.{rank_of, rank_at, winner_rank, IsBelowBound, IsGreatest, IsWinnerAt, AreWinnersBelow, IsPlayed}
-use Rattle.weak_delete.proofs.Levels.{halved, IsHalved, starts_inside, pow_next, pow_level_of-le, level_of-middle, middle_of, times_below, below_from_pow}
+use Rattle.weak_delete.proofs.Levels.{IsHalved, pow_next, pow_level_of-le, level_of-middle, middle_of, times_below, below_from_pow}
 
 pub rank_at-past : (places : List Place) (k : ℕ) → length places ≤ k → rank_at places k ≡ 0
 rank_at-past places k past = ap rank_of (get_or_past places k no_place past)
@@ -301,3 +302,36 @@ inside_places places start end bound some = elim (cases_lt start (length places)
   | inl within ↦ within
   | inr past ↦ absurd (some (λ k after before. omega (arith, rank_at-past places k (omega arith))))
 ]
+
+-- ---- what callers learn from the clause of the search
+position_from-found : {X : Type 0} (p : X → Bool) (from : ℕ) (xs : List X) (d : X) (k : ℕ) → Some k ≡ position_from p from xs
+    → (position_or_len p xs < length xs) × (k ≡ from + position_or_len p xs)
+position_from-found p from xs d k found = elim (cases_lt (position_or_len p xs) (length xs)) [
+  | inl within ↦
+      let is = position_from-is p from (position_or_len p xs) xs d within (λ j h. fails_before_first p xs j d h) (passes_at_first p xs d within) in
+      (within, cc (found, is))
+  | inr past ↦
+      let none = position_from-none p from xs d (λ j h. fails_before_first p xs j d (omega arith)) in
+      absurd (cc (found, none))
+]
+
+module _ (places : List Place) (from to bound : ℕ) (order : from ≤ to) (within : to ≤ length places) where
+  -- the place that was found is in the range, is live and reaches the bound, and no place before it is and does
+  pub next_found : (k : ℕ) → Some k ≡ position_from (is_live_at_least bound) from (slice_range places from to)
+      → (from ≤ k) × (k < to) × (is_live_at_least bound (place_at places k) ≡ true) × ((i : ℕ) → from ≤ i → i < k → is_live_at_least bound (place_at places i) ≡ false)
+  next_found k found =
+      let test = is_live_at_least bound in
+      let range = slice_range places from to in
+      let first = position_from-found test from range no_place k found in
+      let long = long_range places from to bound order within in
+      let inside : position_or_len test range < to - from = omega (arith, first.0) in
+      let at = in_range places from to bound order within (position_or_len test range) inside in
+      let here : place_at places (from + position_or_len test range) ≡ place_at places k = ap (place_at places) (sym first.1) in (
+        omega (arith, first.1),
+        omega (arith, first.1),
+        ap test (sym here ∙ sym at) ∙ passes_at_first test range no_place first.0,
+        λ i after before.
+            let place : from + (i - from) ≡ i = omega arith in
+            let low : i - from < position_or_len test range = omega (arith, first.1) in
+            ap test (sym (ap (place_at places) place) ∙ sym (in_range places from to bound order within (i - from) (omega arith))) ∙ fails_before_first test range (i - from) no_place low,
+      )

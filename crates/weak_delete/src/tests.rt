@@ -2,7 +2,7 @@
 ghost use Rattle.std.specs.Prelude.{◌≡◌, ◌^◌, ◌≤◌, IfOk, length, map};
 ghost use Rattle.weak_delete.specs.Places.{IsBuilt, live_place};
 
-use crate::LiveCounts;
+use crate::{LiveCounts, LiveMax};
 use query_laws::NoMemory;
 use query_laws::step_ledger::{SHARES, Steps, blank};
 use std::alloc::Global;
@@ -64,5 +64,49 @@ fn counts_what_is_live(rt: HostRuntime) -> Result<(), Fail> {
     let (numbers, ranks) = counted::<Brand>(rt.alloc(), blank())?;
     assert_eq!(rt; numbers, [3, 20, 1, 8, 0]);
     assert_eq!(rt; ranks, [Some(2), None]);
+    Ok(())
+}
+
+/// Live places of these values, with all turns taken.
+fn most_of<L: Ledger>(
+    alloc: Global,
+    values: &[u32],
+    steps: &mut Steps<L>,
+) -> Result<LiveMax, NoMemory>
+    requires { length values.now ≤ 2 ^ 31 }
+    ensures built { IfOk result (λ most. IsBuilt most) }
+    ensures places { IfOk result (λ most. most.places ≡ map live_place values.now) }
+{
+    let mut most = LiveMax::room(alloc, values.len())?;
+    for value in values {
+        most.put(*value, steps);
+    }
+    most.seal();
+    while most.left() > 0 {
+        most.turn(steps);
+    }
+    Ok(most)
+}
+
+/// The next of four places with a value of 9 and of 5, before and after the second is cleared.
+fn sought<L: Ledger>(alloc: Global, blank: Blank) -> Result<([Option<usize>; 3], u64), NoMemory>
+    requires name { blank.name ≡ L.name }
+    requires parts { blank.parts ≡ L.parts }
+    requires shares { blank.parts ≡ SHARES }
+{
+    let mut steps = Steps::<L>::new(blank);
+    let mut most = most_of(alloc, &[3, 9, 4, 9], &mut steps)?;
+    let before = most.next_at_least(0, 4, 9, &mut steps);
+    most.clear(1, &mut steps);
+    let after = most.next_at_least(0, 4, 9, &mut steps);
+    let none = most.next_at_least(0, 3, 5, &mut steps);
+    Ok(([before, after, none], steps.lap_turns()))
+}
+
+#[test]
+fn finds_the_next_large_one(rt: HostRuntime) -> Result<(), Fail> {
+    let (found, turns) = sought::<Brand>(rt.alloc(), blank())?;
+    assert_eq!(rt; found, [Some(1), Some(3), None]);
+    assert_eq!(rt; turns, 7);
     Ok(())
 }

@@ -1,5 +1,4 @@
-use Rattle.std.proofs.Common.{◌≡◌, ◌+◌, ◌^◌, ◌<◌, ◌≤◌, arith}
-use Rattle.std.proofs.Math.Nat.{pow-le-pow_right}
+use Rattle.std.proofs.Common.{arith}
 use Rattle.weak_delete.proofs.Levels.{level_above}
 use Rattle.weak_delete.proofs.level.level_above.Goals as goal
 

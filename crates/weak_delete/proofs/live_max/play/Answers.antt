@@ -1,7 +1,7 @@
-use Rattle.std.proofs.Common.{◌≡◌, ℕ, ◌+◌, ◌-◌, ◌^◌, ◌<◌, ◌≤◌, Option, None, List, max, length, set, get_or, arith, ap, subst, sym, get_or-set_same, ◌∙◌}
+use Rattle.std.proofs.Common.{◌≡◌, ℕ, ◌+◌, ◌^◌, ◌<◌, Option, None, max, length, set, get_or, arith, ap, subst, sym, get_or-set_same, ◌∙◌}
 use Rattle.query_laws.specs.StepLedger.{Entries}
-use Rattle.weak_delete.specs.Levels.{level_of, IsMultiple}
-use Rattle.weak_delete.specs.Tournament.{winner_rank, IsGreatest, IsWinnerAt}
+use Rattle.weak_delete.specs.Levels.{IsMultiple}
+use Rattle.weak_delete.specs.Tournament.{winner_rank, IsGreatest}
 use Rattle.weak_delete.proofs.Levels.{first_half, second_half, halved_next, pow_next}
 use Rattle.weak_delete.proofs.Winners.{IsWinnerAt-from_block, IsGreatest-both}
 use Rattle.weak_delete.proofs.live_max.play.Goals as goal

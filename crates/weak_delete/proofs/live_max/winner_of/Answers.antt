@@ -1,8 +1,6 @@
-use Rattle.std.proofs.Common.{◌≡◌, ℕ, ◌+◌, ◌-◌, ◌^◌, ◌<◌, ◌≤◌, Option, None, length, get_or, arith, ap, subst, sym, refl, ◌∙◌}
+use Rattle.std.proofs.Common.{◌≡◌, ℕ, ◌+◌, ◌^◌, Option, None, get_or, arith, ap, subst, sym, ◌∙◌}
 use Rattle.std.proofs.lemmas.List.{get_or_read}
-use Rattle.weak_delete.specs.declared.place.Place.{Place}
 use Rattle.weak_delete.specs.Places.{no_place, place_at}
-use Rattle.weak_delete.specs.Levels.{level_of}
 use Rattle.weak_delete.specs.Tournament.{rank_of, rank_at, winner_rank, IsGreatest}
 use Rattle.weak_delete.proofs.Levels.{halved}
 use Rattle.weak_delete.proofs.Winners.{IsWinnerAt-block, IsGreatest-past, IsGreatest-one}

@@ -1,6 +1,6 @@
-use Rattle.std.proofs.Common.{◌≡◌, ℕ, ◌+◌, ◌-◌, ◌^◌, ◌<◌, ◌≤◌, length, arith, ap, sym, refl}
+use Rattle.std.proofs.Common.{◌≡◌, arith, ap, refl}
 use Rattle.query_laws.proofs.Counting.{Spends-then, Spends-within}
-use Rattle.weak_delete.specs.Places.{LivePlaces, live_amount}
+use Rattle.weak_delete.specs.Places.{LivePlaces}
 use Rattle.weak_delete.proofs.Levels.{halved}
 use Rattle.weak_delete.proofs.Nodes.{IsOver-then, IsOver-then_fits}
 use Rattle.weak_delete.proofs.live_counts.LiveCounts.below.Goals as goal

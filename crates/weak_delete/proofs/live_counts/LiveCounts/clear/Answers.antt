@@ -1,10 +1,10 @@
-use Rattle.std.proofs.Common.{◌≡◌, ℕ, ◌+◌, ◌-◌, ◌*◌, ◌^◌, ◌<◌, ◌≤◌, List, length, set, length-set, arith, ap, subst, sym, refl, ◌∙◌, true, false}
+use Rattle.std.proofs.Common.{◌≡◌, ◌<◌, List, length, set, length-set, arith, ap, subst, sym, refl, ◌∙◌, true, false}
 use Rattle.std.specs.List.{sum_by}
 use Rattle.query_laws.specs.StepLedger.{Entries, Spends}
 use Rattle.query_laws.proofs.Counting.{Spends-then, Spends-one_touch, Spends-within}
 use Rattle.weak_delete.specs.declared.place.Place.{Place}
-use Rattle.weak_delete.specs.Places.{LivePlaces, live_amount, cleared, place_at}
-use Rattle.weak_delete.specs.Fenwick.{AreNodes, IsFenwick}
+use Rattle.weak_delete.specs.Places.{LivePlaces, live_amount, cleared}
+use Rattle.weak_delete.specs.Fenwick.{AreNodes}
 use Rattle.weak_delete.proofs.Levels.{halved}
 use Rattle.weak_delete.proofs.Nodes.{IsClearing-second, IsClearing-first, IsClearing-cut, IsClearing-end, IsClearing-node, node-of-live, sum-cleared-le, live_within, unturned-none}
 use Rattle.weak_delete.proofs.live_counts.LiveCounts.clear.Goals as goal

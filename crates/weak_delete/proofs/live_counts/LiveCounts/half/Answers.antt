@@ -1,4 +1,4 @@
-use Rattle.std.proofs.Common.{◌≡◌, ℕ, length, arith, ap, sym, ◌∙◌}
+use Rattle.std.proofs.Common.{◌≡◌, length, ap, ◌∙◌}
 use Rattle.weak_delete.specs.Places.{LivePlaces}
 use Rattle.weak_delete.proofs.Nodes.{node_of_half, built_nodes, unturned-none}
 use Rattle.weak_delete.proofs.live_counts.LiveCounts.half.Goals as goal

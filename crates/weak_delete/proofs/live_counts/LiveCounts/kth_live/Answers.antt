@@ -1,4 +1,4 @@
-use Rattle.std.proofs.Common.{◌≡◌, ℕ, ◌+◌, ◌-◌, ◌^◌, ◌<◌, ◌≤◌, length, take, arith, ap, subst, refl}
+use Rattle.std.proofs.Common.{◌≡◌, ℕ, ◌+◌, ◌-◌, ◌^◌, ◌<◌, length, take, arith, ap, subst, refl}
 use Rattle.std.specs.List.{count_by}
 use Rattle.query_laws.proofs.Counting.{Spends-then, Spends-within}
 use Rattle.weak_delete.specs.Places.{LivePlaces, is_live}

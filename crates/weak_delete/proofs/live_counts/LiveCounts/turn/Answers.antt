@@ -1,8 +1,8 @@
-use Rattle.std.proofs.Common.{◌≡◌, ℕ, ◌+◌, ◌-◌, ◌^◌, ◌<◌, ◌≤◌, List, length, length-set, arith, ap, sym, subst, refl, ◌∙◌}
+use Rattle.std.proofs.Common.{◌≡◌, ℕ, ◌-◌, ◌^◌, List, length-set, arith, ap, sym, subst, refl}
 use Rattle.weak_delete.specs.declared.place.Place.{Place}
 use Rattle.weak_delete.specs.Places.{LivePlaces}
 use Rattle.weak_delete.specs.Levels.{level_of}
-use Rattle.weak_delete.specs.Fenwick.{IsOver, IsFenwick}
+use Rattle.weak_delete.specs.Fenwick.{IsOver}
 use Rattle.weak_delete.proofs.Levels.{pow_level_of-le}
 use Rattle.weak_delete.proofs.Nodes.{AreNodes-turned_end, before-le, IsOver-less, unturned-left}
 use Rattle.weak_delete.proofs.live_counts.LiveCounts.turn.Goals as goal

@@ -1,4 +1,4 @@
-use Rattle.std.proofs.Common.{◌≡◌, ℕ, ◌+◌, ◌-◌, ◌*◌, ◌/◌, ◌%◌, ◌^◌, ◌<◌, ◌≤◌, Option, List, length, set, true, false, arith, ap, subst, sym, refl, length-set, mod-lt, ◌∙◌}
+use Rattle.std.proofs.Common.{◌≡◌, ℕ, ◌+◌, ◌*◌, ◌/◌, ◌%◌, ◌^◌, ◌<◌, List, length, set, false, arith, ap, subst, sym, refl, length-set, mod-lt, ◌∙◌}
 use Rattle.std.proofs.lemmas.List.{get_or_read}
 use Rattle.std.proofs.lemmas.Nat.{div-add-mod', pow_pos}
 use Rattle.query_laws.specs.StepLedger.{Entries}
@@ -6,7 +6,7 @@ use Rattle.query_laws.proofs.Counting.{Spends-nothing, Spends-then, Spends-withi
 use Rattle.weak_delete.specs.declared.place.Place.{Place}
 use Rattle.weak_delete.specs.Places.{IsLive, LivePlaces, cleared, place_at, no_place}
 use Rattle.weak_delete.specs.Levels.{IsMultiple}
-use Rattle.weak_delete.specs.Tournament.{IsTournament, IsPlayed, IsWinnerAt}
+use Rattle.weak_delete.specs.Tournament.{IsPlayed}
 use Rattle.weak_delete.proofs.Levels.{pow_next}
 use Rattle.weak_delete.proofs.Nodes.{live_within}
 use Rattle.weak_delete.proofs.Winners.{IsRepaired, IsRepaired-begin, IsRepaired-play, IsRepaired-skip, IsRepaired-all, IsPlayed-all, IsPlayed-again}

@@ -1,10 +1,9 @@
-use Rattle.std.proofs.Common.{◌≡◌, ℕ, ◌+◌, ◌-◌, ◌*◌, ◌/◌, ◌%◌, ◌^◌, ◌<◌, ◌≤◌, length, arith, ap, subst, sym, ◌∙◌, refl, inl, inr}
+use Rattle.std.proofs.Common.{◌≡◌, ℕ, ◌+◌, ◌^◌, length, arith, ap, subst, sym, ◌∙◌, refl, inl, inr}
 use Rattle.std.proofs.lemmas.Bool.{cases_lt}
 use Rattle.std.proofs.Math.Nat.{le_trans}
 use Rattle.query_laws.proofs.Counting.{Spends-nothing, Spends-then, Spends-within}
 use Rattle.weak_delete.specs.Places.{LivePlaces}
 use Rattle.weak_delete.specs.Levels.{IsMultiple}
-use Rattle.weak_delete.specs.Tournament.{IsBelowBound, rank_at}
 use Rattle.weak_delete.proofs.Levels.{even_block, odd_block}
 use Rattle.weak_delete.proofs.Winners.{first_reaching, none_reaching, missed_from}
 use Rattle.weak_delete.proofs.live_max.LiveMax.next_at_least.Goals as goal

@@ -1,4 +1,4 @@
-use Rattle.std.proofs.Common.{◌+◌, ◌<◌, ◌≤◌}
+use Rattle.std.proofs.Common.{◌<◌, ◌≤◌}
 use Rattle.query_laws.specs.StepLedger.{Spends}
 use Rattle.weak_delete.specs.Levels.{IsMultiple}
 use Rattle.weak_delete.specs.Tournament.{IsBelowBound}

@@ -1,7 +1,6 @@
-use Rattle.std.proofs.Common.{◌≡◌, ℕ, ◌+◌, ◌-◌, ◌*◌, ◌/◌, ◌^◌, ◌<◌, ◌≤◌, Option, List, length, arith, ap, ap₂, sym, ◌∙◌}
+use Rattle.std.proofs.Common.{◌≡◌, ◌+◌, ◌-◌, ◌*◌, ◌/◌, ◌^◌, length, arith, ap, ap₂, sym, ◌∙◌}
 use Rattle.weak_delete.specs.Places.{LivePlaces}
-use Rattle.weak_delete.specs.Levels.{level_of, IsMultiple}
-use Rattle.weak_delete.specs.Tournament.{IsPlayed, IsTournament, IsWinnerAt}
+use Rattle.weak_delete.specs.Levels.{IsMultiple}
 use Rattle.weak_delete.proofs.Levels.{level_of-middle, pow_next}
 use Rattle.weak_delete.proofs.Winners.{IsPlayed-same_level, IsPlayed-next_level}
 use Rattle.weak_delete.proofs.live_max.LiveMax.turn.Goals as goal

@@ -1,6 +1,5 @@
-use Rattle.std.proofs.Common.{◌≡◌, ◌≤◌, arith, ap, ◌∙◌}
+use Rattle.std.proofs.Common.{arith, ap, ◌∙◌}
 use Rattle.weak_delete.specs.Places.{LivePlaces}
-use Rattle.weak_delete.specs.Tournament.{AreWinnersBelow}
 use Rattle.weak_delete.proofs.Winners.{IsPlayed-all}
 use Rattle.weak_delete.proofs.live_max.LiveMax.winner.Goals as goal
 
