@@ -52,7 +52,7 @@ impl Model for LiveCounts {
 }
 
 impl LiveCounts {
-    /// No places yet, and room for `cap`.
+    /// No places yet, and room for `cap` of them, at most 2^31. Nothing else of this type takes memory.
     pub fn room(alloc: Global, cap: usize) -> Result<LiveCounts, NoMemory>
         requires { cap ≤ 2 ^ 31 }
         ensures { IfOk result (λ counts. counts ≡ nothing_put cap) }
@@ -92,7 +92,7 @@ impl LiveCounts {
         if self.sealed { self.unturned as u64 } else { 0 }
     }
 
-    /// Puts a live place of this weight behind the others: one turn.
+    /// Puts a live place of this weight, any u32, behind the others: one turn.
     pub fn put<L: Ledger>(&mut self, weight: u32, steps: &mut Steps<L>)
         requires open { self.old.sealed ≡ false }
         requires room { length self.old.places < self.old.capacity }
@@ -161,7 +161,7 @@ impl LiveCounts {
         steps.turn();
     }
 
-    /// Takes the live place `k` out.
+    /// Takes the live place `k` out of its node in each level of the tree. A caller knows by its own flags that it is live.
     pub fn clear<L: Ledger>(&mut self, k: usize, steps: &mut Steps<L>)
         requires built { IsBuilt self.old }
         requires live { IsLive self.old.places k }
@@ -196,7 +196,7 @@ impl LiveCounts {
         );
     }
 
-    /// The number of live places below `k`.
+    /// The number of live places below `k`: at most one touch for each level of the tree.
     pub fn prefix<L: Ledger>(&self, k: usize, steps: &mut Steps<L>) -> u64
         requires built { IsBuilt self.now }
         requires within { k ≤ length self.now.places }
@@ -206,7 +206,7 @@ impl LiveCounts {
         self.below(k, steps).count as u64
     }
 
-    /// The weight of the live places below `k`.
+    /// The weight of the live places below `k`, which never wraps: at most one touch for each level of the tree.
     pub fn sum_prefix<L: Ledger>(&self, k: usize, steps: &mut Steps<L>) -> u64
         requires built { IsBuilt self.now }
         requires within { k ≤ length self.now.places }
@@ -255,7 +255,8 @@ impl LiveCounts {
         self.nodes.at(end - 1, steps)
     }
 
-    /// The live place with exactly `j` live places below it.
+    /// The live place with exactly `j` live places below it, or None where at most `j` are live: at most one touch for each
+    /// level of the tree.
     pub fn kth_live<L: Ledger>(&self, j: usize, steps: &mut Steps<L>) -> Option<usize>
         requires built { IsBuilt self.now }
         ensures found { IfSome result (λ k. IsLive self.now.places k) }

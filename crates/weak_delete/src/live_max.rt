@@ -130,7 +130,7 @@ fn play<L: Ledger>(
 }
 
 impl LiveMax {
-    /// No places yet, and room for `cap`.
+    /// No places yet, and room for `cap` of them, at most 2^31. Nothing else of this type takes memory.
     pub fn room(alloc: Global, cap: usize) -> Result<LiveMax, NoMemory>
         requires { cap ≤ 2 ^ 31 }
         ensures { IfOk result (λ most. most ≡ nothing_put cap) }
@@ -171,7 +171,7 @@ impl LiveMax {
         self.left as u64
     }
 
-    /// Puts a live place of this value behind the others: one turn.
+    /// Puts a live place of this value, any u32, behind the others: one turn.
     pub fn put<L: Ledger>(&mut self, value: u32, steps: &mut Steps<L>)
         requires open { self.old.sealed ≡ false }
         requires room { length self.old.places < self.old.capacity }
@@ -218,7 +218,8 @@ impl LiveMax {
         steps.turn();
     }
 
-    /// Takes the live place `k` out.
+    /// Takes the live place `k` out, and finds the winners of the blocks that hold it anew, from the small ones to the large. A
+    /// caller knows by its own flags that it is live.
     pub fn clear<L: Ledger>(&mut self, k: usize, steps: &mut Steps<L>)
         requires built { IsBuilt self.old }
         requires live { IsLive self.old.places k }
@@ -245,6 +246,9 @@ impl LiveMax {
     }
 
     /// The first live place from `from` on and below `to` whose value is at least `bound`.
+    ///
+    /// It goes up from `from` over blocks that grow, until one has such a winner, and down to the place in that block. So each
+    /// level costs at most two touches.
     pub fn next_at_least<L: Ledger>(
         &self,
         from: usize,
