@@ -1,0 +1,4 @@
+pub mod Parts
+pub mod Builders
+pub mod Askings
+pub mod Rebuilding
