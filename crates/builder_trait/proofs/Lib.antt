@@ -1,2 +1,4 @@
 pub mod Kept
 pub mod RebuildingLemmas
+pub mod Places
+pub mod Marking
