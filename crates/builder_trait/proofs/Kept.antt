@@ -102,11 +102,11 @@ module _ {A : Type 0} where
       same_lists (map (λ p. get_or xs p d) (range_with_len 0 (length xs))) xs
       (length-map (range_with_len 0 (length xs)) (λ p. get_or xs p d) ∙ length-range_with_len 0 (length xs))
       (λ k e below.
-          let within : k < length (range_with_len 0 (length xs)) = omega (arith, length-map (range_with_len 0 (length xs)) (λ p. get_or xs p d)) in
-          let inside : k < length xs = omega (arith, length-range_with_len 0 (length xs)) in
-          get_or-map (λ p. get_or xs p d) (range_with_len 0 (length xs)) k 0 e within
-          ∙ ap (λ p. get_or xs p d) (get_or-range_with_len 0 (length xs) k 0 inside ∙ zero-add k)
-          ∙ get_or_default xs k d e inside)
+      let within : k < length (range_with_len 0 (length xs)) = omega (arith, length-map (range_with_len 0 (length xs)) (λ p. get_or xs p d)) in
+      let inside : k < length xs = omega (arith, length-range_with_len 0 (length xs)) in
+      get_or-map (λ p. get_or xs p d) (range_with_len 0 (length xs)) k 0 e within
+      ∙ ap (λ p. get_or xs p d) (get_or-range_with_len 0 (length xs) k 0 inside ∙ zero-add k)
+      ∙ get_or_default xs k d e inside)
 
 module _ {A B : Type 0} where
   -- as many are kept in another order
@@ -116,7 +116,7 @@ module _ {A B : Type 0} where
   length-kept_reordered flags xs places ys e f p =
       let flag : ℕ → Bool = λ p. get_or flags p false in
       let reads : Permuted (map flag places) (map flag (range_with_len 0 (length flags))) =
-          Permuted-map flag (subst (λ n. Permuted places (range_with_len 0 n)) (sym e) p) in
+      Permuted-map flag (subst (λ n. Permuted places (range_with_len 0 n)) (sym e) p) in
       let same : Permuted (map flag places) flags = subst (λ l. Permuted (map flag places) l) (map-get_or_range flags false) reads in
       length-items_where_true (map flag places) ys (length-map places flag ∙ f)
       ∙ Permuted-length (Permuted-filter (λ b. b) same)

@@ -6,7 +6,7 @@ use Rattle.std.proofs.lemmas.Bool.Decides.{nat_tests}
 use Rattle.std.proofs.lemmas.Option.{slice_get-get_or, slice_get_within, slice_get_cases, get_or_from_slice_get, same_Some}
 use Rattle.std.proofs.lemmas.List.Elements.{All-head, All-tail}
 use Rattle.query_laws.specs.Orders.{IsStrictTotalOrder}
-use Rattle.builder_trait.specs.Parts.{IsRising, OwnsStamp, has_stamp, without}
+use Rattle.builder_trait.specs.Parts.{Contents, IsRising, OwnsStamp, has_stamp, without, marked}
 
 -- a test of two numbers that are, or aren't, the same
 test_same : (a b : ℕ) → a ≡ b → (a == b) ≡ true
@@ -25,7 +25,7 @@ dead_now false = refl
 
 module _ {Item : Type 0} (stamp : Item → ℕ) (dead : ℕ) where
   -- the flags after the mark
-  abbrev fallen : List Item → List Bool → List Bool
+  abbrev pub fallen : List Item → List Bool → List Bool
   fallen xs flags = map (λ held. held.1 && not (stamp held.0 == dead)) (zip xs flags)
 
   -- the live items after it are those without the stamp, whatever the items are
@@ -45,6 +45,14 @@ module _ {Item : Type 0} (stamp : Item → ℕ) (dead : ℕ) where
       head_kept (stamp x == dead) true x (fallen xs flags) xs
       ∙ ap (λ l. cond (not (stamp x == dead)) (x ∷ l) l) (items-fallen xs flags)
   items-fallen (x ∷ xs) (false ∷ flags) = items-fallen xs flags
+
+  -- flags that stay
+  pub marked-same : (part : Contents Item) → fallen part.items part.flags ≡ part.flags → part ≡ marked stamp dead part
+  marked-same part same = ap (λ l. record part { flags = l }) (sym same)
+
+  pub without-same : (part : Contents Item) → fallen part.items part.flags ≡ part.flags
+      → items_where_true part.flags part.items ≡ without stamp dead (items_where_true part.flags part.items)
+  without-same part same = ap (λ l. items_where_true l part.items) (sym same) ∙ items-fallen part.items part.flags
 
   -- no item has the stamp: nothing changes, and no live item has it
   pub fallen_none : (xs : List Item) (flags : List Bool) → length flags ≡ length xs → All (λ x. stamp x ≢ dead) xs → fallen xs flags ≡ flags
@@ -145,11 +153,11 @@ module _ {Item : Type 0} where
         let no : before x x ≡ false = order.irreflexive x in
         ⊎_elim
         (λ earlier.
-            let both : IsTrue (before x x) = subst (λ y. IsTrue (before y x)) is (subst (λ y. IsTrue (before (get_or xs j d) y)) itself
-                (rising j k d earlier (slice_get_within xs k x at))) in absurd cc)
+        let both : IsTrue (before x x) = subst (λ y. IsTrue (before y x)) is (subst (λ y. IsTrue (before (get_or xs j d) y)) itself
+        (rising j k d earlier (slice_get_within xs k x at))) in absurd cc)
         (λ later.
-            let both : IsTrue (before x x) = subst (λ y. IsTrue (before y x)) itself (subst (λ y. IsTrue (before (get_or xs k d) y)) is
-                (rising k j d (later_than j k other later) below)) in absurd cc)
+        let both : IsTrue (before x x) = subst (λ y. IsTrue (before y x)) itself (subst (λ y. IsTrue (before (get_or xs k d) y)) is
+        (rising k j d (later_than j k other later) below)) in absurd cc)
         (cases_lt j k);
   }
     where

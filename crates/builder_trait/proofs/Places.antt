@@ -50,7 +50,7 @@ filter-equal m (p ∷ ps) apart =
         ∙ ap (λ l. p ∷ l) (none_equal m ps apart_from) ∙ ap (λ q. q ∷ []) same)
     by false test later =
         let step : filter (λ q. q == m) (p ∷ ps) ≡ filter (λ q. q == m) ps =
-            cond-false (p == m) (p ∷ filter (λ r. r == m) ps) (filter (λ r. r == m) ps) test in
+        cond-false (p == m) (p ∷ filter (λ r. r == m) ps) (filter (λ r. r == m) ps) test in
         ⊎_elim (λ none. inl (step ∙ none)) (λ one. inr (step ∙ one)) later
 
 -- the others of a list, where a number is taken out
@@ -69,20 +69,21 @@ one_more n ps apart few all = ⊎_elim without with_it (filter-equal n ps apart)
     without : filter (λ p. p == n) ps ≡ [] → (length ps ≤ suc n) × (length ps ≡ suc n → Permuted ps (range_with_len 0 (suc n)))
     without none =
         let counted : length (others n ps) ≡ length ps =
-            ap (λ l. length (l ++ others n ps)) (sym none) ∙ Permuted-length parted in
+        ap (λ l. length (l ++ others n ps)) (sym none) ∙ Permuted-length parted in
         (omega arith, λ e. absurd (omega arith))
 
     with_it : filter (λ p. p == n) ps ≡ n ∷ [] → (length ps ≤ suc n) × (length ps ≡ suc n → Permuted ps (range_with_len 0 (suc n)))
     with_it one =
         let counted : suc (length (others n ps)) ≡ length ps =
-            ap (λ l. length (l ++ others n ps)) (sym one) ∙ Permuted-length parted in
-        let split : Permuted ((n ∷ []) ++ others n ps) ps = subst (λ l. Permuted (l ++ others n ps) ps) one parted in
-        (omega arith,
-        λ e. let low : Permuted (others n ps) (range_with_len 0 n) = all (omega arith) in
-            let next : suc n ≡ n + 1 = omega arith in
-            let more : range_with_len 0 (suc n) ≡ range_with_len 0 n ++ n ∷ [] = ap (range_with_len 0) next ∙ range-more n in
-            subst (λ l. Permuted ps l) (sym more)
-            (composed (Permuted-sym split) (composed (same_head n low) (Permuted-append_comm (n ∷ []) (range_with_len 0 n)))))
+        ap (λ l. length (l ++ others n ps)) (sym one) ∙ Permuted-length parted in
+        let split : Permuted ((n ∷ []) ++ others n ps) ps = subst (λ l. Permuted (l ++ others n ps) ps) one parted in (
+          omega arith,
+          λ e. let low : Permuted (others n ps) (range_with_len 0 n) = all (omega arith) in
+              let next : suc n ≡ n + 1 = omega arith in
+              let more : range_with_len 0 (suc n) ≡ range_with_len 0 n ++ n ∷ [] = ap (range_with_len 0) next ∙ range-more n in
+              subst (λ l. Permuted ps l) (sym more)
+              (composed (Permuted-sym split) (composed (same_head n low) (Permuted-append_comm (n ∷ []) (range_with_len 0 n)))),
+        )
 
 -- the others are below it
 All-others : (n : ℕ) (ps : List ℕ) → All (λ p. p < suc n) ps → All (λ p. p < n) (others n ps)
@@ -121,9 +122,9 @@ module _ {Item : Type 0} (items reordered : List Item) (places : List ℕ) (plac
   All-placed =
       All-from_get_or (λ p. p < length items) places 0
       (λ k within. ⊎_elim
-          (λ (x, inside, at, _). slice_get_within items (slice_index places k) x (slice_get-placed k x at))
-          (λ (past, _). absurd (omega (arith, length-placed)))
-          (slice_get_cases reordered k).1)
+      (λ (x, inside, at, _). slice_get_within items (slice_index places k) x (slice_get-placed k x at))
+      (λ (past, _). absurd (omega (arith, length-placed)))
+      (slice_get_cases reordered k).1)
 
   module _ {stamp : Item → ℕ} {before : Item → Item → Bool} (order : IsStrictTotalOrder stamp before) (rising : IsRising before reordered) where
     -- items that rise are at different places
@@ -131,13 +132,13 @@ module _ {Item : Type 0} (items reordered : List Item) (places : List ℕ) (plac
     AllApart-placed i j d below within same =
         ⊎_elim
         (λ (y, inside, at, read).
-            let earlier : slice_get reordered i ≡ Some (get_or reordered i y) = slice_get-get_or reordered i y (omega arith) in
-            let there : slice_get items (get_or places j d) ≡ Some y = place_at j y at in
-            let here : slice_get items (get_or places i d) ≡ Some (get_or reordered i y) = place_at i (get_or reordered i y) earlier in
-            let equal : get_or reordered i y ≡ y = same_Some (get_or reordered i y) y (sym here ∙ ap (slice_get items) same ∙ there) in
-            let itself : IsTrue (before y y) =
-                subst (λ z. IsTrue (before z y)) equal (subst (λ z. IsTrue (before (get_or reordered i y) z)) read (rising i j y below inside)) in
-            absurd (let no : before y y ≡ false = order.irreflexive y in cc))
+        let earlier : slice_get reordered i ≡ Some (get_or reordered i y) = slice_get-get_or reordered i y (omega arith) in
+        let there : slice_get items (get_or places j d) ≡ Some y = place_at j y at in
+        let here : slice_get items (get_or places i d) ≡ Some (get_or reordered i y) = place_at i (get_or reordered i y) earlier in
+        let equal : get_or reordered i y ≡ y = same_Some (get_or reordered i y) y (sym here ∙ ap (slice_get items) same ∙ there) in
+        let itself : IsTrue (before y y) =
+        subst (λ z. IsTrue (before z y)) equal (subst (λ z. IsTrue (before (get_or reordered i y) z)) read (rising i j y below inside)) in
+        absurd (let no : before y y ≡ false = order.irreflexive y in cc))
         (λ (past, _). absurd (omega (arith, length-placed)))
         (slice_get_cases reordered j).1
       where
@@ -159,11 +160,11 @@ module _ {Item : Type 0} where
       same_lists (map (slice_get xs) (range_with_len 0 (length xs))) (map Some xs)
       (length-map (range_with_len 0 (length xs)) (slice_get xs) ∙ length-range_with_len 0 (length xs) ∙ sym (length-map xs Some))
       (λ k o within.
-          let inside : k < length xs =
-              omega (arith, length-map (range_with_len 0 (length xs)) (slice_get xs), length-range_with_len 0 (length xs)) in
-          get_or-map (slice_get xs) (range_with_len 0 (length xs)) k 0 o (omega (arith, length-range_with_len 0 (length xs)))
-          ∙ ap (slice_get xs) (get_or-range_with_len 0 (length xs) k 0 inside ∙ zero-add k)
-          ∙ read k o inside)
+      let inside : k < length xs =
+      omega (arith, length-map (range_with_len 0 (length xs)) (slice_get xs), length-range_with_len 0 (length xs)) in
+      get_or-map (slice_get xs) (range_with_len 0 (length xs)) k 0 o (omega (arith, length-range_with_len 0 (length xs)))
+      ∙ ap (slice_get xs) (get_or-range_with_len 0 (length xs) k 0 inside ∙ zero-add k)
+      ∙ read k o inside)
     where
       read : (k : ℕ) (o : Option Item) → k < length xs → slice_get xs k ≡ get_or (map Some xs) k o
       read k o inside =
@@ -191,7 +192,7 @@ module _ {Item : Type 0} where
       → length part.flags ≡ length part.items → IsPart before part
   IsPart-from_rising part order rising rising_reordered placed as_many flagged =
       let each : Permuted part.places (range_with_len 0 (length part.items)) =
-          Permuted-placed part.items part.reordered part.places placed order rising_reordered as_many in
+      Permuted-placed part.items part.reordered part.places placed order rising_reordered as_many in
       record {
         rising = rising;
         rising_reordered = rising_reordered;

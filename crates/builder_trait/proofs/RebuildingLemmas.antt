@@ -25,7 +25,7 @@ module _ {Item : Type 0} {before : ℕ → Item → Item → Bool} {part : Conte
       let within : k < length part.places = omega (arith, slice_get_within part.reordered k x at, length-reordered, length-places) in
       let here : slice_get part.places k ≡ Some (slice_index part.places k) = slice_get-get_or part.places k 0 within in
       let both : slice_get (map (slice_get part.items) part.places) k ≡ slice_get (map Some part.reordered) k =
-          ap (λ l. slice_get l k) valid.placed in
+      ap (λ l. slice_get l k) valid.placed in
       same_Some (slice_get part.items (slice_index part.places k)) (Some x)
       (sym (slice_get-map (slice_get part.items) part.places k ∙ ap (option_map (slice_get part.items)) here)
       ∙ both ∙ slice_get-map Some part.reordered k ∙ ap (option_map Some) at)
@@ -43,7 +43,7 @@ module _ {Item : Type 0} {before : ℕ → Item → Item → Bool} {part : Conte
       → slice_get part.flags (slice_index part.places k) ≡ Some flag → slice_get (flags_reordered part) k ≡ Some flag
   slice_get-flags_reordered k flag below at =
       let here : slice_get part.places k ≡ Some (slice_index part.places k) =
-          slice_get-get_or part.places k 0 (omega (arith, length-places)) in
+      slice_get-get_or part.places k 0 (omega (arith, length-places)) in
       slice_get-map (λ p. get_or part.flags p false) part.places k ∙ ap (option_map (λ p. get_or part.flags p false)) here
       ∙ ap Some (get_or_from_slice_get part.flags (slice_index part.places k) flag false at)
 
@@ -58,8 +58,8 @@ module _ {Item : Type 0} {before : ℕ → Item → Item → Bool} {part : Conte
   pub length-live_reordered_before : length (live_reordered_before (length part.items) part) ≡ length (items_where_true part.flags part.items)
   length-live_reordered_before =
       let flags : take (length part.items) (flags_reordered part) ≡ flags_reordered part =
-          take_all (length part.items) (flags_reordered part)
-          (omega (arith, length-map part.places (λ p. get_or part.flags p false), length-places)) in
+      take_all (length part.items) (flags_reordered part)
+      (omega (arith, length-map part.places (λ p. get_or part.flags p false), length-places)) in
       let items : take (length part.items) part.reordered ≡ part.reordered = take_all (length part.items) part.reordered (omega (arith, length-reordered)) in
       ap (λ l. length (items_where_true l (take (length part.items) part.reordered))) flags
       ∙ ap (λ l. length (items_where_true (flags_reordered part) l)) items
@@ -70,8 +70,12 @@ module _ {Item : Type 0} {before : ℕ → Item → Item → Bool} {part : Conte
       → length (items_where_true part.flags part.items) ≤ 2 ^ b.at_level → rank ≡ length (live_before k part)
       → slice_get part.flags k ≡ Some true → slice_get part.items k ≡ Some x → FitsFirst (before 0) b x rank
   FitsFirst-live b k x rank items none fits ranked stands at = record {
-    room = omega (arith, ap length items, slice_get_within (items_where_true part.flags part.items) (length (live_before k part)) x
-        (slice_get-kept part.flags part.items k x stands at));
+    room = omega (
+      arith,
+      ap length items,
+      slice_get_within (items_where_true part.flags part.items) (length (live_before k part)) x
+          (slice_get-kept part.flags part.items k x stands at),
+    );
     none_reordered = none;
     next_place = ranked ∙ sym (ap length items);
     after = subst (λ l. All (λ y. IsTrue (before 0 y x)) l) (sym items)
@@ -88,7 +92,7 @@ module _ {Item : Type 0} {before : ℕ → Item → Item → Bool} {part : Conte
   FitsSecond-live b k x ranks rank items others noted read below stands at =
       let place : ℕ = slice_index part.places k in
       let ranked : length (live_before place part) ≡ rank =
-          same_Some (length (live_before place part)) rank (sym (noted place (place_within k below)) ∙ read) in
+      same_Some (length (live_before place part)) rank (sym (noted place (place_within k below)) ∙ read) in
       record {
         at_place = ap (λ l. slice_get l rank) items ∙ ap (slice_get (items_where_true part.flags part.items)) (sym ranked)
             ∙ slice_get-kept part.flags part.items place x stands (placed-at k x at);

@@ -220,7 +220,7 @@ pub fn rebuilt<B: Builder, L: Ledger>(
     ensures cost { let n = length (B.Part.Part.live_items part.now) in
         let left = steps.new.turns - steps.old.turns - 2 * n in
         OnOk result (Spends steps.old steps.new (2 * n + left) 0
-            (28 * length (B.Part.Part.contents part.now).items + 16 * left)) }
+        (28 * length (B.Part.Part.contents part.now).items + 16 * left)) }
     ensures refused { OnErr result (steps.new ≡ steps.old) }
 {
     let mut ranks = Row::room(alloc, part.len())?;

@@ -9,6 +9,7 @@
 mod asking;
 mod at_once;
 mod builder;
+pub mod flat;
 mod part;
 
 pub use asking::{Asking, Given};

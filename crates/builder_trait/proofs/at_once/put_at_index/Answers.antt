@@ -27,8 +27,8 @@ put-requires-clause-second g c =
     λ _. let stands = subst (λ p. slice_get (g.B.Part.Part.contents c.args.part.now).flags p ≡ Some true) c.place-place.ensures.value c.if-not-alive.ensures.value in
     let read = subst (λ p. slice_get c.args.ranks.now.items p ≡ Some c.at-rank.result) c.place-place.ensures.value c.at-rank.ensures.read in
     FitsSecond-live c.requires.valid (g.B.Builder.progress c.args.builder.now) c.args.k c.item-item.result c.args.ranks.now.items c.at-rank.result
-        (ap (λ p. p.items) c.requires.read ∙ g.met.B.Part.Part.live_by_flags c.args.part.now) (ap (λ p. p.reordered) c.requires.read)
-        c.requires.ranked read c.requires.index stands c.item-item.ensures.value
+    (ap (λ p. p.items) c.requires.read ∙ g.met.B.Part.Part.live_by_flags c.args.part.now) (ap (λ p. p.reordered) c.requires.read)
+    c.requires.ranked read c.requires.index stands c.item-item.ensures.value
 
 pub returns-clause-read : goal.returns-clause-read
 returns-clause-read g c =
@@ -38,5 +38,5 @@ returns-clause-read g c =
     let places = ap (λ p. p.places) c.put.ensures.added in
     c.put.ensures.added
     ∙ ap (λ l. record (g.B.Builder.progress c.args.builder.now) { reordered = l; places = (g.B.Builder.progress c.args.builder.now).places ++ c.at-rank.result ∷ [] })
-        (ap (λ l. l ++ c.item-item.result ∷ []) was ∙ sym more)
+    (ap (λ l. l ++ c.item-item.result ∷ []) was ∙ sym more)
     ∙ ap (λ ps. record (g.B.Builder.progress c.args.builder.now) { reordered = live_reordered_before (c.args.k + 1) (g.B.Part.Part.contents c.args.part.now); places = ps }) (sym places)

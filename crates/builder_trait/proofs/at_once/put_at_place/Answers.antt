@@ -16,9 +16,9 @@ returns-then-not-alive-clause-ranked g c =
 pub put-requires-clause-first : goal.put-requires-clause-first
 put-requires-clause-first g c =
     λ _. FitsFirst-live c.requires.valid (g.B.Builder.progress c.args.builder.now) c.args.k c.item-item.result c.args.rank
-        (ap (λ p. p.items) c.requires.read) (ap (λ p. p.reordered) c.requires.read)
-        (omega (arith, ap length (g.met.B.Part.Part.live_by_flags c.args.part.now))) c.requires.ranked
-        c.if-not-alive.ensures.value c.item-item.ensures.value
+    (ap (λ p. p.items) c.requires.read) (ap (λ p. p.reordered) c.requires.read)
+    (omega (arith, ap length (g.met.B.Part.Part.live_by_flags c.args.part.now))) c.requires.ranked
+    c.if-not-alive.ensures.value c.item-item.ensures.value
 
 pub overflow_add-result : goal.overflow_add-result
 overflow_add-result g c =

@@ -15,6 +15,6 @@ pub returns-clause-cost : goal.returns-clause-cost
 returns-clause-cost g c =
     let ended : c.loop-k.k ≡ length (g.B.Part.Part.contents c.args.part.now).items = omega arith in
     let all = ap (λ p. length p.reordered) c.loop-k.invariant.read
-        ∙ ap (λ k. length (live_reordered_before k (g.B.Part.Part.contents c.args.part.now))) ended
-        ∙ length-live_reordered_before c.len-k-end.ensures.valid ∙ sym (ap length (g.met.B.Part.Part.live_by_flags c.args.part.now)) in
+    ∙ ap (λ k. length (live_reordered_before k (g.B.Part.Part.contents c.args.part.now))) ended
+    ∙ length-live_reordered_before c.len-k-end.ensures.valid ∙ sym (ap length (g.met.B.Part.Part.live_by_flags c.args.part.now)) in
     Spends-within c.loop-k.invariant.spent all refl (omega arith)
