@@ -1,9 +1,9 @@
 -- What the mark of an item does to the flags and to the live items.
-use Rattle.std.proofs.Common.{◌≡◌, ◌≢◌, ℕ, zero, suc, ◌+◌, ◌<◌, ◌≤◌, ◌==◌, Bool, true, false, not, ◌&&◌, ◌||◌, cond, IsTrue, List, [], ◌∷◌, ◌++◌, length, map, set, get_or, refl, sym, ap, ◌∙◌, arith, subst, add-one, Some, None, slice_get, All, AllPairs, ◌⊎◌, inl, inr, ⊎_elim}
-use Rattle.std.specs.List.{filter, list_any, zip, items_where_true}
+use Rattle.std.proofs.Common.{◌≡◌, ◌≢◌, ℕ, zero, suc, ◌+◌, ◌<◌, ◌≤◌, ◌==◌, Bool, true, false, not, ◌&&◌, ◌||◌, cond, IsTrue, List, [], ◌∷◌, length, map, set, get_or, refl, sym, ap, ◌∙◌, arith, subst, add-one, Some, slice_get, All, ⊎_elim}
+use Rattle.std.specs.List.{zip, items_where_true}
 use Rattle.std.proofs.lemmas.Bool.{cases_lt}
 use Rattle.std.proofs.lemmas.Bool.Decides.{nat_tests}
-use Rattle.std.proofs.lemmas.Option.{slice_get-get_or, slice_get_within, slice_get_cases, get_or_from_slice_get, same_Some}
+use Rattle.std.proofs.lemmas.Option.{slice_get_within, get_or_from_slice_get, same_Some}
 use Rattle.std.proofs.lemmas.List.Elements.{All-head, All-tail}
 use Rattle.query_laws.specs.Orders.{IsStrictTotalOrder}
 use Rattle.builder_trait.specs.Parts.{Contents, IsRising, OwnsStamp, has_stamp, without, marked}

@@ -1,17 +1,17 @@
 -- Lists of places: different ones below n are at most n, and n of them are all places.
-use Rattle.std.proofs.Common.{◌≡◌, ◌≢◌, ℕ, zero, suc, ◌+◌, ◌<◌, ◌≤◌, ◌==◌, Bool, true, false, not, cond, IsTrue, List, [], ◌∷◌, ◌++◌, length, map, get_or, refl, sym, ap, ◌∙◌, arith, subst, Some, None, slice_get, slice_index, All, AllPairs, ◌⊎◌, inl, inr, ⊎_elim, unwrap_or, Option, zero-add}
+use Rattle.std.proofs.Common.{◌≡◌, ◌≢◌, ℕ, zero, suc, ◌+◌, ◌<◌, ◌≤◌, ◌==◌, Bool, true, false, not, cond, IsTrue, List, [], ◌∷◌, ◌++◌, length, map, get_or, refl, sym, ap, ◌∙◌, arith, subst, Some, slice_get, slice_index, All, AllPairs, ◌⊎◌, inl, inr, ⊎_elim, unwrap_or, Option, zero-add}
 use Rattle.std.specs.List.{filter, range_with_len}
 use Rattle.std.specs.Option.{option_map}
-use Rattle.std.proofs.lemmas.Bool.{cond-true, cond-false, cases_Bool, eqb-true}
+use Rattle.std.proofs.lemmas.Bool.{cond-true, cond-false, eqb-true}
 use Rattle.std.proofs.lemmas.Bool.Decides.{nat_tests}
-use Rattle.std.proofs.lemmas.Option.{slice_get-get_or, slice_get-map, slice_get_within, slice_get_cases, get_or_from_slice_get, same_Some}
+use Rattle.std.proofs.lemmas.Option.{slice_get-get_or, slice_get-map, slice_get_within, slice_get_cases, same_Some}
 use Rattle.std.proofs.lemmas.List.{length-map, same_lists, get_or-map, get_or_default, map-id}
-use Rattle.std.proofs.lemmas.List.Elements.{All-filter, All-head, All-tail, All-from_get_or, All-get_or, filter_passes}
+use Rattle.std.proofs.lemmas.List.Elements.{All-filter, All-head, All-tail, All-from_get_or, filter_passes}
 use Rattle.std.proofs.lemmas.List.Kept.{AllPairs-filter}
 use Rattle.std.proofs.lemmas.List.FromFn.{length-range_with_len, map-range_with_len_more, get_or-range_with_len}
 use Rattle.query_laws.specs.Orders.{IsStrictTotalOrder}
-use Rattle.query_laws.specs.Permuted.{Permuted, nothing, same_head, swapped_heads, composed}
-use Rattle.query_laws.proofs.Permutations.{Permuted-map, Permuted-length, Permuted-partition, Permuted-sym, Permuted-append, Permuted-append_left, Permuted-append_comm, Permuted-refl}
+use Rattle.query_laws.specs.Permuted.{Permuted, nothing, same_head, composed}
+use Rattle.query_laws.proofs.Permutations.{Permuted-map, Permuted-length, Permuted-partition, Permuted-sym, Permuted-append_comm}
 use Rattle.builder_trait.specs.Parts.{Contents, IsPart, IsRising}
 
 -- no two are equal

@@ -1,13 +1,13 @@
 -- A part read into a builder: what each put takes, and how many there are.
-use Rattle.std.proofs.Common.{◌≡◌, ℕ, ◌+◌, ◌<◌, ◌≤◌, ◌^◌, Bool, true, false, IsTrue, List, [], ◌∷◌, ◌++◌, length, take, map, get_or, refl, sym, ap, ◌∙◌, arith, subst, Some, None, slice_get, slice_index, take_all, All, ◌⊎◌, ⊎_elim}
-use Rattle.std.specs.List.{items_where_true, range_with_len}
-use Rattle.std.proofs.lemmas.Option.{slice_get-get_or, slice_get-map, slice_get_within, slice_get_cases, get_or_from_slice_get, same_Some, none-some}
+use Rattle.std.proofs.Common.{◌≡◌, ℕ, ◌+◌, ◌<◌, ◌≤◌, ◌^◌, Bool, true, false, IsTrue, List, [], ◌∷◌, ◌++◌, length, take, map, get_or, sym, ap, ◌∙◌, arith, subst, Some, slice_get, slice_index, take_all, All, ⊎_elim}
+use Rattle.std.specs.List.{items_where_true}
+use Rattle.std.proofs.lemmas.Option.{slice_get-get_or, slice_get-map, slice_get_within, slice_get_cases, get_or_from_slice_get, same_Some}
 use Rattle.std.specs.Option.{option_map}
 use Rattle.std.proofs.lemmas.List.{length-map}
 use Rattle.std.proofs.lemmas.List.FromFn.{length-range_with_len}
 use Rattle.query_laws.proofs.Permutations.{Permuted-length}
-use Rattle.builder_trait.specs.Parts.{Contents, IsPart, IsRising}
-use Rattle.builder_trait.specs.Builders.{Progress, begun, FitsFirst, FitsSecond}
+use Rattle.builder_trait.specs.Parts.{Contents, IsPart}
+use Rattle.builder_trait.specs.Builders.{Progress, FitsFirst, FitsSecond}
 use Rattle.builder_trait.specs.Rebuilding.{live_before, flags_reordered, live_reordered_before, HasRanks}
 use Rattle.builder_trait.proofs.Kept.{kept-more_live, kept-more_dead, slice_get-kept, All-kept_before, length-kept_reordered}
 

@@ -1,5 +1,5 @@
 -- What contracts see of a question that is put to parts, and of its sealed answer.
-use Rattle.std.specs.Prelude.{ℕ, Bool, false}
+use Rattle.std.specs.Prelude.{ℕ, Bool}
 
 -- the question, the answer over the parts consulted so far, how many these are, whether memory may be refused, and whether
 -- it was refused, so that the question is given up

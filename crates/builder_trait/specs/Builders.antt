@@ -1,5 +1,5 @@
 -- What contracts see of a builder: a part under construction, which takes its items in both orders and then turns.
-use Rattle.std.specs.Prelude.{◌≡◌, ℕ, ◌==◌, ◌+◌, ◌-◌, ◌*◌, ◌^◌, ◌<◌, ◌≤◌, Bool, true, false, if◌then◌else◌, IsTrue, List, [], ◌∷◌, ◌++◌, length, replicate, All, Some, slice_get}
+use Rattle.std.specs.Prelude.{◌≡◌, ℕ, ◌==◌, ◌+◌, ◌*◌, ◌^◌, ◌<◌, ◌≤◌, Bool, true, false, if◌then◌else◌, IsTrue, List, [], ◌∷◌, ◌++◌, length, replicate, All, Some, slice_get}
 use Rattle.builder_trait.specs.Parts.{Contents}
 
 -- what was put in order 0; what was put in order 1, with the place that each has in order 0; the level, by which there is

@@ -235,9 +235,9 @@ impl<I: Item> Builder for FlatBuilder<I> {
     }
 
     fn turn<L: Ledger>(&mut self, steps: &mut Steps<L>) {
-        steps.turn();
         self.flags.push(true, steps);
         self.left -= 1;
+        steps.turn()
     }
 
     fn finish(self) -> FlatPart<I> {

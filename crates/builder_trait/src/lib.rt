@@ -16,3 +16,6 @@ pub use asking::{Asking, Given};
 pub use at_once::{ask_all, completed, part_of_one, rebuilt, take_turns};
 pub use builder::Builder;
 pub use part::{Answers, Part};
+
+#[cfg(test)]
+mod tests;

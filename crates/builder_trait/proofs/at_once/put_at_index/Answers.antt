@@ -1,4 +1,4 @@
-use Rattle.std.proofs.Common.{◌≡◌, ◌+◌, ◌<◌, ◌∙◌, sym, ap, true, false, length, arith, [], ◌∷◌, ◌++◌, Some, slice_get, slice_index, subst}
+use Rattle.std.proofs.Common.{◌≡◌, ◌+◌, ◌<◌, ◌∙◌, sym, ap, true, false, length, [], ◌∷◌, ◌++◌, Some, slice_get, slice_index, subst}
 use Rattle.std.proofs.lemmas.Option.{slice_get_within}
 use Rattle.builder_trait.specs.Rebuilding.{live_reordered_before}
 use Rattle.builder_trait.proofs.RebuildingLemmas.{place_within, FitsSecond-live, live_reordered-more, live_reordered-same}

@@ -1,4 +1,4 @@
-use Rattle.std.proofs.Common.{◌≡◌, ◌∙◌, sym, ap, length, arith, [], ◌∷◌, ◌++◌}
+use Rattle.std.proofs.Common.{◌∙◌, sym, ap, length, arith, [], ◌∷◌, ◌++◌}
 use Rattle.builder_trait.proofs.Kept.{kept-more_live, kept-more_dead, length-kept_live, length-kept_dead, length-kept_le}
 use Rattle.builder_trait.proofs.RebuildingLemmas.{FitsFirst-live}
 use Rattle.builder_trait.proofs.at_once.put_at_place.Goals as goal

@@ -1,4 +1,4 @@
-use Rattle.std.proofs.Common.{◌≡◌, ◌*◌, ◌≤◌, ◌∙◌, sym, ap, length, arith, refl}
+use Rattle.std.proofs.Common.{◌≡◌, ◌∙◌, sym, ap, length, arith, refl}
 use Rattle.query_laws.proofs.Counting.{Spends-within}
 use Rattle.builder_trait.specs.Rebuilding.{live_reordered_before}
 use Rattle.builder_trait.proofs.RebuildingLemmas.{length-live_reordered_before}

@@ -1,4 +1,4 @@
-use Rattle.std.proofs.Common.{◌≡◌, ◌+◌, ◌-◌, ◌*◌, ◌≤◌, true}
+use Rattle.std.proofs.Common.{◌≡◌, ◌-◌, ◌*◌, ◌≤◌}
 use Rattle.query_laws.specs.StepLedger.{Spends}
 use Rattle.builder_trait.specs.Builders.{sealed_with}
 use Rattle.builder_trait.proofs.at_once.take_turns.Given as goal

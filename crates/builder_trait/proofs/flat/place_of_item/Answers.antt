@@ -1,4 +1,4 @@
-use Rattle.std.proofs.Common.{◌≡◌, ◌+◌, ◌<◌, ◌^◌, arith, ◌∙◌, sym, length, subst, refl}
+use Rattle.std.proofs.Common.{arith, ◌∙◌, sym, length, subst, refl}
 use Rattle.query_laws.specs.StepLedger.{Spends}
 use Rattle.query_laws.proofs.Counting.{Spends-one_touch, Spends-then, Spends-within, Spends-weaker}
 use Rattle.builder_trait.proofs.SearchLemmas.{All-missing, Spends-searched}

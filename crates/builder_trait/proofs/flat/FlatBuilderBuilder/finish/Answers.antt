@@ -1,4 +1,4 @@
-use Rattle.std.proofs.Common.{◌≡◌, ap, sym, ◌∙◌, length, arith}
+use Rattle.std.proofs.Common.{ap, sym, ◌∙◌, length, arith}
 use Rattle.builder_trait.proofs.FlatLemmas.{IsPart-ended, items-ended}
 use Rattle.builder_trait.proofs.flat.FlatBuilderBuilder.finish.Goals as goal
 

@@ -1,5 +1,4 @@
-use Rattle.std.proofs.Common.{◌≡◌, ap, sym, ◌∙◌, arith, subst, refl, zero, suc, ◌<◌, false}
-use Rattle.builder_trait.specs.Builders.{FitsSecond}
+use Rattle.std.proofs.Common.{ap, sym, ◌∙◌, arith}
 use Rattle.builder_trait.proofs.FlatLemmas.{room-put, room_places-put, IsFlatBuilding-put, IsFlagging-put}
 use Rattle.builder_trait.proofs.flat.FlatBuilderBuilder.put.Goals as goal
 

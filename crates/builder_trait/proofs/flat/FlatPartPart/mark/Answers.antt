@@ -1,9 +1,9 @@
-use Rattle.std.proofs.Common.{◌≡◌, ◌+◌, ◌<◌, ap, sym, ◌∙◌, length, arith, true, false, subst, refl, Some, slice_get, set}
+use Rattle.std.proofs.Common.{◌≡◌, ap, sym, ◌∙◌, length, arith, true, false, subst, refl}
 use Rattle.std.specs.List.{items_where_true}
 use Rattle.std.proofs.lemmas.List.{length-set}
 use Rattle.std.proofs.lemmas.Option.{slice_get_within}
 use Rattle.builder_trait.specs.Parts.{OwnsStamp, has_stamp, without, marked}
-use Rattle.builder_trait.proofs.Marking.{fallen, fallen_none, has_stamp_none, marked-same, without-same, items-fallen, fallen_at, has_stamp_at, set_same, length-one_dead, StandsOnlyAt-rising}
+use Rattle.builder_trait.proofs.Marking.{fallen_none, has_stamp_none, marked-same, items-fallen, fallen_at, has_stamp_at, set_same, length-one_dead, StandsOnlyAt-rising}
 use Rattle.builder_trait.proofs.flat.FlatPartPart.mark.Goals as goal
 
 pub returns-in_default-clause-found : goal.returns-in_default-clause-found

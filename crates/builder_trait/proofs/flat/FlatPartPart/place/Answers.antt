@@ -1,4 +1,4 @@
-use Rattle.std.proofs.Common.{◌≡◌, ap, sym, ◌∙◌, length, arith, slice_index}
+use Rattle.std.proofs.Common.{ap, sym, ◌∙◌, length, arith, slice_index}
 use Rattle.std.proofs.lemmas.Option.{get_or_from_slice_get}
 use Rattle.builder_trait.proofs.RebuildingLemmas.{length-places}
 use Rattle.builder_trait.proofs.FlatLemmas.{place_of_second}
