@@ -1,5 +1,5 @@
 -- A part read into a builder: what each put takes, and how many there are.
-use Rattle.std.proofs.Common.{◌≡◌, ℕ, ◌+◌, ◌<◌, ◌≤◌, ◌^◌, Bool, true, false, IsTrue, List, [], ◌∷◌, ◌++◌, length, take, map, get_or, sym, ap, ◌∙◌, arith, subst, Some, slice_get, slice_index, take_all, All, ⊎_elim}
+use Rattle.std.proofs.Common.{◌≡◌, ℕ, ◌+◌, ◌<◌, ◌≤◌, ◌^◌, Bool, true, false, IsTrue, List, [], ◌∷◌, ◌++◌, length, take, get_or, sym, ap, ◌∙◌, arith, subst, Some, slice_get, slice_index, take_all, All, ⊎_elim}
 use Rattle.std.specs.List.{items_where_true}
 use Rattle.std.proofs.lemmas.Option.{slice_get-get_or, slice_get-map, slice_get_within, slice_get_cases, get_or_from_slice_get, same_Some}
 use Rattle.std.specs.Option.{option_map}
@@ -9,6 +9,7 @@ use Rattle.query_laws.proofs.Permutations.{Permuted-length}
 use Rattle.builder_trait.specs.Parts.{Contents, IsPart}
 use Rattle.builder_trait.specs.Builders.{Progress, FitsFirst, FitsSecond}
 use Rattle.builder_trait.specs.Rebuilding.{live_before, flags_reordered, live_reordered_before, HasRanks}
+use Rattle.builder_trait.proofs.Places.{slice_get-placed}
 use Rattle.builder_trait.proofs.Kept.{kept-more_live, kept-more_dead, slice_get-kept, All-kept_before, length-kept_reordered}
 
 module _ {Item : Type 0} {before : ℕ → Item → Item → Bool} {part : Contents Item} (valid : IsPart before part) where
@@ -21,14 +22,7 @@ module _ {Item : Type 0} {before : ℕ → Item → Item → Bool} {part : Conte
 
   -- the item at an index of order 1 stands at its place in order 0
   pub placed-at : (k : ℕ) (x : Item) → slice_get part.reordered k ≡ Some x → slice_get part.items (slice_index part.places k) ≡ Some x
-  placed-at k x at =
-      let within : k < length part.places = omega (arith, slice_get_within part.reordered k x at, length-reordered, length-places) in
-      let here : slice_get part.places k ≡ Some (slice_index part.places k) = slice_get-get_or part.places k 0 within in
-      let both : slice_get (map (slice_get part.items) part.places) k ≡ slice_get (map Some part.reordered) k =
-      ap (λ l. slice_get l k) valid.placed in
-      same_Some (slice_get part.items (slice_index part.places k)) (Some x)
-      (sym (slice_get-map (slice_get part.items) part.places k ∙ ap (option_map (slice_get part.items)) here)
-      ∙ both ∙ slice_get-map Some part.reordered k ∙ ap (option_map Some) at)
+  placed-at = slice_get-placed part.items part.reordered part.places valid.placed
 
   -- and that place is one of the part's
   pub place_within : (k : ℕ) → k < length part.items → slice_index part.places k < length part.items

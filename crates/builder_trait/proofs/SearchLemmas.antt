@@ -75,9 +75,6 @@ module _ {Item : Type 0} {stamp : Item → ℕ} {before : Item → Item → Bool
             let not_here : before (get_or xs k d) item ≡ false = found.above k d (omega arith) (omega arith) in cc
 
     -- it isn't in the list at all
-    pub All-missing_end : k ≡ length xs → All (λ x. stamp x ≢ stamp item) xs
-    All-missing_end e j d inside = nowhere_else j d inside (omega arith)
-
     pub All-missing : (y : Item) → slice_get xs k ≡ Some y → stamp y ≢ stamp item → All (λ x. stamp x ≢ stamp item) xs
     All-missing y at differs j d inside same =
         ⊎_elim
@@ -89,12 +86,6 @@ module _ {Item : Type 0} {stamp : Item → ℕ} {before : Item → Item → Bool
         differs (ap stamp (sym is) ∙ same))
         (cases_lt k j))
         (cases_lt j k)
-
-    -- or it is there
-    pub found-is : (y : Item) → slice_get xs k ≡ Some y → stamp y ≡ stamp item → y ≡ item
-    found-is y at same =
-        let is : get_or xs k y ≡ y = get_or_from_slice_get xs k y y at in
-        sym is ∙ owns k y (slice_get_within xs k y at) (ap stamp is ∙ same)
 
 -- a touch, and then a search of at most half of what is left
 pub Spends-halved : {old mid new : Counts} (h size rest : ℕ) → mid ≡ one_touch old → 0 < size → size < 2 ^ h → rest + rest ≤ size
