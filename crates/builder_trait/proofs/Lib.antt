@@ -1,0 +1,6 @@
+pub mod Kept
+pub mod RebuildingLemmas
+pub mod Places
+pub mod Marking
+pub mod SearchLemmas
+pub mod FlatLemmas

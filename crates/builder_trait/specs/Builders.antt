@@ -1,0 +1,53 @@
+-- What contracts see of a builder: a part under construction, which takes its items in both orders and then turns.
+use Rattle.std.specs.Prelude.{◌≡◌, ℕ, ◌==◌, ◌+◌, ◌*◌, ◌^◌, ◌<◌, ◌≤◌, Bool, true, false, if◌then◌else◌, IsTrue, List, [], ◌∷◌, ◌++◌, length, replicate, All, Some, slice_get}
+use Rattle.builder_trait.specs.Parts.{Contents}
+
+-- what was put in order 0; what was put in order 1, with the place that each has in order 0; the level, by which there is
+-- room for `2 ^ at_level` items; whether the builder is sealed; and how many turns are left
+pub record Progress (Item : Type 0) : Type 0 where
+  pub items : List Item
+  pub reordered : List Item
+  pub places : List ℕ
+  pub at_level : ℕ
+  pub is_sealed : Bool
+  pub left : ℕ
+
+module _ {Item : Type 0} where
+  -- nothing was put
+  abbrev pub begun : ℕ → Progress Item
+  begun n = record { items = []; reordered = []; places = []; at_level = n; is_sealed = false; left = 0 }
+
+  -- the item stands after each of these
+  abbrev pub IsAfter : (Item → Item → Bool) → Item → List Item → Type 0
+  IsAfter before item xs = All (λ x. IsTrue (before x item)) xs
+
+  -- the item may be put next in order 0, at this place
+  pub record FitsFirst (before : Item → Item → Bool) (b : Progress Item) (item : Item) (at : ℕ) : Type 0 where
+    pub room : length b.items < 2 ^ b.at_level
+    pub none_reordered : b.reordered ≡ []
+    pub next_place : at ≡ length b.items
+    pub after : IsAfter before item b.items
+
+  -- the item, which has this place in order 0, may be put next in order 1
+  pub record FitsSecond (before : Item → Item → Bool) (b : Progress Item) (item : Item) (at : ℕ) : Type 0 where
+    pub at_place : slice_get b.items at ≡ Some item
+    pub after : IsAfter before item b.reordered
+
+  -- one more item in an order
+  abbrev pub with_put : ℕ → Item → ℕ → Progress Item → Progress Item
+  with_put order item at b =
+      if order == 0 then record b { items = b.items ++ item ∷ [] }
+      else record b { reordered = b.reordered ++ item ∷ []; places = b.places ++ at ∷ [] }
+
+  -- no more puts, and this many turns to go
+  abbrev pub sealed_with : ℕ → Progress Item → Progress Item
+  sealed_with turns b = record b { is_sealed = true; left = turns }
+
+  -- the part of all that was put, each item live
+  abbrev pub all_live : Progress Item → Contents Item
+  all_live b = record { items = b.items; flags = replicate (length b.items) true; reordered = b.reordered; places = b.places }
+
+-- the turns that a builder may take for n items at a level, by the slope and the base of its kind
+pub record IsQuota (slope base at_level n left : ℕ) : Type 0 where
+  pub enough : n ≤ left
+  pub bounded : 2 * left ≤ 2 ^ at_level * (slope * at_level + base)

@@ -1,0 +1,51 @@
+-- What contracts see of a part: a static structure whose items are only ever marked as dead (weak deletion, Overmars 1983).
+use Rattle.std.specs.Prelude.{◌≡◌, ℕ, ◌==◌, Bool, not, ◌&&◌, if◌then◌else◌, IsTrue, List, length, map, filter, zip, AllPairs, All, Some, slice_get, slice_index}
+use Rattle.std.specs.List.{range_with_len, list_any}
+use Rattle.query_laws.specs.Permuted.{Permuted}
+
+-- the items in order 0 with a flag for each, true while it is live; and the same items in order 1, with the place that each
+-- has in order 0
+pub record Contents (Item : Type 0) : Type 0 where
+  pub items : List Item
+  pub flags : List Bool
+  pub reordered : List Item
+  pub places : List ℕ
+
+module _ {Item : Type 0} where
+  -- each item stands before all later ones
+  abbrev pub IsRising : (Item → Item → Bool) → List Item → Type 0
+  IsRising before xs = AllPairs (λ x y. IsTrue (before x y)) xs
+
+  -- what is true of every part: both orders rise, and hold the same items, each place once
+  pub record IsPart (before : ℕ → Item → Item → Bool) (part : Contents Item) : Type 0 where
+    pub rising : IsRising (before 0) part.items
+    pub rising_reordered : IsRising (before 1) part.reordered
+    pub flagged : length part.flags ≡ length part.items
+    pub placed : map (slice_get part.items) part.places ≡ map Some part.reordered
+    pub each_place : Permuted part.places (range_with_len 0 (length part.items))
+    pub same_items : Permuted part.reordered part.items
+
+  -- the items of an order
+  abbrev pub in_order : ℕ → Contents Item → List Item
+  in_order order part = if order == 0 then part.items else part.reordered
+
+  -- the place in order 0 of the item at an index of an order
+  abbrev pub place_of : ℕ → Contents Item → ℕ → ℕ
+  place_of order part k = if order == 0 then k else slice_index part.places k
+
+  module _ (stamp : Item → ℕ) (dead : ℕ) where
+    -- whether an item with a stamp is among the items
+    abbrev pub has_stamp : List Item → Bool
+    has_stamp xs = list_any (λ x. stamp x == dead) xs
+
+    -- the items with other stamps
+    abbrev pub without : List Item → List Item
+    without xs = filter (λ x. not (stamp x == dead)) xs
+
+    -- the part in which items with that stamp are dead, and each other one is as it was
+    abbrev pub marked : Contents Item → Contents Item
+    marked part = record part { flags = map (λ held. held.1 && not (stamp held.0 == dead)) (zip part.items part.flags) }
+
+  -- no other item of the list has the stamp of this one
+  abbrev pub OwnsStamp : (Item → ℕ) → Item → List Item → Type 0
+  OwnsStamp stamp item xs = All (λ x. stamp x ≡ stamp item → x ≡ item) xs

@@ -1,0 +1,153 @@
+//! A question put to several parts, and its sealed answer.
+ghost use Rattle.std.specs.Prelude.{◌≡◌, ◌+◌, ◌<◌, ◌^◌, false, true, IsTrue, IfOk, IsErr, OnErr};
+ghost use Rattle.query_laws.specs.StepLedger.{Spends};
+
+use crate::part::{Answers, Part};
+use query_laws::step_ledger::Steps;
+use query_laws::{NoMemory, Question, Tally};
+use std::alloc::Global;
+use std::marker::{Model, PhantomData};
+use std::sync::ledger::Ledger;
+
+/// A question that is put to one part after another, with the answer so far.
+///
+/// Once memory was refused it is given up, and can be neither put to a part nor finished.
+#[derive(Drop)]
+pub struct Asking<P: Answers<Q>, Q: Question<Item = P::Item>> {
+    question: Q,
+    tally: Q::Tally,
+    consulted: u32,
+    given_up: bool,
+    parts: PhantomData<P>,
+}
+
+impl<P: Answers<Q>, Q: Question<Item = P::Item>> Model for Asking<P, Q> {
+    ghost use Rattle.builder_trait.specs.Askings.{Inquiry};
+
+    ghost Value = { Inquiry Q Q.Answer };
+
+    ghost view = { λ a. record {
+      question = a.question;
+      so_far = Q.Tally.so_far a.tally;
+      parts = a.consulted;
+      refusable = Q.Tally.can_refuse a.tally;
+      is_given_up = a.given_up;
+    } };
+
+    ghost invariant = { λ a. Q.owns a.question a.tally };
+}
+
+impl<P: Answers<Q>, Q: Question<Item = P::Item>> Asking<P, Q> {
+    /// The question, put to no part yet. It takes no memory; later calls take theirs from `alloc`.
+    pub fn new(alloc: Global, question: &Q) -> Asking<P, Q>
+        ensures { result ≡ record {
+          question = question.now;
+          so_far = Q.unit question.now;
+          parts = 0;
+          refusable = Q.refusable;
+          is_given_up = false;
+        } }
+    {
+        Asking {
+            question: *question,
+            tally: question.tally(alloc),
+            consulted: 0,
+            given_up: false,
+            parts: PhantomData,
+        }
+    }
+
+    /// Puts the question to a part, and joins its answer to that so far.
+    ///
+    /// `NoMemory` where the tally wanted memory that wasn't given. The asking is then given up.
+    pub fn part<L: Ledger>(&mut self, part: &P, steps: &mut Steps<L>) -> Result<(), NoMemory>
+        requires going { self.old.is_given_up ≡ false }
+        requires room { self.old.parts + 1 < 2 ^ 32 }
+        ensures joined { IfOk result (λ _. self.new ≡ record self.old {
+          so_far = Q.join self.old.question self.old.so_far (Q.value self.old.question (P.Part.live_items part.now));
+          parts = self.old.parts + 1;
+        }) }
+        ensures given_up { OnErr result (self.new ≡ record self.old { so_far = self.new.so_far; is_given_up = true }) }
+        ensures refused { IsErr result → IsTrue self.old.refusable }
+        ensures lawful { Q.lawful self.old.question self.new.so_far }
+        ensures cost { Spends steps.old steps.new 0 0 (P.ask_touches self.old.question part.now) }
+    {
+        match part.ask(&self.question, &mut self.tally, steps) {
+            Ok(()) => {
+                self.consulted += 1;
+                Ok(())
+            }
+            Err(refusal) => {
+                self.given_up = true;
+                Err(refusal)
+            }
+        }
+    }
+
+    /// How many parts have answered. It counts nothing.
+    pub fn consulted(&self) -> u32
+        ensures value { result ≡ self.now.parts }
+        ensures lawful { Q.lawful self.now.question self.now.so_far }
+    {
+        self.consulted
+    }
+
+    /// Seals the answer over the parts consulted. It counts nothing.
+    ///
+    /// `NoMemory` where the answer itself wanted memory that wasn't given.
+    pub fn finish(self) -> Result<Given<P, Q>, NoMemory>
+        requires { self.is_given_up ≡ false }
+        ensures given { IfOk result (λ given. given
+            ≡ record { question = self.question; answer = self.so_far; parts = self.parts }) }
+        ensures refused { IsErr result → IsTrue self.refusable }
+        ensures lawful { Q.lawful self.question self.so_far }
+    {
+        let answer = self.tally.finish()?;
+        Ok(Given {
+            question: self.question,
+            answer,
+            consulted: self.consulted,
+            parts: PhantomData,
+        })
+    }
+}
+
+/// The answer to a question over the parts that were consulted. Only [`Asking::finish`] makes one.
+#[derive(Drop)]
+pub struct Given<P: Answers<Q>, Q: Question<Item = P::Item>> {
+    question: Q,
+    answer: Q::Answer,
+    consulted: u32,
+    parts: PhantomData<P>,
+}
+
+impl<P: Answers<Q>, Q: Question<Item = P::Item>> Model for Given<P, Q> {
+    ghost use Rattle.builder_trait.specs.Askings.{Finding};
+
+    ghost Value = { Finding Q Q.Answer };
+
+    ghost view = { λ g. record { question = g.question; answer = g.answer; parts = g.consulted } };
+}
+
+impl<P: Answers<Q>, Q: Question<Item = P::Item>> Given<P, Q> {
+    /// The question that was asked.
+    pub fn question(&self) -> Q
+        ensures { result ≡ self.now.question }
+    {
+        self.question
+    }
+
+    /// How many parts were consulted.
+    pub fn consulted(&self) -> u32
+        ensures { result ≡ self.now.parts }
+    {
+        self.consulted
+    }
+
+    /// The answer.
+    pub fn into_answer(self) -> Q::Answer
+        ensures { result ≡ self.answer }
+    {
+        self.answer
+    }
+}

@@ -1,0 +1,257 @@
+//! The flat kind: rows, and a binary search.
+//!
+//! It keeps the items in both orders and a flag for each, and answers no question. It stands for any other kind where only
+//! the contract of parts and builders matters.
+ghost use Rattle.std.specs.Prelude.{◌≡◌, ◌+◌, ◌-◌, ◌*◌, ◌<◌, ◌≤◌, ◌^◌, ℕ, IfSome, IsNone, All, ◌≢◌, length, Some, slice_get, refl};
+ghost use Rattle.std.specs.List.{items_where_true};
+ghost use Rattle.query_laws.specs.StepLedger.{Spends};
+ghost use Rattle.builder_trait.specs.Parts.{IsRising, OwnsStamp};
+ghost use Rattle.builder_trait.specs.Flat.{IsBracket};
+
+use crate::builder::Builder;
+use crate::part::Part;
+use query_laws::step_ledger::{Row, Steps};
+use query_laws::{Item, NoMemory};
+use std::alloc::Global;
+use std::marker::Model;
+use std::sync::ledger::Ledger;
+
+/// Items in two rows, one for each order, with the places of the second and a flag for each item.
+#[derive(Drop)]
+pub struct FlatPart<I: Item> {
+    first: Row<I>,
+    second: Row<I>,
+    places: Row<usize>,
+    flags: Row<bool>,
+    live: usize,
+}
+
+impl<I: Item> Model for FlatPart<I> {
+    ghost use Rattle.std.specs.Prelude.{◌≡◌, length};
+    ghost use Rattle.std.specs.List.{items_where_true};
+    ghost use Rattle.builder_trait.specs.Parts.{Contents, IsPart};
+
+    ghost Value = { Contents I };
+
+    ghost view = { λ p. record {
+      items = p.first.items;
+      flags = p.flags.items;
+      reordered = p.second.items;
+      places = p.places.items;
+    } };
+
+    ghost invariant = { λ p. IsPart I.before (record {
+      items = p.first.items;
+      flags = p.flags.items;
+      reordered = p.second.items;
+      places = p.places.items;
+    }) × (p.live ≡ length (items_where_true p.flags.items p.first.items)) };
+}
+
+/// The first place of a rising row whose item doesn't stand before the given one, from a bracket on. The bracket is halved
+/// at each touch.
+fn lower_bound<I: Item, L: Ledger>(
+    row: &Row<I>,
+    item: &I,
+    low: usize,
+    high: usize,
+    steps: &mut Steps<L>,
+) -> usize
+    requires rising { IsRising (I.before 0) row.now.items }
+    requires bracket { IsBracket (I.before 0) row.now.items item.now low high }
+    ensures found { IsBracket (I.before 0) row.now.items item.now result result }
+    ensures cost { (h : ℕ) → high - low < 2 ^ h → Spends steps.old steps.new 0 0 h }
+{
+    if low == high {
+        return low;
+    }
+    let middle = low + (high - low) / 2;
+    let other = row.at(middle, steps);
+    if other.before(0, item) {
+        lower_bound(row, item, middle + 1, high, steps)
+    } else {
+        lower_bound(row, item, low, middle, steps)
+    }
+}
+
+/// The place of an item in a rising row.
+fn place_of_item<I: Item, L: Ledger>(row: &Row<I>, item: &I, steps: &mut Steps<L>) -> Option<usize>
+    requires rising { IsRising (I.before 0) row.now.items }
+    requires owner { OwnsStamp I.stamp item.now row.now.items }
+    ensures found { IfSome result (λ k. slice_get row.now.items k ≡ Some item.now) }
+    ensures missing { IsNone result → All (λ x. I.stamp x ≢ I.stamp item.now) row.now.items }
+    ensures cost { (h : ℕ) → length row.now.items ≤ 2 ^ h → Spends steps.old steps.new 0 0 (h + 2) }
+{
+    let place = lower_bound(row, item, 0, row.len(), steps);
+    if place == row.len() {
+        return None;
+    }
+    let found = row.at(place, steps);
+    if found.stamp() == item.stamp() {
+        Some(place)
+    } else {
+        None
+    }
+}
+
+impl<I: Item> Part for FlatPart<I> {
+    ghost use Rattle.std.specs.Prelude.{◌+◌, refl};
+    ghost use Rattle.std.specs.List.{items_where_true};
+    ghost use Rattle.std.proofs.Common.{arith};
+
+    type Item = I;
+
+    ghost contents = { λ p. p };
+
+    ghost live_items = { λ p. items_where_true p.flags p.items };
+
+    ghost mark_touches = { λ h. h + 4 };
+
+    fn len(&self) -> usize {
+        self.first.len()
+    }
+
+    fn live(&self) -> usize {
+        self.live
+    }
+
+    fn item<L: Ledger>(&self, order: usize, k: usize, steps: &mut Steps<L>) -> I {
+        if order == 0 {
+            self.first.at(k, steps)
+        } else {
+            self.second.at(k, steps)
+        }
+    }
+
+    fn place<L: Ledger>(&self, order: usize, k: usize, steps: &mut Steps<L>) -> usize {
+        if order == 0 {
+            k
+        } else {
+            self.places.at(k, steps)
+        }
+    }
+
+    fn alive<L: Ledger>(&self, k: usize, steps: &mut Steps<L>) -> bool {
+        self.flags.at(k, steps)
+    }
+
+    fn mark<L: Ledger>(&mut self, item: &I, steps: &mut Steps<L>) -> bool {
+        steps.mark();
+        let Some(place) = place_of_item(&self.first, item, steps) else {
+            return false;
+        };
+        if !self.flags.at(place, steps) {
+            return false;
+        }
+        self.flags.set(place, false, steps);
+        self.live -= 1;
+        true
+    }
+
+    ghost live_by_flags = { λ part. refl };
+
+    ghost mark_touches_rise = { λ g h le. Prim.omega arith };
+}
+
+/// The rows of a [`FlatPart`] under construction. A turn writes one flag.
+#[derive(Drop)]
+pub struct FlatBuilder<I: Item> {
+    first: Row<I>,
+    second: Row<I>,
+    places: Row<usize>,
+    flags: Row<bool>,
+    level: u32,
+    sealed: bool,
+    left: u64,
+}
+
+impl<I: Item> Model for FlatBuilder<I> {
+    ghost use Rattle.builder_trait.specs.Builders.{Progress};
+    ghost use Rattle.builder_trait.specs.Flat.{IsFlatBuilding, IsFlagging};
+
+    ghost Value = { Progress I };
+
+    ghost view = { λ b. record {
+      items = b.first.items;
+      reordered = b.second.items;
+      places = b.places.items;
+      at_level = b.level;
+      is_sealed = b.sealed;
+      left = b.left;
+    } };
+
+    ghost invariant = { λ b. IsFlatBuilding I.before b.first b.second b.places b.flags b.level
+        × IsFlagging b.first.items b.second.items b.flags.items b.sealed b.left };
+}
+
+impl<I: Item> Builder for FlatBuilder<I> {
+    ghost use Rattle.std.specs.Prelude.{refl};
+    ghost use Rattle.std.proofs.Common.{arith};
+
+    type Item = I;
+
+    type Part = FlatPart<I>;
+
+    const SLOPE: u64 = 0;
+
+    const BASE: u64 = 2;
+
+    ghost SLOPE = { 0 };
+
+    ghost BASE = { 2 };
+
+    ghost progress = { λ b. b };
+
+    fn room(alloc: Global, level: u32) -> Result<FlatBuilder<I>, NoMemory> {
+        let cap = 2usize.pow(level);
+        Ok(FlatBuilder {
+            first: Row::room(alloc, cap)?,
+            second: Row::room(alloc, cap)?,
+            places: Row::room(alloc, cap)?,
+            flags: Row::room(alloc, cap)?,
+            level,
+            sealed: false,
+            left: 0,
+        })
+    }
+
+    fn put<L: Ledger>(&mut self, order: usize, item: I, place: usize, steps: &mut Steps<L>) {
+        steps.turn();
+        if order == 0 {
+            self.first.push(item, steps);
+        } else {
+            self.second.push(item, steps);
+            self.places.push(place, steps);
+        }
+    }
+
+    fn seal(&mut self) {
+        self.sealed = true;
+        self.left = self.first.len() as u64;
+    }
+
+    fn left(&self) -> u64 {
+        self.left
+    }
+
+    fn turn<L: Ledger>(&mut self, steps: &mut Steps<L>) {
+        self.flags.push(true, steps);
+        self.left -= 1;
+        steps.turn()
+    }
+
+    fn finish(self) -> FlatPart<I> {
+        let live = self.first.len();
+        FlatPart {
+            first: self.first,
+            second: self.second,
+            places: self.places,
+            flags: self.flags,
+            live,
+        }
+    }
+
+    ghost base_even = { refl };
+
+    ghost small = { (Prim.omega arith, Prim.omega arith) };
+}
