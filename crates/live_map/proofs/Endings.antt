@@ -1,6 +1,6 @@
 -- What a run says of its endings, where the source and the sink tell their bytes.
-use Rattle.std.proofs.Common.{◌≡◌, ℕ, ◌+◌, ◌<◌, ◌≤◌, List, [], ◌∷◌, ◌++◌, length, take, Option, Some, None, arith, refl, sym, ap, ◌∙◌, subst, append-nil, length-append, take_at}
-use Rattle.std.specs.Io.KnownBytes.{Appends, Consumes, IsAtEnd}
+use Rattle.std.proofs.Common.{◌≡◌, ℕ, ◌+◌, List, [], ◌∷◌, ◌++◌, length, take, Option, Some, None, sym, ap, ◌∙◌, subst, append-nil, length-append, take_at}
+use Rattle.std.specs.Io.KnownBytes.{Appends, Consumes}
 use Rattle.map_model.specs.State.{State, empty_map}
 use Rattle.map_model.specs.Text.{lines, whole_lines}
 use Rattle.map_model.specs.Output.{Interrupted}
@@ -8,7 +8,6 @@ use Rattle.map_model.proofs.OutputLemmas.{Interrupted-append}
 use Rattle.map_model.proofs.TextLemmas.{lines_begin_whole}
 use Rattle.live_map.specs.declared.intake.Ending.{Ending}
 use Rattle.live_map.specs.declared.intake.Ending.TheVariants.{End, Fault, TooLong}
-use Rattle.live_map.specs.declared.run.Status.{Status}
 use Rattle.live_map.specs.declared.run.Status.TheVariants as statuses
 use Rattle.live_map.specs.Run.{script_limit, Told, TakenIn, IsOutput, IsInterrupted, IsStopped, script_of, AnswersText}
 use Rattle.live_map.specs.Session.{SessionState, new_session}
@@ -44,7 +43,12 @@ told_too_long TooLong text rest rest' written written' t a =
 
 -- a session that began with the empty map and was stopped
 pub stopped_answers : (ending : Ending) (start now : SessionState) (written written' : Option (List ℕ)) (text : List ℕ) (script : List (List ℕ)) → start ≡ new_session → script_of ending text ≡ script → IsStopped start written script now written' → AnswersText ending text written written' statuses.WriteFault
-stopped_answers ending start now written written' text script fresh same s =
-    (s.bytes, s.appended, (now.map,
-      subst (λ (m : State). Interrupted m (script_of ending text) s.bytes now.map) (ap (λ (x : SessionState). x.map) fresh)
-      (subst (λ (ls : List (List ℕ)). Interrupted start.map ls s.bytes now.map) (sym same) s.interrupted)))
+stopped_answers ending start now written written' text script fresh same s = (
+  s.bytes,
+  s.appended,
+  (
+    now.map,
+    subst (λ (m : State). Interrupted m (script_of ending text) s.bytes now.map) (ap (λ (x : SessionState). x.map) fresh)
+        (subst (λ (ls : List (List ℕ)). Interrupted start.map ls s.bytes now.map) (sym same) s.interrupted),
+  ),
+)

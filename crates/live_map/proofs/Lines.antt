@@ -1,14 +1,14 @@
 -- Answering a text line by line.
-use Rattle.std.proofs.Common.{◌≡◌, ◌==◌, ℕ, zero, suc, ◌+◌, ◌-◌, ◌<◌, ◌≤◌, Bool, true, false, not, ◌&&◌, eqb, nat_eq, List, [], ◌∷◌, ◌++◌, length, take, drop, get_or, Option, Some, None, arith, refl, sym, ap, ◌∙◌, subst, append_assoc, append-nil, add_assoc, add-zero, length-append, length-take-le, take-append-drop}
+use Rattle.std.proofs.Common.{◌≡◌, ◌==◌, ℕ, suc, ◌+◌, ◌-◌, ◌<◌, ◌≤◌, true, not, nat_eq, List, [], ◌∷◌, ◌++◌, length, take, drop, get_or, Option, arith, refl, sym, ap, ◌∙◌, subst, append_assoc, append-nil, add_assoc, add-zero, length-append, length-take-le, take-append-drop}
 use Rattle.std.proofs.lemmas.List.{drop_more, take_rest, get_or-take}
-use Rattle.std.proofs.lemmas.Bool.{eqb-true, eqb-false, and_from, not_from_false, false_from_ne_true}
+use Rattle.std.proofs.lemmas.Bool.{eqb-true, and_from, not_from_false, false_from_ne_true}
 use Rattle.std.specs.Io.KnownBytes.{Appends}
 use Rattle.std.proofs.KnownBytes.{Appends-nil, Appends-trans}
 use Rattle.map_io.specs.Parts.{AppendsPart}
 use Rattle.map_model.specs.Reply.{written_for, refusal_count}
 use Rattle.map_model.specs.State.{State}
 use Rattle.map_model.specs.Text.{lines, whole_lines, one_line, refusals}
-use Rattle.map_model.specs.Output.{Answer, Answers, Output, Interrupted}
+use Rattle.map_model.specs.Output.{Answer, Output, Interrupted}
 use Rattle.map_model.proofs.TextLemmas.{lines-line, whole_lines-line, lines-rest, whole_lines-rest, lines_begin_whole}
 use Rattle.map_model.proofs.OutputLemmas.{Output-push, refusals-push, Interrupted-from, Interrupted-append}
 use Rattle.live_map.specs.Session.{SessionState, Executes}
@@ -25,8 +25,8 @@ one_line_from (byte ∷ text) h =
 pub one_line-take : (text : List ℕ) (end : ℕ) → end ≤ length text → ((k : ℕ) → k < end → (get_or text k 0 == 10) ≡ true → ⊥) → one_line (take end text) ≡ true
 one_line-take text end fits h =
     one_line_from (take end text) (λ k l e.
-      let below : k < end = omega (arith, l, length-take-le end text fits) in
-      h k below (sym (ap (λ b. b == 10) (get_or-take end text k 0 below)) ∙ e))
+    let below : k < end = omega (arith, l, length-take-le end text fits) in
+    h k below (sym (ap (λ b. b == 10) (get_or-take end text k 0 below)) ∙ e))
 
 pub split_at_feed : (text : List ℕ) (end : ℕ) → end < length text → (get_or text end 0 == 10) ≡ true → text ≡ take end text ++ 10 ∷ take (length text - (end + 1)) (drop (end + 1) text)
 split_at_feed text end fits h =

@@ -1,9 +1,9 @@
 -- What std's `parse` reads of digits is the number of a field.
-use Rattle.std.proofs.Common.{◌≡◌, ℕ, ◌<◌, ◌≤◌, ◌-◌, ◌^◌, Bool, true, false, cond, ◌&&◌, leb, List, [], ◌∷◌, length, Option, Some, None, Result, Ok, Err, IsUtf8, IsAscii, MatchResult, unwrap_or, arith, refl, sym, ap, ◌∙◌, subst, inl, inr}
+use Rattle.std.proofs.Common.{◌≡◌, ℕ, ◌<◌, ◌-◌, ◌^◌, true, false, cond, ◌&&◌, leb, List, [], ◌∷◌, length, Some, None, Result, Ok, Err, IsAscii, MatchResult, unwrap_or, arith, refl, sym, ap, ◌∙◌, subst}
 use Rattle.std.specs.List.{list_all}
 use Rattle.std.specs.Char.{is_ascii_digit}
 use Rattle.std.specs.Str.{all_ascii_digits}
-use Rattle.std.specs.Str.Parse.{digits_value, AllDigits}
+use Rattle.std.specs.Str.Parse.{digits_value}
 use Rattle.std.specs.Result.{OkIff, result_ok}
 use Rattle.std.proofs.lemmas.Bool.{and_parts, and_from, leb-true, le-leb, false_from_ne_true}
 use Rattle.std.proofs.lemmas.Str.Parse.{IsNumeralModel, numerals_by_value, tells_all_ascii_digits}
@@ -34,9 +34,9 @@ number_from_parse (Ok x) word digits h =
     ap (λ n. Some n) h.1 ∙ sym (ap (λ b. cond b (Some (digits_value 10 word)) None) fits)
 number_from_parse (Err e) word digits h =
     let past : is_number (2 ^ 64 - 1) word ≡ false = false_from_ne_true _ (λ t.
-      let parts = and_parts (is_filled word && all_ascii_digits word) (leb (digits_value 10 word) (2 ^ 64 - 1)) t in
-      let within = leb-true (digits_value 10 word) (2 ^ 64 - 1) parts.1 in
-      h (has_length word (and_parts (is_filled word) (all_ascii_digits word) parts.0).0, omega (arith, within))) in
+    let parts = and_parts (is_filled word && all_ascii_digits word) (leb (digits_value 10 word) (2 ^ 64 - 1)) t in
+    let within = leb-true (digits_value 10 word) (2 ^ 64 - 1) parts.1 in
+    h (has_length word (and_parts (is_filled word) (all_ascii_digits word) parts.0).0, omega (arith, within))) in
     sym (ap (λ b. cond b (Some (digits_value 10 word)) None) past)
 
 -- what holds of the value of an `Ok` holds where `ok()` finds it

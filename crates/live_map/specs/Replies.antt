@@ -1,5 +1,4 @@
 -- What a reply is in the words of the definitions.
-use Rattle.std.specs.Prelude.{ℕ}
 use Rattle.map_model.specs.Refusal as refusals
 use Rattle.map_model.specs.Reply as replies
 use Rattle.live_map.specs.declared.map_session.reply.Refusal.{Refusal}

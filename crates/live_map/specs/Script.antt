@@ -1,5 +1,5 @@
 -- What a parsed line says, in the words of the definitions.
-use Rattle.std.specs.Prelude.{ℕ, ◌<◌, ◌^◌, ⊤, Option, Some, None, Result, Ok, Err, List, [], ◌∷◌}
+use Rattle.std.specs.Prelude.{◌<◌, ◌^◌, ⊤, Option, Some, None, Result, Ok, Err}
 use Rattle.map_model.specs.Shapes as model
 use Rattle.map_model.specs.Refusal as refusals
 use Rattle.map_model.specs.Command as commands

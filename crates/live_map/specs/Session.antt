@@ -4,7 +4,7 @@ use Rattle.map_model.specs.State.{State, empty_map}
 use Rattle.map_model.specs.Refusal.{NoMemory}
 use Rattle.map_model.specs.Command.{Command, takes_memory}
 use Rattle.map_model.specs.Reply as replies
-use Rattle.map_model.specs.Machine.{Outcome, step}
+use Rattle.map_model.specs.Machine.{step}
 use Rattle.map_model.specs.Output.{Answer, Answers}
 use Rattle.live_map.specs.declared.map_session.Done.{Done}
 use Rattle.live_map.specs.declared.map_session.Done.TheVariants.{Silent, Answered, Refused}

@@ -1,5 +1,5 @@
 // Taking in a script.
-ghost use Rattle.std.specs.Prelude.{◌≡◌, ◌<◌, ◌≤◌, ℕ, List, [], ◌++◌, length, IfOk, OnOk, OnErr, MatchResult, Ok, Some, ◌+◌};
+ghost use Rattle.std.specs.Prelude.{◌≡◌, ◌<◌, ◌≤◌, ℕ, List, [], ◌++◌, length, IfOk, OnOk, OnErr, MatchResult, Ok, Some, ◌-◌, min, max};
 ghost use Rattle.std.specs.Io.KnownBytes.{Consumes};
 ghost use Rattle.map_io.specs.Faults.{Rose};
 ghost use Rattle.live_map.specs.Run.{script_limit, TakenIn, TakesSome};
@@ -41,10 +41,7 @@ pub fn take_in<S: Source>(text: &mut Vec<u8>, source: &mut S) -> Result<Ending, 
 }
 
 /// One read: `None` where it gave bytes that belong to the script.
-fn take_piece<S: Source>(
-    text: &mut Vec<u8>,
-    source: &mut S,
-) -> Result<Option<Ending>, AllocError>
+fn take_piece<S: Source>(text: &mut Vec<u8>, source: &mut S) -> Result<Option<Ending>, AllocError>
     requires { length text.old.items ≤ script_limit }
     ensures taken { MatchResult result
         (λ ending. Takes ending (S.rest source.old) (S.rest source.new) text.old.items text.new.items)
@@ -70,10 +67,7 @@ fn take_piece<S: Source>(
 /// How many bytes a read asks for: what fits a piece and the script, and one more behind the longest script.
 fn piece_len(taken: usize) -> usize
     requires { taken ≤ script_limit }
-    ensures some { 0 < result }
-    ensures fits_piece { result ≤ 4096 }
-    ensures fits_script { taken < script_limit → taken + result ≤ script_limit }
-    ensures one_more { taken ≡ script_limit → result ≡ 1 }
+    ensures { result ≡ max 1 (min 4096 (script_limit - taken)) }
 {
     let left = SCRIPT_LIMIT - taken;
     left.clamp(1, PIECE)

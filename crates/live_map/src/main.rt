@@ -6,9 +6,8 @@ mod intake;
 pub mod map_session;
 mod run;
 
-pub use run::{Status, run};
-
 use map_io::{StdSink, StdSource};
+pub use run::{Status, run};
 use std::process::ExitCode;
 use std::rt::Env;
 use std::{env, io};
@@ -38,3 +37,6 @@ fn words<R: Env + AllocGlobal>(rt: &R) -> io::Result<Vec<String>> {
     let words = env::args(rt)?.skip(1).collect(rt.alloc())?;
     Ok(words)
 }
+
+#[cfg(test)]
+mod tests;

@@ -42,7 +42,7 @@ impl Model for Session {
 }
 
 impl Session {
-    ghost use Rattle.std.specs.Prelude.{◌≡◌, ◌↔◌, ◌<◌, ◌≤◌, ◌^◌, IfOk, OnErr, Ok, None};
+    ghost use Rattle.std.specs.Prelude.{◌≡◌, ◌↔◌, ◌+◌, ◌<◌, ◌≤◌, ◌^◌, IfOk, OnErr, Ok, None};
     ghost use Rattle.std.specs.Io.KnownBytes.{Appends};
     ghost use Rattle.map_io.specs.Faults.{Rose};
     ghost use Rattle.map_io.specs.Parts.{AppendsPart};
@@ -89,6 +89,8 @@ impl Session {
             × (done ≡ done_of given.reply) × Appends (K.written sink.old) (K.written sink.new) (written_for given.reply)) }
         ensures fault { OnErr result ((given : Answer) × Executes self.old self.new line.now given
             × AppendsPart (K.written sink.old) (K.written sink.new) (written_for given.reply)) }
+
+        ensures counted { self.new.lines ≡ self.old.lines + 1 }
 
         // A line that says nothing is silent, and no other one is.
         ensures silent { (result ≡ Ok Done.Silent) ↔ (parse line.now ≡ Ok None) }

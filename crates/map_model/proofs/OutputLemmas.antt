@@ -1,15 +1,15 @@
 -- The laws of the output relation.
-use Rattle.std.proofs.Common.{◌≡◌, ℕ, zero, suc, ◌+◌, ◌<◌, ◌≤◌, Bool, true, false, cond, not, ◌&&◌, List, [], ◌∷◌, ◌++◌, length, take, codes, Option, Some, None, Result, Ok, Err, IsTrue, Contains, get_or, arith, refl, sym, ap, ◌∙◌, subst, append_assoc, append-nil, inl, inr, ◌⊎◌, add_assoc, add-zero, zero-add, length-append, take_at, le_of_lt}
-use Rattle.std.proofs.lemmas.Bool.{cases_Bool, true≢false, false≢true, and_parts, not-true, not-false, both_ways, eqb-false}
+use Rattle.std.proofs.Common.{◌≡◌, ℕ, suc, ◌+◌, ◌<◌, false, not, List, [], ◌∷◌, ◌++◌, length, take, codes, Option, Some, None, Result, Ok, Err, IsTrue, Contains, get_or, arith, refl, sym, ap, ◌∙◌, subst, append_assoc, append-nil, inl, inr, add_assoc, add-zero, zero-add, length-append, take_at, le_of_lt}
+use Rattle.std.proofs.lemmas.Bool.{true≢false, false≢true, and_parts, not-true, both_ways, eqb-false}
 use Rattle.std.proofs.lemmas.List.{append_cancel_left, get_or_at, take-append-le, get_or_append_left}
 use Rattle.map_model.specs.State.{State}
-use Rattle.map_model.specs.Refusal.{Refusal, NoCommand, NoLayer, Duplicate, NoMemory}
+use Rattle.map_model.specs.Refusal.{Refusal, NoMemory}
 use Rattle.map_model.specs.Command.{Command, takes_memory}
 use Rattle.map_model.specs.Reply.{Reply, Made, Updated, Counted, Refused, is_refusal, refusal_count, reply_text, reply_line, written_for}
 use Rattle.map_model.specs.Machine.{step}
 use Rattle.map_model.specs.Grammar.{parse}
 use Rattle.map_model.specs.Text.{lines, refusals}
-use Rattle.map_model.specs.Output.{Answer, answer, answer_to, may_lack_memory, may_lack_memory_at, no_memory, Answers, Output, Interrupted, machine_text, machine_end, never_lacks_memory}
+use Rattle.map_model.specs.Output.{Answer, answer, answer_to, may_lack_memory, may_lack_memory_at, Answers, Output, Interrupted, machine_text, machine_end, never_lacks_memory}
 use Rattle.map_model.proofs.TextLemmas.{lines-reply, refusals-append}
 
 -- what no refusal begins with, `no memory` doesn't
@@ -65,9 +65,10 @@ machine_is_output start (line ∷ lines) = (answer start line, inl refl, machine
 
 -- with the machine's answer to the first line, the rest is the machine's
 by_machine : (start end : State) (line : List ℕ) (lines : List (List ℕ)) (given : Answer) (rest : List ℕ) → given ≡ answer start line → (rest ≡ machine_text given.state lines) × (end ≡ machine_end given.state lines) → (written_for given.reply ++ rest ≡ machine_text start (line ∷ lines)) × (end ≡ machine_end start (line ∷ lines))
-by_machine start end line lines given rest e h =
-    (ap (λ (z : List ℕ). written_for given.reply ++ z) h.0 ∙ ap (λ (g : Answer). written_for g.reply ++ machine_text g.state lines) e,
-     h.1 ∙ ap (λ (g : Answer). machine_end g.state lines) e)
+by_machine start end line lines given rest e h = (
+  ap (λ (z : List ℕ). written_for given.reply ++ z) h.0 ∙ ap (λ (g : Answer). written_for g.reply ++ machine_text g.state lines) e,
+  h.1 ∙ ap (λ (g : Answer). machine_end g.state lines) e,
+)
 
 -- where memory is never needed, the machine's run is the only output
 pub only_output : (start end : State) (lines : List (List ℕ)) (written : List ℕ) → IsTrue (never_lacks_memory start lines) → Output start lines written end → (written ≡ machine_text start lines) × (end ≡ machine_end start lines)
@@ -75,10 +76,10 @@ only_output start end [] written h p = p
 only_output start end (line ∷ lines) written h p =
     let parts = and_parts (not (may_lack_memory start line)) (never_lacks_memory (answer start line).state lines) h in
     elim p.1 [
-      inl e ↦
-        let r = by_machine start end line lines p.0 p.2 e (only_output p.0.state end lines p.2 (subst (λ (g : Answer). IsTrue (never_lacks_memory g.state lines)) (sym e) parts.1) p.4) in
-        (p.3 ∙ r.0, r.1)
-    | inr lacking ↦ absurd (both_ways (may_lack_memory start line) (not-true _ parts.0) lacking.0)
+      | inl e ↦
+          let r = by_machine start end line lines p.0 p.2 e (only_output p.0.state end lines p.2 (subst (λ (g : Answer). IsTrue (never_lacks_memory g.state lines)) (sym e) parts.1) p.4) in
+          (p.3 ∙ r.0, r.1)
+      | inr lacking ↦ absurd (both_ways (may_lack_memory start line) (not-true _ parts.0) lacking.0)
     ]
 
 contains_first : (x : List ℕ) (xs : List (List ℕ)) → Contains (x ∷ xs) x
@@ -97,11 +98,11 @@ output_without_refusals start end [] written h p = p
 output_without_refusals start end (line ∷ script) written h p =
     let untold : Contains (lines (written_for p.0.reply ++ p.2)) (codes "no memory") → ⊥ = subst (λ (z : List ℕ). Contains (lines z) (codes "no memory") → ⊥) p.3 h in
     elim p.1 [
-      inl e ↦
-        let r = by_machine start end line script p.0 p.2 e (output_without_refusals p.0.state end script p.2 (told_by_rest p.0.reply p.2 (codes "no memory") untold) p.4) in
-        (p.3 ∙ r.0, r.1)
-    | inr lacking ↦ absurd (untold (subst (λ (g : Answer). Contains (lines (written_for g.reply ++ p.2)) (codes "no memory")) (sym lacking.1)
-        (subst (λ (ls : List (List ℕ)). Contains ls (codes "no memory")) (sym (lines-reply (Refused NoMemory) p.2)) (contains_first (codes "no memory") (lines p.2)))))
+      | inl e ↦
+          let r = by_machine start end line script p.0 p.2 e (output_without_refusals p.0.state end script p.2 (told_by_rest p.0.reply p.2 (codes "no memory") untold) p.4) in
+          (p.3 ∙ r.0, r.1)
+      | inr lacking ↦ absurd (untold (subst (λ (g : Answer). Contains (lines (written_for g.reply ++ p.2)) (codes "no memory")) (sym lacking.1)
+          (subst (λ (ls : List (List ℕ)). Contains ls (codes "no memory")) (sym (lines-reply (Refused NoMemory) p.2)) (contains_first (codes "no memory") (lines p.2)))))
     ]
 
 -- Behind an output, what is written refuses what it refuses alone.

@@ -1,8 +1,8 @@
 -- Lines of a text, and the lines that replies are.
-use Rattle.std.proofs.Common.{◌≡◌, ℕ, zero, suc, ◌+◌, ◌*◌, ◌/◌, ◌%◌, ◌<◌, ◌≤◌, Bool, true, false, cond, not, ◌&&◌, ◌||◌, eqb, nat_eq, nat_lt, List, [], ◌∷◌, ◌++◌, length, codes, decimal, Option, Some, None, IsTrue, Contains, count_by, get_or, arith, refl, sym, ap, ◌∙◌, subst, append_assoc, mod-lt, inl, inr, ◌⊎◌}
-use Rattle.std.specs.List.{onto_first, list_all, starts_with}
+use Rattle.std.proofs.Common.{◌≡◌, ℕ, zero, suc, ◌+◌, ◌/◌, ◌%◌, ◌<◌, Bool, true, false, cond, not, ◌&&◌, nat_eq, List, [], ◌∷◌, ◌++◌, codes, decimal, Option, Some, None, count_by, arith, refl, sym, ap, ◌∙◌, append_assoc, mod-lt, inl, inr}
+use Rattle.std.specs.List.{onto_first, starts_with}
 use Rattle.std.specs.Fmt.{digits, digits_onto, digit_glyph}
-use Rattle.std.proofs.lemmas.Bool.{cases_Bool, true≢false, false≢true, and_parts, not-true, cond_both}
+use Rattle.std.proofs.lemmas.Bool.{cases_Bool, and_parts, not-true, cond_both}
 use Rattle.std.proofs.lemmas.Bool.Decides.{nat_tests}
 use Rattle.std.proofs.lemmas.List.Sums.{sum_by-cons}
 use Rattle.map_model.specs.Refusal.{Refusal, NoCommand, NoLayer, Duplicate, NoMemory, refusal_text}
@@ -45,8 +45,8 @@ has_line [] = ([], [], refl)
 has_line (byte ∷ text) =
     let r = has_line text in
     elim (cases_Bool (nat_eq byte 10)) [
-      inl yes' ↦ ([], lines (text ++ 10 ∷ []), ap (λ b. cond b ([] ∷ lines (text ++ 10 ∷ [])) (onto_first byte (lines (text ++ 10 ∷ [])))) yes')
-    | inr no' ↦ (byte ∷ r.0, r.1, ap (λ b. cond b ([] ∷ lines (text ++ 10 ∷ [])) (onto_first byte (lines (text ++ 10 ∷ [])))) no' ∙ ap (onto_first byte) r.2)
+      | inl yes' ↦ ([], lines (text ++ 10 ∷ []), ap (λ b. cond b ([] ∷ lines (text ++ 10 ∷ [])) (onto_first byte (lines (text ++ 10 ∷ [])))) yes')
+      | inr no' ↦ (byte ∷ r.0, r.1, ap (λ b. cond b ([] ∷ lines (text ++ 10 ∷ [])) (onto_first byte (lines (text ++ 10 ∷ [])))) no' ∙ ap (onto_first byte) r.2)
     ]
 
 -- The lines of a text that a line feed ends, with another text behind it, are the lines of both.
@@ -55,14 +55,14 @@ lines-append [] rest = refl
 lines-append (byte ∷ text) rest =
     let r = has_line text in
     let first : onto_first byte (lines (text ++ 10 ∷ []) ++ lines rest) ≡ onto_first byte (lines (text ++ 10 ∷ [])) ++ lines rest =
-      ap (λ ls. onto_first byte (ls ++ lines rest)) r.2 ∙ sym (ap (λ ls. onto_first byte ls ++ lines rest) r.2) in
+    ap (λ ls. onto_first byte (ls ++ lines rest)) r.2 ∙ sym (ap (λ ls. onto_first byte ls ++ lines rest) r.2) in
     elim (cases_Bool (nat_eq byte 10)) [
-      inl yes' ↦ ap (λ b. cond b ([] ∷ lines ((text ++ 10 ∷ []) ++ rest)) (onto_first byte (lines ((text ++ 10 ∷ []) ++ rest)))) yes'
-        ∙ ap (λ ls. [] ∷ ls) (lines-append text rest)
-        ∙ sym (ap (λ b. cond b ([] ∷ lines (text ++ 10 ∷ [])) (onto_first byte (lines (text ++ 10 ∷ []))) ++ lines rest) yes')
-    | inr no' ↦ ap (λ b. cond b ([] ∷ lines ((text ++ 10 ∷ []) ++ rest)) (onto_first byte (lines ((text ++ 10 ∷ []) ++ rest)))) no'
-        ∙ ap (onto_first byte) (lines-append text rest) ∙ first
-        ∙ sym (ap (λ b. cond b ([] ∷ lines (text ++ 10 ∷ [])) (onto_first byte (lines (text ++ 10 ∷ []))) ++ lines rest) no')
+      | inl yes' ↦ ap (λ b. cond b ([] ∷ lines ((text ++ 10 ∷ []) ++ rest)) (onto_first byte (lines ((text ++ 10 ∷ []) ++ rest)))) yes'
+          ∙ ap (λ ls. [] ∷ ls) (lines-append text rest)
+          ∙ sym (ap (λ b. cond b ([] ∷ lines (text ++ 10 ∷ [])) (onto_first byte (lines (text ++ 10 ∷ []))) ++ lines rest) yes')
+      | inr no' ↦ ap (λ b. cond b ([] ∷ lines ((text ++ 10 ∷ []) ++ rest)) (onto_first byte (lines ((text ++ 10 ∷ []) ++ rest)))) no'
+          ∙ ap (onto_first byte) (lines-append text rest) ∙ first
+          ∙ sym (ap (λ b. cond b ([] ∷ lines (text ++ 10 ∷ [])) (onto_first byte (lines (text ++ 10 ∷ []))) ++ lines rest) no')
     ]
 
 -- ---- replies
@@ -121,12 +121,17 @@ lines_begin_whole [] more = (lines more, refl)
 lines_begin_whole (byte ∷ text) more =
     let r = lines_begin_whole text more in
     elim (cases_Bool (nat_eq byte 10)) [
-      inl yes' ↦ (r.0, ap (λ b. cond b ([] ∷ lines (text ++ more)) (onto_first byte (lines (text ++ more)))) yes' ∙ ap (λ ls. [] ∷ ls) r.1
-        ∙ sym (ap (λ b. cond b ([] ∷ whole_lines text) (onto_first_if_any byte (whole_lines text)) ++ r.0) yes'))
-    | inr no' ↦
-        let joined = onto_whole byte (lines (text ++ more)) (whole_lines text) r.0 r.1 in
-        (joined.0, ap (λ b. cond b ([] ∷ lines (text ++ more)) (onto_first byte (lines (text ++ more)))) no' ∙ joined.1
-          ∙ sym (ap (λ b. cond b ([] ∷ whole_lines text) (onto_first_if_any byte (whole_lines text)) ++ joined.0) no'))
+      | inl yes' ↦ (
+        r.0,
+        ap (λ b. cond b ([] ∷ lines (text ++ more)) (onto_first byte (lines (text ++ more)))) yes' ∙ ap (λ ls. [] ∷ ls) r.1
+            ∙ sym (ap (λ b. cond b ([] ∷ whole_lines text) (onto_first_if_any byte (whole_lines text)) ++ r.0) yes'),
+      )
+      | inr no' ↦
+          let joined = onto_whole byte (lines (text ++ more)) (whole_lines text) r.0 r.1 in (
+            joined.0,
+            ap (λ b. cond b ([] ∷ lines (text ++ more)) (onto_first byte (lines (text ++ more)))) no' ∙ joined.1
+                ∙ sym (ap (λ b. cond b ([] ∷ whole_lines text) (onto_first_if_any byte (whole_lines text)) ++ joined.0) no'),
+          )
     ]
   where
     onto_whole : (byte : ℕ) (all whole tail : List (List ℕ)) → all ≡ whole ++ tail → (tail' : List (List ℕ)) × (onto_first byte all ≡ onto_first_if_any byte whole ++ tail')

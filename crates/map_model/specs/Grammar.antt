@@ -1,10 +1,10 @@
 -- What a line of bytes without its line feed says: nothing, a command, or no command at all.
-use Rattle.std.specs.Prelude.{◌==◌, ℕ, ◌-◌, ◌^◌, Bool, true, false, ◌&&◌, ◌||◌, not, List, [], ◌∷◌, length, Option, Some, None, Result, Ok, Err, nat_le, nat_lt, bytes_eq, codes, filter, option_and_then, if◌then◌else◌, take}
+use Rattle.std.specs.Prelude.{◌==◌, ℕ, ◌-◌, ◌^◌, Bool, true, false, ◌&&◌, ◌||◌, not, List, [], ◌∷◌, length, Option, Some, None, Result, Ok, Err, nat_le, nat_lt, bytes_eq, codes, filter, option_and_then, if◌then◌else◌}
 use Rattle.std.specs.List.{list_all, slice_split, starts_with}
 use Rattle.std.specs.Char.{is_ascii_alphanumeric}
 use Rattle.std.specs.Str.{all_ascii_digits}
 use Rattle.std.specs.Str.Parse.{digits_value}
-use Rattle.map_model.specs.Shapes.{Shape, Point, Rect}
+use Rattle.map_model.specs.Shapes.{Point}
 use Rattle.map_model.specs.Refusal.{Refusal, NoCommand}
 use Rattle.map_model.specs.Command.{Command, MakeLayer, Add, Count}
 

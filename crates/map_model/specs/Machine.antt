@@ -1,7 +1,7 @@
 -- The machine that scans a map: one command, its reply and the map after it. The first refusal that holds is
 -- the reply, and the map then stays as it is.
-use Rattle.std.specs.Prelude.{ℕ, List, [], ◌∷◌, ◌++◌, Option, Some, None, if◌then◌else◌}
-use Rattle.map_model.specs.Shapes.{Shape, Rect}
+use Rattle.std.specs.Prelude.{ℕ, List, [], ◌∷◌, Option, Some, None, if◌then◌else◌}
+use Rattle.map_model.specs.Shapes.{Rect}
 use Rattle.map_model.specs.State.{Item, Layer, State, is_live, count_in, layer_named, with_item_in}
 use Rattle.map_model.specs.Refusal.{Refusal, NoCommand, NoLayer, Duplicate}
 use Rattle.map_model.specs.Command.{Command, MakeLayer, Add, Count}

@@ -4,7 +4,7 @@ use Rattle.map_model.specs.State.{State}
 use Rattle.map_model.specs.Refusal.{Refusal, NoMemory}
 use Rattle.map_model.specs.Command.{Command, takes_memory}
 use Rattle.map_model.specs.Reply.{Reply, Refused, is_refusal, written_for}
-use Rattle.map_model.specs.Machine.{Outcome, step}
+use Rattle.map_model.specs.Machine.{step}
 use Rattle.map_model.specs.Grammar.{parse}
 
 -- a line's reply, where it has one, and the map after it

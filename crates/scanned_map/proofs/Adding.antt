@@ -1,20 +1,19 @@
 -- An add to a layer's points is the machine's add.
-use Rattle.std.proofs.Common.{◌≡◌, ◌==◌, ◌||◌, ℕ, Bool, true, false, cond, List, [], ◌∷◌, ◌++◌, map, Option, Some, None, Result, Ok, Err, bytes_eq, refl, sym, ap, ◌∙◌, subst}
-use Rattle.std.proofs.lemmas.List.{map_push}
-use Rattle.map_model.specs.State.{Item, Layer, State, is_live, layer_named, with_item, with_item_in}
+use Rattle.std.proofs.Common.{◌≡◌, ◌==◌, ◌||◌, ℕ, Bool, true, false, cond, List, [], ◌∷◌, ◌++◌, map, Some, None, Result, Ok, Err, bytes_eq, refl, sym, ap, ◌∙◌, subst}
+use Rattle.map_model.specs.State.{Item, Layer, State, is_live, with_item, with_item_in}
 use Rattle.map_model.specs.Refusal as refusals
 use Rattle.map_model.specs.Command.{Command, Add}
-use Rattle.map_model.specs.Reply.{Reply, Updated, Refused, is_refusal}
+use Rattle.map_model.specs.Reply.{Updated, Refused, is_refusal}
 use Rattle.map_model.specs.Machine.{Outcome, step, add_to}
 use Rattle.map_shapes.specs.declared.point.Point.{Point}
-use Rattle.map_shapes.specs.Point.{shape_of, item_of}
+use Rattle.map_shapes.specs.Point.{item_of}
 use Rattle.scanned_map.specs.declared.layer.ScannedLayer.{ScannedLayer}
 use Rattle.scanned_map.specs.declared.faults.UpdateFault.{UpdateFault}
 use Rattle.scanned_map.specs.declared.faults.UpdateFault.TheVariants.{NoLayer, Duplicate, NoMemory}
 use Rattle.scanned_map.specs.View.{layer_of, state_of}
 use Rattle.std.specs.List.{list_any}
 use Rattle.scanned_map.specs.Items.{AddsItem}
-use Rattle.scanned_map.specs.Outcomes.{IsStep, IsUpdate}
+use Rattle.scanned_map.specs.Outcomes.{IsUpdate}
 
 pub is_live-map : (id : ℕ) (points : List Point) → is_live id (map item_of points) ≡ list_any (λ point. point.id == id) points
 is_live-map id [] = refl

@@ -4,7 +4,7 @@ use Rattle.map_model.specs.State.{State}
 use Rattle.map_model.specs.Refusal as refusals
 use Rattle.map_model.specs.Command.{Command}
 use Rattle.map_model.specs.Reply.{Reply, Made, Updated, Counted, Refused, is_refusal}
-use Rattle.map_model.specs.Machine.{Outcome, step}
+use Rattle.map_model.specs.Machine.{step}
 use Rattle.scanned_map.specs.declared.faults.CreateFault.{CreateFault}
 use Rattle.scanned_map.specs.declared.faults.CreateFault.TheVariants as create
 use Rattle.scanned_map.specs.declared.faults.UpdateFault.{UpdateFault}

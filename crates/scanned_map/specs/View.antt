@@ -1,5 +1,5 @@
 -- The map that a vector of points stands for.
-use Rattle.std.specs.Prelude.{List, [], ◌∷◌, map, Option, Some, None}
+use Rattle.std.specs.Prelude.{[], ◌∷◌, map, Option, Some, None}
 use Rattle.map_model.specs.State.{Layer, State}
 use Rattle.map_shapes.specs.Point.{item_of}
 use Rattle.scanned_map.specs.declared.layer.ScannedLayer.{ScannedLayer}

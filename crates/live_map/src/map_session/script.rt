@@ -12,7 +12,9 @@ use std::str;
 #[derive(Clone, Copy, Debug)]
 pub enum Command {
     /// `layer NAME points range`
-    Layer { name: Name },
+    Layer {
+        name: Name,
+    },
     /// `add NAME ID X Y W`
     Add {
         name: Name,
@@ -22,7 +24,10 @@ pub enum Command {
         w: u32,
     },
     /// `count NAME X1 Y1 X2 Y2`
-    Count { name: Name, rect: Rect },
+    Count {
+        name: Name,
+        rect: Rect,
+    },
 }
 
 /// A line that is none of the forms.
@@ -33,9 +38,13 @@ pub struct NoCommand;
 const LONGEST_LINE: usize = 256;
 
 const LAYER: &[u8] = b"layer";
+
 const ADD: &[u8] = b"add";
+
 const COUNT: &[u8] = b"count";
+
 const POINTS: &[u8] = b"points";
+
 const RANGE: &[u8] = b"range";
 
 const GREATEST_COORDINATE: u64 = 2_147_483_647;

@@ -1,4 +1,4 @@
-use Rattle.std.proofs.Common.{List, ℕ, [], ◌∷◌, ◌++◌, sym, subst}
+use Rattle.std.proofs.Common.{List, ℕ, [], ◌∷◌, ◌++◌, subst}
 use Rattle.map_model.specs.Text.{lines}
 use Rattle.map_model.specs.Output.{Output}
 use Rattle.map_model.proofs.OutputLemmas.{Output-split}

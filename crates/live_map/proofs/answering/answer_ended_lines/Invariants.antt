@@ -1,4 +1,4 @@
-use Rattle.std.proofs.Common.{◌≤◌, ℕ, length}
+use Rattle.std.proofs.Common.{◌≤◌, length}
 use Rattle.live_map.specs.Run.{Progress}
 use Rattle.live_map.proofs.answering.answer_ended_lines.Given as goal
 
@@ -6,7 +6,7 @@ use Rattle.live_map.proofs.answering.answer_ended_lines.Given as goal
 abbrev pub invariant-loop-line : goal.invariant-loop-line
 invariant-loop-line g l = record {
   progress : Progress l.initial.session (g.K.Sink.written l.initial.sink) l.text l.rest l.session (g.K.Sink.written l.sink);
-  kept : g.K.Sink.faults l.initial.sink ≤ g.K.Sink.faults l.sink
+  kept : g.K.Sink.faults l.initial.sink ≤ g.K.Sink.faults l.sink;
 }
 
 abbrev pub decreases-loop-line : goal.decreases-loop-line

@@ -1,4 +1,4 @@
-use Rattle.std.proofs.Common.{◌≡◌, ◌==◌, ℕ, ◌<◌, ◌≤◌, length, take, true, arith}
+use Rattle.std.proofs.Common.{◌<◌, length, arith}
 use Rattle.live_map.proofs.Lines.{one_line_from, one_line-take, split_at_feed}
 use Rattle.live_map.proofs.answering.split_line.Goals as goal
 

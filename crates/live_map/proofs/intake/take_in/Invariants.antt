@@ -8,7 +8,7 @@ abbrev pub invariant-loop-ending : goal.invariant-loop-ending
 invariant-loop-ending g l = record {
   taken : Consumes (g.S.Source.rest l.initial.source) (g.S.Source.rest l.source) l.text.items;
   fits : length l.text.items ≤ script_limit;
-  kept : g.S.Source.faults l.initial.source ≤ g.S.Source.faults l.source
+  kept : g.S.Source.faults l.initial.source ≤ g.S.Source.faults l.source;
 }
 
 abbrev pub decreases-loop-ending : goal.decreases-loop-ending

@@ -1,4 +1,4 @@
-use Rattle.std.proofs.Common.{ℕ, List, ap}
+use Rattle.std.proofs.Common.{ap}
 use Rattle.map_model.specs.Text.{lines, whole_lines}
 use Rattle.live_map.specs.declared.intake.Ending.{Ending}
 use Rattle.live_map.specs.Run.{script_of}

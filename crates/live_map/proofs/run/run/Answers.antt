@@ -1,4 +1,4 @@
-use Rattle.std.proofs.Common.{◌≡◌, ℕ, List, sym, subst}
+use Rattle.std.proofs.Common.{ℕ, List, subst}
 use Rattle.live_map.specs.declared.run.Status.{Status}
 use Rattle.live_map.specs.Run.{AnswersText}
 use Rattle.live_map.proofs.Endings.{told_interrupted, told_too_long}

@@ -1,10 +1,9 @@
-use Rattle.std.proofs.Common.{◌≡◌, ◌==◌, [], ◌∷◌, ◌++◌, map, refl, sym, ap, ◌∙◌, true, false}
+use Rattle.std.proofs.Common.{◌==◌, map, refl, sym, ap, ◌∙◌}
 use Rattle.std.proofs.lemmas.List.{map_push}
 use Rattle.std.proofs.lemmas.Result.{err_from_is_err_and}
 use Rattle.std.specs.List.{list_any}
 use Rattle.map_shapes.specs.declared.point.Point.{Point}
 use Rattle.map_shapes.specs.Point.{item_of}
-use Rattle.scanned_map.specs.Items.{AddsItem}
 use Rattle.scanned_map.proofs.Adding.{is_live-map}
 use Rattle.scanned_map.proofs.layer.add_to.Goals as goal
 

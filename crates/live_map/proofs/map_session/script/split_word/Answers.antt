@@ -1,8 +1,7 @@
-use Rattle.std.proofs.Common.{◌≡◌, ◌<◌, ℕ, [], ◌∷◌, List, length, take, drop, false, sym, ap, ◌∙◌, arith, pos_of_ne-zero}
+use Rattle.std.proofs.Common.{◌≡◌, ◌<◌, [], ◌∷◌, length, take, drop, sym, ap, ◌∙◌, pos_of_ne-zero}
 use Rattle.std.proofs.lemmas.List.{nil_from_length}
 use Rattle.std.proofs.lemmas.Bool.{eqb-true, eqb-false}
-use Rattle.std.specs.List.{prefix_len}
-use Rattle.map_model.specs.Grammar.{words, is_blank, is_word_byte}
+use Rattle.map_model.specs.Grammar.{words}
 use Rattle.map_model.proofs.WordLemmas.{words-drop_blanks, first_behind_blanks, words-text}
 use Rattle.live_map.proofs.map_session.script.split_word.Goals as goal
 

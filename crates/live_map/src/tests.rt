@@ -1,0 +1,308 @@
+// Scripts over memory, against answers that were written by hand.
+ghost use Rattle.std.specs.Prelude.{ℕ, ◌<◌, ◌≤◌, All, IfOk};
+ghost use Rattle.std.specs.List.Sorted.{IsStrictlyIncreasing};
+
+use super::*;
+use crate::map_session::{Done, Session};
+use map_io::{MemSink, MemSource, WriteFault};
+use std::alloc::{AllocError, Global};
+use std::test::Fail;
+
+/// A source's or a sink's piece, and the number of its call that fails: 0 for none.
+#[derive(Clone, Copy)]
+struct Plan {
+    piece: usize,
+    failing: u64,
+}
+
+const WHOLE: Plan = Plan {
+    piece: 4096,
+    failing: 0,
+};
+
+const BYTEWISE: Plan = Plan {
+    piece: 1,
+    failing: 0,
+};
+
+fn failing_calls(alloc: Global, call: u64) -> Result<Vec<u64>, AllocError>
+    ensures rising { IfOk result (λ calls. IsStrictlyIncreasing calls.items) }
+    ensures numbered { IfOk result (λ calls. All (λ n. 0 < n) calls.items) }
+{
+    let mut calls = Vec::new(alloc);
+    if call > 0 {
+        calls.push(call)?;
+    }
+    Ok(calls)
+}
+
+/// What a script is answered, with its status.
+fn answered(
+    alloc: Global,
+    script: &[u8],
+    reads: Plan,
+    writes: Plan,
+) -> Result<(Status, Vec<u8>), Fail>
+    requires reads { 1 ≤ reads.piece }
+    requires writes { 1 ≤ writes.piece }
+{
+    let bytes = Vec::from_slice(alloc, script)?;
+    let space = vec![in alloc; 0u8; 4096]?;
+    let mut source = MemSource::new(bytes, reads.piece, failing_calls(alloc, reads.failing)?);
+    let mut sink = MemSink::new(space, writes.piece, failing_calls(alloc, writes.failing)?);
+    let status = run(alloc, &[], &mut source, &mut sink);
+    let written = Vec::from_slice(alloc, sink.written())?;
+    Ok((status, written))
+}
+
+const ROWS: [(&[u8], &[u8], Status); 12] = [
+    (b"", b"", Status::Clean),
+    (
+        b"layer a points range\ncount a 0 0 9 9\n",
+        b"ok\ncount 0\n",
+        Status::Clean,
+    ),
+    (
+        b"layer a points range\nadd a 7 1 1 1\nadd a 7 2 2 2\ncount a 0 0 9 9\ncount b 0 0 9 9\ndrop a 7\n",
+        b"ok\nok\nno duplicate 7\ncount 1\nno layer\nno command\n",
+        Status::Refusals,
+    ),
+    // The border is inside, and a last line without a line feed counts.
+    (
+        b"layer a points range\nadd a 1 0 0 2147483647\nadd a 2 2147483647 2147483647 2147483647\ncount a 0 0 2147483647 2147483647",
+        b"ok\nok\nok\ncount 2\n",
+        Status::Clean,
+    ),
+    (b"\n", b"", Status::Clean),
+    (b" \t \n# layer\n#\n\t#x y\n", b"", Status::Clean),
+    (
+        b"layer a points range\nlayer b points range\nadd b 1 0 0 0\n",
+        b"ok\nno command\nno layer\n",
+        Status::Refusals,
+    ),
+    // Numbers: leading zeros, the greatest identifier, one past it, one past a coordinate, a sign.
+    (
+        b"layer a points range\nadd a 0018446744073709551615 1 1 1\nadd a 18446744073709551615 1 1 1\nadd a 18446744073709551616 1 1 1\nadd a 1 2147483648 0 0\nadd a +1 0 0 0\n",
+        b"ok\nok\nno duplicate 18446744073709551615\nno command\nno command\nno command\n",
+        Status::Refusals,
+    ),
+    // Names, orders and the number of fields.
+    (
+        b"layer abcdefghijklmnop points range\ncount abcdefghijklmnop 1 1 1 1\ncount abcdefghijklmnopq 1 1 1 1\ncount a! 1 1 1 1\ncount a 2 1 1 1\ncount a 1 2 1 1\ncount a 1 1 1\ncount a 1 1 1 1 1\n",
+        b"ok\ncount 0\nno command\nno command\nno command\nno command\nno command\nno command\n",
+        Status::Refusals,
+    ),
+    // A carriage return is a byte like any other.
+    (
+        b"layer a points range\r\ncount a 0 0 9 9\r\n#\r\n",
+        b"no command\nno command\n",
+        Status::Refusals,
+    ),
+    (
+        b"\x00\n\xFF\n#\xFF\n",
+        b"no command\nno command\n",
+        Status::Refusals,
+    ),
+    (
+        b"\tlayer\ta  points range \nadd a 1 5 5 1\ncount a 5 5 5 5\ncount a 6 5 9 5\n",
+        b"ok\nok\ncount 1\ncount 0\n",
+        Status::Clean,
+    ),
+];
+
+#[test]
+fn scripts_are_answered(rt: HostRuntime) -> Result<(), Fail> {
+    let alloc = rt.alloc();
+    for (script, wanted, status) in ROWS {
+        let (ended, written) = answered(alloc, script, WHOLE, WHOLE)?;
+        assert_eq!(rt; ended, status);
+        assert_eq!(rt; written.as_slice(), wanted);
+        let (ended, written) = answered(alloc, script, BYTEWISE, BYTEWISE)?;
+        assert_eq!(rt; ended, status);
+        assert_eq!(rt; written.as_slice(), wanted);
+    }
+    Ok(())
+}
+
+#[test]
+fn words_are_refused(rt: HostRuntime) -> Result<(), Fail> {
+    let alloc = rt.alloc();
+    let usage: &[u8] = b"usage: livemap [--ledger] [--make SEED] [--size N]\n";
+    let words = [String::from_str(alloc, "x")?];
+    let script = Vec::from_slice(alloc, b"layer a points range\n")?;
+    let mut source = MemSource::new(script, 4096, Vec::new(alloc));
+    let mut sink = MemSink::new(vec![in alloc; 0u8; 64]?, 4096, Vec::new(alloc));
+    let status = run(alloc, &words, &mut source, &mut sink);
+    assert_eq!(rt; status, Status::Usage);
+    assert_eq!(rt; status.code(), 2);
+    assert_eq!(rt; sink.written(), usage);
+
+    // No place for the line: a part of it is written.
+    let mut sink = MemSink::new(vec![in alloc; 0u8; 5]?, 4096, Vec::new(alloc));
+    let status = run(alloc, &words, &mut source, &mut sink);
+    assert_eq!(rt; status, Status::WriteFault);
+    assert_eq!(rt; sink.written(), b"usage".as_slice());
+    Ok(())
+}
+
+/// A line of `len` bytes that is nothing, but for its length: `#` and then `x`.
+fn comment(alloc: Global, len: usize) -> Result<Vec<u8>, AllocError> {
+    let mut line = vec![in alloc; b'x'; len]?;
+    if let Some(first) = line.first_mut() {
+        *first = b'#';
+    }
+    Ok(line)
+}
+
+#[test]
+fn lines_have_256_bytes_at_most(rt: HostRuntime) -> Result<(), Fail> {
+    let alloc = rt.alloc();
+    for (len, wanted) in [
+        (256, b"".as_slice()),
+        (257, b"no command\n".as_slice()),
+        (258, b"no command\n".as_slice()),
+        (1000, b"no command\n".as_slice()),
+    ] {
+        let (_, written) = answered(alloc, &comment(alloc, len)?, WHOLE, WHOLE)?;
+        assert_eq!(rt; written.as_slice(), wanted, "{len} bytes");
+    }
+    Ok(())
+}
+
+/// A script's lines, with their line feeds, and their answers.
+const TEN: [(&[u8], &[u8]); 10] = [
+    (b"layer a points range\n", b"ok\n"),
+    (b"add a 1 0 0 1\n", b"ok\n"),
+    (b"# a remark\n", b""),
+    (b"add a 2 9 9 1\n", b"ok\n"),
+    (b"add a 1 3 3 3\n", b"no duplicate 1\n"),
+    (b"count a 0 0 9 9\n", b"count 2\n"),
+    (b"\n", b""),
+    (b"count b 0 0 9 9\n", b"no layer\n"),
+    (b"drop a 1\n", b"no command\n"),
+    (b"count a 0 0 5 5", b"count 1\n"),
+];
+
+const PIECES: [usize; 3] = [1, 7, 4096];
+
+fn ten_lines(alloc: Global) -> Result<Vec<u8>, AllocError> {
+    let mut script = Vec::new(alloc);
+    for (line, _) in TEN {
+        script.extend_from_slice(line)?;
+    }
+    Ok(script)
+}
+
+/// The answers to the lines that a line feed ended in the first bytes of the script.
+fn answers_within(alloc: Global, taken: usize) -> Result<Vec<u8>, AllocError> {
+    let mut answers = Vec::new(alloc);
+    let mut end = 0usize;
+    for (line, answer) in TEN {
+        end = end.saturating_add(line.len());
+        if end <= taken && line.ends_with(b"\n") {
+            answers.extend_from_slice(answer)?;
+        }
+    }
+    Ok(answers)
+}
+
+/// The answers as far as this many calls of a sink take them.
+fn answers_by_calls(alloc: Global, piece: usize, calls: u64) -> Result<Vec<u8>, AllocError>
+    requires { 1 ≤ piece }
+{
+    let mut written = Vec::new(alloc);
+    let mut left = calls;
+    for (_, answer) in TEN {
+        for part in answer.chunks(piece) {
+            if left > 0 {
+                written.extend_from_slice(part)?;
+                left -= 1;
+            }
+        }
+    }
+    Ok(written)
+}
+
+#[test]
+fn a_failing_source_leaves_the_whole_lines(rt: HostRuntime) -> Result<(), Fail> {
+    let alloc = rt.alloc();
+    let script = ten_lines(alloc)?;
+    for piece in PIECES {
+        // One read for each piece, and one at the end.
+        let reads = script.len().div_ceil(piece) as u64;
+        for failing in 1..=reads.saturating_add(1) {
+            let taken = piece.saturating_mul(failing as usize - 1).min(script.len());
+            let (status, written) = answered(alloc, &script, Plan { piece, failing }, WHOLE)?;
+            assert_eq!(rt; status, Status::ReadFault, "call {failing} at {piece}");
+            assert_eq!(rt;
+                written.as_slice(),
+                answers_within(alloc, taken)?.as_slice(),
+                "call {failing} at {piece}"
+            );
+        }
+    }
+    Ok(())
+}
+
+#[test]
+fn a_failing_sink_keeps_the_front(rt: HostRuntime) -> Result<(), Fail> {
+    let alloc = rt.alloc();
+    let script = ten_lines(alloc)?;
+    let whole = answers_by_calls(alloc, 4096, u64::MAX)?;
+    for piece in PIECES {
+        for failing in 1..=100u64 {
+            let front = answers_by_calls(alloc, piece, failing - 1)?;
+            let wanted = if front.len() < whole.len() {
+                Status::WriteFault
+            } else {
+                Status::Refusals
+            };
+            let (status, written) = answered(alloc, &script, WHOLE, Plan { piece, failing })?;
+            assert_eq!(rt; status, wanted, "call {failing} at {piece}");
+            assert_eq!(rt;
+                written.as_slice(),
+                front.as_slice(),
+                "call {failing} at {piece}"
+            );
+        }
+    }
+    Ok(())
+}
+
+// 90 bytes are taken: the fourth line is bytes 86 to 118.
+#[test]
+fn a_source_fails_in_the_fourth_line(rt: HostRuntime) -> Result<(), Fail> {
+    let script =
+        b"layer a points range\nadd a 1 0 0 2147483647\nadd a 2 2147483647 2147483647 2147483647\ncount a 0 0 2147483647 2147483647\nsum a 0 0 2147483647 2147483647\n";
+    let reads = Plan {
+        piece: 30,
+        failing: 4,
+    };
+    let (status, written) = answered(rt.alloc(), script, reads, WHOLE)?;
+    assert_eq!(rt; status, Status::ReadFault);
+    assert_eq!(rt; status.code(), 3);
+    assert_eq!(rt; written.as_slice(), b"ok\nok\nok\n".as_slice());
+    Ok(())
+}
+
+#[test]
+fn a_session_outlives_a_fault(rt: HostRuntime) -> Result<(), Fail> {
+    let alloc = rt.alloc();
+    let mut session = Session::new(alloc);
+    let mut failing = MemSink::new(vec![in alloc; 0u8; 9]?, 9, failing_calls(alloc, 1)?);
+    assert_eq!(rt;
+        session.line(b"layer a points range", &mut failing),
+        Err(WriteFault)
+    );
+    let mut sink = MemSink::new(vec![in alloc; 0u8; 99]?, 9, Vec::new(alloc));
+    assert_eq!(rt;
+        session.line(b"count a 0 0 9 9", &mut sink),
+        Ok(Done::Answered)
+    );
+    assert_eq!(rt; session.line(b"fly a", &mut sink), Ok(Done::Refused));
+    assert_eq!(rt; session.line(b"#", &mut sink), Ok(Done::Silent));
+    assert_eq!(rt; sink.written(), b"count 0\nno command\n".as_slice());
+    assert_eq!(rt; session.lines(), 4);
+    assert_eq!(rt; session.refused(), 1);
+    Ok(())
+}
