@@ -1,15 +1,15 @@
 -- That lists in ascending order are joined in any order.
-use Rattle.std.specs.Prelude.{◌≡◌, ℕ, ◌+◌, ◌<◌, ◌≤◌, Bool, true, false, List, [], ◌∷◌, ◌++◌, ◌⊎◌, length, nat_le}
+use Rattle.std.specs.Prelude.{◌≡◌, ℕ, ◌≤◌, Bool, true, false, List, [], ◌∷◌, ◌++◌, nat_le}
 use Rattle.std.specs.List.{All}
 use Rattle.std.specs.List.Sorted.{IsNonDecreasing, IsPermutation}
-use Rattle.std.proofs.Common.{zero, suc, cond, get_or, arith, inl, inr, refl, sym, ap, ◌∙◌, append-nil, append_assoc}
+use Rattle.std.proofs.Common.{zero, suc, cond, arith, inl, inr, refl, sym, ap, ◌∙◌, append-nil, append_assoc}
 use Rattle.std.proofs.lemmas.Bool.{cases_lt, le-leb, lt-leb}
 use Rattle.std.proofs.lemmas.Bool.Decides.{nat_tests}
 use Rattle.std.proofs.lemmas.List.Elements.{All-cons, All-get_or}
-use Rattle.std.proofs.lemmas.List.Sorted.{All-permutation, IsPermutation-sym}
+use Rattle.std.proofs.lemmas.List.Sorted.{All-permutation}
 use Rattle.query_laws.specs.Decomposable.{IsDecomposable}
 use Rattle.query_laws.specs.Permuted.{Permuted, nothing, same_head, swapped_heads, composed}
-use Rattle.query_laws.proofs.Permutations.{Permuted-refl, Permuted-sym, Permuted-append_left, Permuted-append_right, Permuted-append, Permuted-append_comm, Permuted-from_IsPermutation, IsPermutation-from_Permuted}
+use Rattle.query_laws.proofs.Permutations.{Permuted-refl, Permuted-sym, Permuted-append_left, Permuted-append_right, Permuted-append_comm, Permuted-from_IsPermutation, IsPermutation-from_Permuted}
 use Rattle.map_shapes.specs.Ascending.{insert_sorted, sorted_ids, sorted_union}
 
 -- two numbers may be put in in either order

@@ -1,12 +1,11 @@
 -- That the questions about points are decomposable.
-use Rattle.std.specs.Prelude.{◌≡◌, ℕ, Bool, List, [], ◌++◌, map, filter}
+use Rattle.std.specs.Prelude.{Bool, List, [], map, filter}
 use Rattle.std.specs.List.Sorted.{IsNonDecreasing}
 use Rattle.std.proofs.Common.{ap, ◌∙◌, cond}
 use Rattle.std.proofs.lemmas.List.{map-append}
 use Rattle.std.proofs.lemmas.List.Elements.{filter-append}
 use Rattle.query_laws.specs.Decomposable.{IsDecomposable}
 use Rattle.query_laws.specs.Sums.{capped_add, FitsU64, IsDecomposable-capped_sum}
-use Rattle.map_shapes.specs.declared.point.Point.{Point}
 use Rattle.map_shapes.specs.declared.rect.Rect.{Rect}
 use Rattle.map_shapes.specs.Ascending.{sorted_union}
 use Rattle.map_shapes.specs.AscendingLaws.{IsDecomposable-sorted_ids}

@@ -22,3 +22,6 @@ pub use query_laws::Total;
 pub use recent::Recent;
 pub use rect::Rect;
 pub use sum_in::SumIn;
+
+#[cfg(test)]
+mod tests;
