@@ -1,0 +1,60 @@
+//! Questions whose tally takes in one item after another.
+ghost use Rattle.std.specs.Prelude.{◌≡◌, [], ◌∷◌, IsTrue, IfOk, IsErr};
+
+use crate::{CountIn, IdTally, ListIn, Point, SumIn, Total};
+use query_laws::{NoMemory, Question, Tally};
+use std::alloc::Global;
+
+/// A question with a call that takes one item into its tally.
+pub trait OneByOne: Question {
+    fn take(&self, item: &Self::Item, tally: &mut Self::Tally) -> Result<(), NoMemory>
+        requires { Self.owns self.now tally.old }
+        ensures owned { Self.owns self.now tally.new }
+        ensures joined { IfOk result (λ _. Self.Tally.so_far tally.new
+            ≡ Self.join self.now (Self.Tally.so_far tally.old) (Self.value self.now (item.now ∷ []))) }
+        ensures refused { IsErr result → IsTrue (Self.Tally.can_refuse tally.old) }
+        ensures same_refusal { Self.Tally.can_refuse tally.new ≡ Self.Tally.can_refuse tally.old };
+}
+
+/// The answer over a list.
+pub fn answer_over<Q: OneByOne>(
+    alloc: Global,
+    question: &Q,
+    items: &[Q::Item],
+) -> Result<Q::Answer, NoMemory>
+    ensures answer { IfOk result (λ answer. answer ≡ Q.value question.now items.now) }
+    ensures refused { IsErr result → IsTrue Q.refusable }
+{
+    let mut tally = question.tally(alloc);
+    for item in items {
+        question.take(item, &mut tally)?;
+    }
+    tally.finish()
+}
+
+impl OneByOne for CountIn {
+    fn take(&self, point: &Point, total: &mut Total) -> Result<(), NoMemory> {
+        if point.is_inside(&self.0) {
+            total.add(1);
+        }
+        Ok(())
+    }
+}
+
+impl OneByOne for SumIn {
+    fn take(&self, point: &Point, total: &mut Total) -> Result<(), NoMemory> {
+        if point.is_inside(&self.0) {
+            total.add(point.w as u64);
+        }
+        Ok(())
+    }
+}
+
+impl OneByOne for ListIn {
+    fn take(&self, point: &Point, ids: &mut IdTally) -> Result<(), NoMemory> {
+        if point.is_inside(&self.0) {
+            ids.push(point.id)?;
+        }
+        Ok(())
+    }
+}
