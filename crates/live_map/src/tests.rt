@@ -124,24 +124,39 @@ fn scripts_are_answered(rt: HostRuntime) -> Result<(), Fail> {
     Ok(())
 }
 
+/// A run with a word, and what it wrote.
+fn answered_with_a_word(
+    alloc: Global,
+    space: usize,
+    piece: usize,
+) -> Result<(Status, Vec<u8>), Fail>
+    requires { 1 ≤ piece }
+{
+    let words = [String::from_str(alloc, "x")?];
+    let script = Vec::from_slice(alloc, b"layer a points range\n")?;
+    let mut source = MemSource::new(script, 4096, Vec::new(alloc));
+    let mut sink = MemSink::new(vec![in alloc; 0u8; space]?, piece, Vec::new(alloc));
+    let status = run(alloc, &words, &mut source, &mut sink);
+    let written = Vec::from_slice(alloc, sink.written())?;
+    Ok((status, written))
+}
+
 #[test]
 fn words_are_refused(rt: HostRuntime) -> Result<(), Fail> {
     let alloc = rt.alloc();
     let usage: &[u8] = b"usage: livemap [--ledger] [--make SEED] [--size N]\n";
-    let words = [String::from_str(alloc, "x")?];
-    let script = Vec::from_slice(alloc, b"layer a points range\n")?;
-    let mut source = MemSource::new(script, 4096, Vec::new(alloc));
-    let mut sink = MemSink::new(vec![in alloc; 0u8; 64]?, 4096, Vec::new(alloc));
-    let status = run(alloc, &words, &mut source, &mut sink);
+    let (status, written) = answered_with_a_word(alloc, 64, 4096)?;
     assert_eq!(rt; status, Status::Usage);
     assert_eq!(rt; status.code(), 2);
-    assert_eq!(rt; sink.written(), usage);
+    assert_eq!(rt; written.as_slice(), usage);
+    let (status, written) = answered_with_a_word(alloc, 64, 1)?;
+    assert_eq!(rt; status, Status::Usage);
+    assert_eq!(rt; written.as_slice(), usage);
 
     // No place for the line: a part of it is written.
-    let mut sink = MemSink::new(vec![in alloc; 0u8; 5]?, 4096, Vec::new(alloc));
-    let status = run(alloc, &words, &mut source, &mut sink);
+    let (status, written) = answered_with_a_word(alloc, 5, 4096)?;
     assert_eq!(rt; status, Status::WriteFault);
-    assert_eq!(rt; sink.written(), b"usage".as_slice());
+    assert_eq!(rt; written.as_slice(), b"usage".as_slice());
     Ok(())
 }
 
