@@ -91,6 +91,8 @@ impl<B: Builder> Merge<B> {
         ensures merges { (level : ℕ) → let a = B.Part.Part.contents a.now in let b = B.Part.Part.contents b.now in
             length a.items + length b.items ≤ 2 ^ level → Merges B.Item.stamp B.Item.before self.new a b (begun level) }
     {
+        // By the tables' sizes the sum fits.
+        let _tables = &self.first.table;
         self.left = 2 * (a.len() + b.len()) as u64;
     }
 

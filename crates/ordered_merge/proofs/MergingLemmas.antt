@@ -1,0 +1,259 @@
+-- A merge, kept by each turn.
+use Rattle.std.proofs.Common.{◌≡◌, ℕ, zero, suc, ◌+◌, ◌-◌, ◌*◌, ◌<◌, ◌≤◌, ◌^◌, Bool, true, false, if◌then◌else◌, Option, Some, None, List, [], ◌∷◌, ◌++◌, length, map, refl, sym, ap, ◌∙◌, arith, subst, slice_get, length-append}
+use Rattle.std.specs.Option.{is_some}
+use Rattle.std.proofs.lemmas.Option.{slice_get_within}
+use Rattle.std.proofs.lemmas.List.{length_push, nil_from_length}
+use Rattle.query_laws.specs.Orders.{IsStrictTotalOrder}
+use Rattle.query_laws.specs.Permuted.{nothing}
+use Rattle.query_laws.proofs.Permutations.{Permuted-length}
+use Rattle.builder_trait.specs.Parts.{Contents, IsPart, marked}
+use Rattle.builder_trait.specs.Builders.{Progress, begun, FitsFirst, with_put}
+use Rattle.builder_trait.specs.Rebuilding.{live_before, live_reordered_before, flags_reordered}
+use Rattle.builder_trait.proofs.Kept.{length-kept_le}
+use Rattle.builder_trait.proofs.Places.{length-placed}
+use Rattle.ordered_merge.specs.Merging.{Merging, Merges, IsFront, IsNext, IsMerged, StampsDiffer, PassedBelow, HasNewPlaces, chosen, new_place, unbegun}
+use Rattle.ordered_merge.proofs.Fronts.{IsFront-more, PassedBelow-read, PassedBelow-other, IsAfter-merged, IsMerged-more, IsMerged-swap}
+use Rattle.ordered_merge.proofs.Tables.{live_before-taken, live_before-skipped, HasNewPlaces-longer, HasNewPlaces-skipped, HasNewPlaces-taken, reread_none}
+
+-- one more entry
+abbrev pub read_first : {Item : Type 0} → Bool → Item → Merging Item → Merging Item
+read_first live x m = record m {
+  first = record { table = m.first.table ++ new_place live m.taken ∷ []; reread = m.first.reread };
+  taken = if live then m.taken + 1 else m.taken;
+  reached = Some x;
+  left = m.left - 1;
+}
+
+-- one item more in order 1
+abbrev pub reread_first : {Item : Type 0} → Merging Item → Merging Item
+reread_first m = record m { first = record { table = m.first.table; reread = m.first.reread + 1 }; left = m.left - 1 }
+
+-- the parts in the other order
+abbrev pub swapped : {Item : Type 0} → Merging Item → Merging Item
+swapped m = record m { first = m.second; second = m.first }
+
+-- only the turns that are left differ
+pub same_left : {Item : Type 0} (m other : Merging Item) (n k : ℕ) → m ≡ other → n ≡ k → record m { left = n } ≡ record other { left = k }
+same_left {Item} m other n k e f = ap (λ (r : Merging Item). record r { left = n }) e ∙ ap (λ l. record other { left = l }) f
+
+module _ {Item : Type 0} {stamp : Item → ℕ} {before : ℕ → Item → Item → Bool} where
+  -- nothing is read
+  pub Merges-begun : (part other : Contents Item) (n level : ℕ) → length part.items ≤ n → length other.items ≤ n
+      → StampsDiffer stamp part.items other.items → length part.items + length other.items ≤ 2 ^ level
+      → Merges stamp before (record (unbegun n) { left = 2 * (length part.items + length other.items) }) part other (begun level)
+  Merges-begun part other n level fits other_fits stamps room = record {
+    fits = fits;
+    other_fits = other_fits;
+    room = room;
+    unsealed = refl;
+    stamps_differ = stamps;
+    to_go = omega arith;
+    front = none_read (before 0) part.items other.items;
+    front_reordered = none_read (before 1) part.reordered other.reordered;
+    in_turn = λ some. absurd (omega arith);
+    put = none_put (before 0);
+    put_reordered = none_put (before 1);
+    placed = refl;
+    new_places = λ k n at. absurd cc;
+    other_new_places = λ k n at. absurd cc;
+    counted = refl;
+    passed = λ k x at. (λ below. absurd (omega arith), λ from. refl);
+    other_passed = λ k x at. (λ below. absurd (omega arith), λ from. refl);
+  }
+    where
+      none_read : (order : Item → Item → Bool) (xs ys : List Item) → IsFront order 0 xs 0 ys
+      none_read order xs ys = record {
+        within = omega arith;
+        within_other = omega arith;
+        ahead = λ k l x y below from at_x at_y. absurd (omega arith);
+        other_ahead = λ k l x y below from at_x at_y. absurd (omega arith);
+      }
+
+      none_put : (order : Item → Item → Bool) → IsMerged order [] [] []
+      none_put order = record { rising = λ i j d below within. absurd (omega arith); same_items = nothing }
+
+  module _ {m : Merging Item} {part other : Contents Item} {b : Progress Item} (h : Merges stamp before m part other b) where
+    pub Merges-swap : Merges stamp before (swapped m) other part b
+    Merges-swap = record {
+      fits = h.other_fits;
+      other_fits = h.fits;
+      room = omega (arith, h.room);
+      unsealed = h.unsealed;
+      stamps_differ = λ k l x y at_x at_y same. h.stamps_differ l k y x at_y at_x (sym same);
+      to_go = omega (arith, h.to_go);
+      front = record { within = h.front.within_other; within_other = h.front.within; ahead = h.front.other_ahead; other_ahead = h.front.ahead };
+      front_reordered = record {
+        within = h.front_reordered.within_other;
+        within_other = h.front_reordered.within;
+        ahead = h.front_reordered.other_ahead;
+        other_ahead = h.front_reordered.ahead;
+      };
+      in_turn = λ some. let before_swap = h.in_turn (omega arith) in omega arith;
+      put = IsMerged-swap h.put;
+      put_reordered = IsMerged-swap h.put_reordered;
+      placed = h.placed;
+      new_places = h.other_new_places;
+      other_new_places = h.new_places;
+      counted = h.counted;
+      passed = h.other_passed;
+      other_passed = h.passed;
+    }
+
+    -- items that die leave it as it is: it speaks of no flag
+    pub Merges-flags : (flags other_flags : List Bool)
+        → Merges stamp before m (record part { flags = flags }) (record other { flags = other_flags }) b
+    Merges-flags flags other_flags = record {
+      fits = h.fits;
+      other_fits = h.other_fits;
+      room = h.room;
+      unsealed = h.unsealed;
+      stamps_differ = h.stamps_differ;
+      to_go = h.to_go;
+      front = h.front;
+      front_reordered = h.front_reordered;
+      in_turn = h.in_turn;
+      put = h.put;
+      put_reordered = h.put_reordered;
+      placed = h.placed;
+      new_places = h.new_places;
+      other_new_places = h.other_new_places;
+      counted = h.counted;
+      passed = h.passed;
+      other_passed = h.other_passed;
+    }
+
+    pub Merges-marked : (dead : ℕ) → Merges stamp before m (marked stamp dead part) other b
+    Merges-marked dead = Merges-flags (marked stamp dead part).flags other.flags
+
+    pub Merges-marked_other : (dead : ℕ) → Merges stamp before m part (marked stamp dead other) b
+    Merges-marked_other dead = Merges-flags part.flags (marked stamp dead other).flags
+
+    pub taken_le : m.taken ≤ length m.first.table + length m.second.table
+    taken_le =
+        omega (
+          arith,
+          h.counted,
+          Permuted-length h.put.same_items,
+          length-append (live_before (length m.first.table) (chosen m.first.table part)) (live_before (length m.second.table) (chosen m.second.table other)),
+          length-kept_le (length m.first.table) (map is_some m.first.table) part.items,
+          length-kept_le (length m.second.table) (map is_some m.second.table) other.items,
+        )
+
+  module _ {m : Merging Item} {part other : Contents Item} {b : Progress Item} (h : Merges stamp before m part other b)
+      (order : IsStrictTotalOrder stamp (before 0)) (valid : IsPart before part) (other_valid : IsPart before other)
+      (x : Item) (next : IsNext (before 0) (length m.first.table) part.items (length m.second.table) other.items x) where
+    unfinished : m.first.reread + m.second.reread ≡ 0
+    unfinished = by (m.first.reread + m.second.reread) refl
+      where
+        by : (n : ℕ) → m.first.reread + m.second.reread ≡ n → m.first.reread + m.second.reread ≡ 0
+        by zero e = e
+        by (suc n) e =
+            let full : length m.first.table + length m.second.table ≡ length part.items + length other.items = h.in_turn (omega arith) in
+            let inside : length m.first.table < length part.items = slice_get_within part.items (length m.first.table) x next.here in
+            let within : length m.second.table ≤ length other.items = h.front.within_other in
+            absurd (omega arith)
+
+    none_reordered : b.reordered ≡ []
+    none_reordered =
+        let first : m.first.reread ≡ 0 = omega (arith, unfinished) in
+        let second : m.second.reread ≡ 0 = omega (arith, unfinished) in
+        nil_from_length b.reordered
+        (omega (
+          arith,
+          Permuted-length h.put_reordered.same_items,
+          length-append (live_reordered_before m.first.reread (chosen m.first.table part)) (live_reordered_before m.second.reread (chosen m.second.table other)),
+          length-kept_le m.first.reread (flags_reordered (chosen m.first.table part)) part.reordered,
+          length-kept_le m.second.reread (flags_reordered (chosen m.second.table other)) other.reordered,
+        ))
+
+    none_placed : b.places ≡ []
+    none_placed = nil_from_length b.places (length-placed b.items b.reordered b.places h.placed ∙ ap length none_reordered)
+
+    -- the next item of order 0 may be put
+    pub FitsFirst-next : FitsFirst (before 0) b x m.taken
+    FitsFirst-next = record {
+      room = omega (arith, taken_le h, h.counted, h.room, slice_get_within part.items (length m.first.table) x next.here, h.front.within_other);
+      none_reordered = none_reordered;
+      next_place = h.counted;
+      after = IsAfter-merged order valid.rising other_valid.rising h.front next (map is_some m.first.table) (map is_some m.second.table) b.items h.put;
+    }
+
+    -- what does not depend on whether it is live
+    front_more : (e : Option ℕ) → IsFront (before 0) (length (m.first.table ++ e ∷ [])) part.items (length m.second.table) other.items
+    front_more e =
+        subst (λ n. IsFront (before 0) n part.items (length m.second.table) other.items) (sym (length_push m.first.table e))
+        (IsFront-more order valid.rising other_valid.rising h.front next)
+
+    reread_same : (e : Option ℕ) → IsMerged (before 1) b.reordered (live_reordered_before m.first.reread (chosen (m.first.table ++ e ∷ []) part))
+        (live_reordered_before m.second.reread (chosen m.second.table other))
+    reread_same e =
+        subst (λ l. IsMerged (before 1) b.reordered l (live_reordered_before m.second.reread (chosen m.second.table other)))
+        (reread_none m.first.reread (chosen m.first.table part) (chosen (m.first.table ++ e ∷ []) part) (omega (arith, unfinished)))
+        h.put_reordered
+
+    passed_more : (e : Option ℕ) → PassedBelow (before 0) (Some x) (length (m.first.table ++ e ∷ [])) part.items
+    passed_more e =
+        subst (λ n. PassedBelow (before 0) (Some x) n part.items) (sym (length_push m.first.table e))
+        (PassedBelow-read order valid.rising other_valid.rising h.front next)
+
+    to_go_more : (e : Option ℕ) → m.left - 1 + (length (m.first.table ++ e ∷ []) + length m.second.table + (m.first.reread + m.second.reread))
+        ≡ 2 * (length part.items + length other.items)
+    to_go_more e =
+        omega (arith, h.to_go, unfinished, length_push m.first.table e, slice_get_within part.items (length m.first.table) x next.here, h.front.within_other)
+
+    in_turn_more : (e : Option ℕ) → 0 < m.first.reread + m.second.reread
+        → length (m.first.table ++ e ∷ []) + length m.second.table ≡ length part.items + length other.items
+    in_turn_more e some = absurd (omega (arith, unfinished))
+
+    -- the item is put, and has its new place
+    Merges-taken : Merges stamp before (read_first true x m) part other (with_put 0 x m.taken b)
+    Merges-taken = record {
+      fits = h.fits;
+      other_fits = h.other_fits;
+      room = h.room;
+      unsealed = h.unsealed;
+      stamps_differ = h.stamps_differ;
+      to_go = to_go_more (Some m.taken);
+      front = front_more (Some m.taken);
+      front_reordered = h.front_reordered;
+      in_turn = in_turn_more (Some m.taken);
+      put = subst (λ l. IsMerged (before 0) (b.items ++ x ∷ []) l (live_before (length m.second.table) (chosen m.second.table other)))
+          (sym (live_before-taken m.first.table (Some m.taken) part x refl next.here))
+          (IsMerged-more h.put x FitsFirst-next.after);
+      put_reordered = reread_same (Some m.taken);
+      placed = ap (map (slice_get (b.items ++ x ∷ []))) none_placed ∙ sym (ap (map Some) none_reordered);
+      new_places = subst (λ n. HasNewPlaces (m.first.table ++ Some n ∷ []) part.items (b.items ++ x ∷ [])) (sym h.counted)
+          (HasNewPlaces-taken m.first.table part.items b.items h.front.within h.new_places x next.here);
+      other_new_places = HasNewPlaces-longer m.second.table other.items b.items h.front.within_other h.other_new_places x;
+      counted = ap (λ n. n + 1) h.counted ∙ sym (length_push b.items x);
+      passed = passed_more (Some m.taken);
+      other_passed = PassedBelow-other order valid.rising other_valid.rising h.front next;
+    }
+
+    -- it is skipped
+    Merges-skipped : Merges stamp before (read_first false x m) part other b
+    Merges-skipped = record {
+      fits = h.fits;
+      other_fits = h.other_fits;
+      room = h.room;
+      unsealed = h.unsealed;
+      stamps_differ = h.stamps_differ;
+      to_go = to_go_more None;
+      front = front_more None;
+      front_reordered = h.front_reordered;
+      in_turn = in_turn_more None;
+      put = subst (λ l. IsMerged (before 0) b.items l (live_before (length m.second.table) (chosen m.second.table other)))
+          (sym (live_before-skipped m.first.table None part refl)) h.put;
+      put_reordered = reread_same None;
+      placed = h.placed;
+      new_places = HasNewPlaces-skipped m.first.table part.items b.items h.front.within h.new_places;
+      other_new_places = h.other_new_places;
+      counted = h.counted;
+      passed = passed_more None;
+      other_passed = PassedBelow-other order valid.rising other_valid.rising h.front next;
+    }
+
+    -- a turn in order 0, at an item of the first part
+    pub Merges-read : (live : Bool) → Merges stamp before (read_first live x m) part other (if live then with_put 0 x m.taken b else b)
+    Merges-read true = Merges-taken
+    Merges-read false = Merges-skipped
