@@ -1,5 +1,5 @@
 -- Two rising lists that are read in order: what stands before what, and what is put of them.
-use Rattle.std.proofs.Common.{◌≡◌, ℕ, ◌+◌, ◌<◌, ◌≤◌, Bool, true, false, not, IsTrue, List, [], ◌∷◌, ◌++◌, length, take, get_or, refl, sym, ap, ◌∙◌, arith, subst, append_assoc, Some, slice_get, All, ⊎_elim}
+use Rattle.std.proofs.Common.{◌≡◌, ℕ, ◌+◌, ◌<◌, ◌≤◌, Bool, true, false, not, IsTrue, List, [], ◌∷◌, ◌++◌, length, take, get_or, refl, sym, ap, ◌∙◌, arith, subst, append_assoc, Some, slice_get, All, ⊎_elim, ◌==◌, if◌then◌else◌}
 use Rattle.std.proofs.lemmas.Bool.{cases_lt}
 use Rattle.std.proofs.lemmas.Option.{slice_get-get_or, slice_get_within, get_or_from_slice_get, same_Some}
 use Rattle.std.proofs.lemmas.List.{get_or-take, length-take}
@@ -8,7 +8,8 @@ use Rattle.std.proofs.lemmas.List.Quantifiers.{all_pairs_push}
 use Rattle.query_laws.specs.Orders.{IsStrictTotalOrder}
 use Rattle.query_laws.specs.Permuted.{Permuted, nothing, same_head, swapped_heads, composed}
 use Rattle.query_laws.proofs.Permutations.{Permuted-sym, Permuted-append_left, Permuted-append_right, Permuted-append_comm}
-use Rattle.builder_trait.specs.Parts.{IsRising}
+use Rattle.builder_trait.specs.Parts.{Contents, IsPart, IsRising, in_order}
+use Rattle.builder_trait.proofs.RebuildingLemmas.{length-reordered}
 use Rattle.builder_trait.specs.Builders.{IsAfter}
 use Rattle.builder_trait.proofs.Kept.{kept, All-kept, All-kept_before}
 use Rattle.ordered_merge.specs.Merging.{StandAhead, IsFront, IsNext, IsMerged, PassedBelow}
@@ -126,3 +127,17 @@ module _ {Item : Type 0} {before : Item → Item → Bool} {merged xs ys : List 
 
   pub IsMerged-swap : IsMerged before merged ys xs
   IsMerged-swap = record { rising = h.rising; same_items = composed h.same_items (Permuted-append_comm xs ys) }
+
+-- nothing is left of the other list
+pub IsNext-past : {Item : Type 0} {before : Item → Item → Bool} (j : ℕ) (ys : List Item) (i : ℕ) (xs : List Item) (x : Item) → slice_get ys j ≡ Some x
+    → length xs ≤ i → IsNext before j ys i xs x
+IsNext-past j ys i xs x at past = record { here = at; earlier = λ y there. absurd (omega (arith, slice_get_within xs i y there)) }
+
+-- both orders are as long as one another
+pub length-in_order : {Item : Type 0} {before : ℕ → Item → Item → Bool} (part : Contents Item) (order : ℕ) → IsPart before part
+    → length (in_order order part) ≡ length part.items
+length-in_order {Item} part order valid = by (order == 0)
+  where
+    by : (b : Bool) → length (if b then part.items else part.reordered) ≡ length part.items
+    by true = refl
+    by false = length-reordered valid

@@ -2,6 +2,7 @@
 ghost use Rattle.std.specs.Prelude.{◌≡◌, ◌+◌, ◌-◌, ◌*◌, ◌<◌, ◌≤◌, ◌^◌, ℕ, IsTrue, ◌↔◌, IfOk, length};
 ghost use Rattle.query_laws.specs.StepLedger.{Spends};
 ghost use Rattle.builder_trait.specs.Builders.{begun};
+ghost use Rattle.builder_trait.specs.Parts.{IsPart};
 ghost use Rattle.ordered_merge.specs.Merging.{Merges, StampsDiffer, NotesLive, unbegun, is_passed};
 
 use crate::steps::{next_item, put_again, take_or_skip};
@@ -116,7 +117,9 @@ impl<B: Builder> Merge<B> {
         ensures level { (B.progress builder.new).at_level ≡ (B.progress builder.old).at_level }
         ensures cost { Spends steps.old steps.new 1 0 16 }
     {
-        if self.first.table.len() < a.len() || self.second.table.len() < b.len() {
+        let len_a = a.len();
+        let len_b = b.len();
+        if self.first.table.len() < len_a || self.second.table.len() < len_b {
             self.turn_in_first(a, b, builder, steps);
         } else {
             self.turn_in_second(a, b, builder, steps);
@@ -131,6 +134,8 @@ impl<B: Builder> Merge<B> {
         builder: &mut B,
         steps: &mut Steps<L>,
     )
+        requires valid { IsPart B.Item.before (B.Part.Part.contents a.now) }
+        requires valid_other { IsPart B.Item.before (B.Part.Part.contents b.now) }
         requires unread { length self.old.first.table + length self.old.second.table
             < length (B.Part.Part.contents a.now).items + length (B.Part.Part.contents b.now).items }
         requires merges { Merges B.Item.stamp B.Item.before self.old (B.Part.Part.contents a.now)
@@ -169,6 +174,8 @@ impl<B: Builder> Merge<B> {
         builder: &mut B,
         steps: &mut Steps<L>,
     )
+        requires valid { IsPart B.Item.before (B.Part.Part.contents a.now) }
+        requires valid_other { IsPart B.Item.before (B.Part.Part.contents b.now) }
         requires more { 0 < self.old.left }
         requires read { length self.old.first.table + length self.old.second.table
             ≡ length (B.Part.Part.contents a.now).items + length (B.Part.Part.contents b.now).items }
