@@ -448,8 +448,9 @@ IsNext-at {Item} {before} {i} {j} {k} {l} {xs} {ys} {x} same also next =
     subst (λ n. IsNext before n xs l ys x) same (subst (λ n. IsNext before i xs n ys x) also next)
 
 -- one more entry, as the fields are written
-abbrev pub written_first : {Item : Type 0} → List (Option ℕ) → ℕ → Item → Merging Item → Merging Item
-written_first table n x m = record m {
+abbrev pub written_first : {Item : Type 0} → ℕ → List (Option ℕ) → ℕ → Item → Merging Item → Merging Item
+written_first room table n x m = record m {
+  capacity = room;
   first = record { table = table; reread = m.first.reread };
   taken = n;
   reached = Some x;
@@ -460,12 +461,13 @@ module _ {Item : Type 0} {stamp : Item → ℕ} {before : ℕ → Item → Item 
     (h : Merges stamp before m part other b) (order : IsStrictTotalOrder stamp (before 0)) (valid : IsPart before part)
     (other_valid : IsPart before other) (x : Item)
     (next : IsNext (before 0) (length m.first.table) part.items (length m.second.table) other.items x) where
-  pub Merges-written : (live : Bool) (table : List (Option ℕ)) (n : ℕ) (fresh : Progress Item)
-      → table ≡ m.first.table ++ new_place live m.taken ∷ [] → n ≡ (if live then m.taken + 1 else m.taken)
-      → fresh ≡ (if live then with_put 0 x m.taken b else b) → Merges stamp before (written_first table n x m) part other fresh
-  Merges-written live table n fresh noted counted put =
-      subst (λ p. Merges stamp before (written_first table n x m) part other p) (sym put)
-      (subst (λ l. Merges stamp before (written_first l n x m) part other (if live then with_put 0 x m.taken b else b)) (sym noted)
-      (subst (λ k. Merges stamp before (written_first (m.first.table ++ new_place live m.taken ∷ []) k x m) part other
+  pub Merges-written : (live : Bool) (room : ℕ) (table : List (Option ℕ)) (n : ℕ) (fresh : Progress Item)
+      → room ≡ m.capacity → table ≡ m.first.table ++ new_place live m.taken ∷ [] → n ≡ (if live then m.taken + 1 else m.taken)
+      → fresh ≡ (if live then with_put 0 x m.taken b else b) → Merges stamp before (written_first room table n x m) part other fresh
+  Merges-written live room table n fresh as_wide noted counted put =
+      subst (λ p. Merges stamp before (written_first room table n x m) part other p) (sym put)
+      (subst (λ r. Merges stamp before (written_first r table n x m) part other (if live then with_put 0 x m.taken b else b)) (sym as_wide)
+      (subst (λ l. Merges stamp before (written_first m.capacity l n x m) part other (if live then with_put 0 x m.taken b else b)) (sym noted)
+      (subst (λ k. Merges stamp before (written_first m.capacity (m.first.table ++ new_place live m.taken ∷ []) k x m) part other
       (if live then with_put 0 x m.taken b else b)) (sym counted)
-      (Merges-read h order valid other_valid x next live)))
+      (Merges-read h order valid other_valid x next live))))
