@@ -9,3 +9,6 @@ mod merge;
 mod steps;
 
 pub use merge::Merge;
+
+#[cfg(test)]
+mod tests;

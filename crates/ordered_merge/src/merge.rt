@@ -1,8 +1,8 @@
 //! The merge, with its table of new places.
-ghost use Rattle.std.specs.Prelude.{◌≡◌, ◌+◌, ◌-◌, ◌*◌, ◌<◌, ◌≤◌, ◌^◌, ℕ, IsTrue, ◌↔◌, IfOk, length};
+ghost use Rattle.std.specs.Prelude.{◌≡◌, ◌+◌, ◌-◌, ◌*◌, ◌<◌, ◌≤◌, ◌^◌, ℕ, IsTrue, ◌↔◌, IfOk, length, Some, slice_get};
 ghost use Rattle.query_laws.specs.StepLedger.{Spends};
-ghost use Rattle.builder_trait.specs.Builders.{begun};
-ghost use Rattle.builder_trait.specs.Parts.{IsPart};
+ghost use Rattle.builder_trait.specs.Builders.{Progress, begun};
+ghost use Rattle.builder_trait.specs.Parts.{Contents, IsPart};
 ghost use Rattle.ordered_merge.specs.Merging.{Merges, StampsDiffer, NotesLive, unbegun, is_passed};
 
 use crate::steps::{next_item, put_again, take_or_skip};
@@ -229,9 +229,17 @@ impl<B: Builder> Merge<B> {
         self.left == 0
     }
 
-    /// Whether order 0 has read an item of one of the parts, as `Merges` says of `is_passed`. It counts nothing.
+    /// Whether order 0 has read an item, which is one of the two parts'. It counts nothing.
     pub fn passed(&self, item: &B::Item) -> bool
-        ensures { result ≡ is_passed (B.Item.before 0) self.now.reached item.now }
+        ensures value { result ≡ is_passed (B.Item.before 0) self.now.reached item.now }
+
+        // At the item at a place of either part: exactly where that place is among those read.
+        ensures first { (a b : Contents B.Item) (builder : Progress B.Item) (k : ℕ)
+            → Merges B.Item.stamp B.Item.before self.now a b builder → slice_get a.items k ≡ Some item.now
+            → (IsTrue result ↔ (k < length self.now.first.table)) }
+        ensures second { (a b : Contents B.Item) (builder : Progress B.Item) (k : ℕ)
+            → Merges B.Item.stamp B.Item.before self.now a b builder → slice_get b.items k ≡ Some item.now
+            → (IsTrue result ↔ (k < length self.now.second.table)) }
     {
         match &self.reached {
             Some(last) => !last.before(0, item),
