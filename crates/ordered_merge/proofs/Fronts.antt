@@ -1,5 +1,5 @@
 -- Two rising lists that are read in order: what stands before what, and what is put of them.
-use Rattle.std.proofs.Common.{◌≡◌, ℕ, ◌+◌, ◌<◌, ◌≤◌, Bool, true, false, not, IsTrue, List, [], ◌∷◌, ◌++◌, length, take, get_or, refl, sym, ap, ◌∙◌, arith, subst, append_assoc, Some, slice_get, All, ⊎_elim, ◌==◌, if◌then◌else◌}
+use Rattle.std.proofs.Common.{◌≡◌, ℕ, ◌+◌, ◌<◌, ◌≤◌, Bool, true, false, not, IsTrue, List, [], ◌∷◌, ◌++◌, length, take, get_or, refl, sym, ap, ◌∙◌, arith, subst, append_assoc, Some, slice_get, All, ⊎_elim, ◌==◌, if◌then◌else◌, Option, ◌↔◌}
 use Rattle.std.proofs.lemmas.Bool.{cases_lt}
 use Rattle.std.proofs.lemmas.Option.{slice_get-get_or, slice_get_within, get_or_from_slice_get, same_Some}
 use Rattle.std.proofs.lemmas.List.{get_or-take, length-take}
@@ -12,7 +12,7 @@ use Rattle.builder_trait.specs.Parts.{Contents, IsPart, IsRising, in_order}
 use Rattle.builder_trait.proofs.RebuildingLemmas.{length-reordered}
 use Rattle.builder_trait.specs.Builders.{IsAfter}
 use Rattle.builder_trait.proofs.Kept.{kept, All-kept, All-kept_before}
-use Rattle.ordered_merge.specs.Merging.{StandAhead, IsFront, IsNext, IsMerged, PassedBelow}
+use Rattle.ordered_merge.specs.Merging.{StandAhead, IsFront, IsNext, IsMerged, PassedBelow, is_passed}
 
 module _ {A : Type 0} (P : A → Type 0) where
   -- what is true of all items is so in any order
@@ -141,3 +141,13 @@ length-in_order {Item} part order valid = by (order == 0)
     by : (b : Bool) → length (if b then part.items else part.reordered) ≡ length part.items
     by true = refl
     by false = length-reordered valid
+
+-- of the items of a list those below a place are passed, and no other
+pub Passed-at : {Item : Type 0} (before : Item → Item → Bool) (reached : Option Item) {i : ℕ} (xs : List Item) → PassedBelow before reached i xs
+    → (k : ℕ) (x : Item) → slice_get xs k ≡ Some x → (passed : Bool) → passed ≡ is_passed before reached x → IsTrue passed ↔ (k < i)
+Passed-at {Item} before reached {i} xs h k x at passed is = (
+  λ yes. ⊎_elim (λ less. less)
+      (λ later. let no : is_passed before reached x ≡ false = (h k x at).1 later in absurd cc)
+      (cases_lt k i),
+  λ less. is ∙ (h k x at).0 less,
+)

@@ -5,7 +5,7 @@ ghost use Rattle.builder_trait.specs.Builders.{Progress, begun};
 ghost use Rattle.builder_trait.specs.Parts.{Contents, IsPart};
 ghost use Rattle.ordered_merge.specs.Merging.{Merges, StampsDiffer, NotesLive, unbegun, is_passed};
 
-use crate::steps::{next_item, put_again, take_or_skip};
+use crate::steps::{is_within, next_item, put_again, take_or_skip};
 use builder_trait::{Builder, Part};
 use query_laws::step_ledger::{Row, Steps};
 use query_laws::{Item, NoMemory};
@@ -241,9 +241,6 @@ impl<B: Builder> Merge<B> {
             → Merges B.Item.stamp B.Item.before self.now a b builder → slice_get b.items k ≡ Some item.now
             → (IsTrue result ↔ (k < length self.now.second.table)) }
     {
-        match &self.reached {
-            Some(last) => !last.before(0, item),
-            None => false,
-        }
+        is_within(&self.reached, item)
     }
 }

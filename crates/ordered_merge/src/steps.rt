@@ -3,7 +3,7 @@ ghost use Rattle.std.specs.Prelude.{◌≡◌, ◌+◌, ◌<◌, ◌≤◌, ◌^
 ghost use Rattle.query_laws.specs.StepLedger.{Spends};
 ghost use Rattle.builder_trait.specs.Parts.{in_order};
 ghost use Rattle.builder_trait.specs.Builders.{FitsFirst, FitsSecond, with_put};
-ghost use Rattle.ordered_merge.specs.Merging.{IsNext, StampsDiffer, new_place};
+ghost use Rattle.ordered_merge.specs.Merging.{IsNext, StampsDiffer, new_place, is_passed};
 
 use builder_trait::{Builder, Part};
 use query_laws::Item;
@@ -103,5 +103,15 @@ pub fn put_again<B: Builder, L: Ledger>(
     match table.at(place, steps) {
         Some(new_place) => builder.put(1, item, new_place, steps),
         None => steps.turn(),
+    }
+}
+
+/// Whether an item doesn't stand after the one that order 0 read last.
+pub fn is_within<I: Item>(reached: &Option<I>, item: &I) -> bool
+    ensures { result ≡ is_passed (I.before 0) reached.now item.now }
+{
+    match reached {
+        Some(last) => !last.before(0, item),
+        None => false,
     }
 }

@@ -1,5 +1,5 @@
 //! A merge of flat parts, two of whose items die on the way.
-ghost use Rattle.std.specs.Prelude.{◌≡◌, ◌≢◌, ◌<◌, ◌^◌, [], ◌∷◌, IsTrue, IfOk, false, length};
+ghost use Rattle.std.specs.Prelude.{◌≡◌, ◌≢◌, ◌<◌, [], ◌∷◌, IsTrue, IfOk, false, length};
 ghost use Rattle.ordered_merge.specs.Merging.{Merges};
 
 use crate::Merge;
@@ -109,28 +109,42 @@ fn merge_seen<B: Builder, L: Ledger>(
     Ok(([left, two, turns], passed, in_first, in_second))
 }
 
-/// A point on the diagonal.
-fn point(at: u32, stamp: u64) -> Point
-    requires { at < 2 ^ 31 }
-    ensures { result ≡ record { id = stamp; x = at; y = at; w = 0; stamp = stamp } }
-{
-    Point {
-        id: stamp,
-        x: at,
-        y: at,
-        w: 0,
-        stamp,
-    }
-}
-
 #[test]
 fn merges_what_was_live(rt: HostRuntime) -> Result<(), Fail> {
+    let first = Point {
+        id: 5,
+        x: 1,
+        y: 1,
+        w: 0,
+        stamp: 0,
+    };
+    let second = Point {
+        id: 6,
+        x: 2,
+        y: 2,
+        w: 0,
+        stamp: 2,
+    };
+    let third = Point {
+        id: 7,
+        x: 3,
+        y: 3,
+        w: 0,
+        stamp: 1,
+    };
+    let fourth = Point {
+        id: 8,
+        x: 4,
+        y: 4,
+        w: 0,
+        stamp: 3,
+    };
     let (turns, passed, in_first, in_second) = merge_seen::<FlatBuilder<Point>, Brand>(
         rt.alloc(),
-        point(1, 0),
-        point(2, 2),
-        point(3, 1),
-        point(4, 3),
+        first,
+        second,
+        third,
+        fourth,
         blank(),
     )?;
     assert_eq!(rt; turns, [8, 2, 8]);
