@@ -1,4 +1,4 @@
-use Rattle.std.proofs.Common.{◌≡◌, arith}
+use Rattle.std.proofs.Common.{◌≡◌}
 use Rattle.ordered_merge.proofs.MergingLemmas.{as_many}
 use Rattle.ordered_merge.proofs.tests.take_rest.Goals as goal
 
