@@ -4,15 +4,15 @@ use Rattle.std.proofs.Common.{◌≡◌, ℕ, zero, suc, ◌+◌, ◌-◌, ◌*�
 use Rattle.std.specs.List.{items_where_true, slice_index_or}
 use Rattle.std.specs.Option.{is_some, option_map}
 use Rattle.std.proofs.lemmas.Option.{slice_get_within, slice_get-map, slice_get-get_or}
-use Rattle.std.proofs.lemmas.List.{length_push, map-append, nil_from_length}
+use Rattle.std.proofs.lemmas.List.{length-replicate, length_push, map-append, nil_from_length}
 use Rattle.query_laws.specs.Orders.{IsStrictTotalOrder}
 use Rattle.query_laws.specs.Permuted.{nothing}
 use Rattle.query_laws.proofs.Permutations.{Permuted-length}
 use Rattle.builder_trait.specs.Parts.{Contents, IsPart, marked}
-use Rattle.builder_trait.specs.Builders.{Progress, begun, FitsFirst, FitsSecond, with_put}
+use Rattle.builder_trait.specs.Builders.{Progress, all_live, begun, FitsFirst, FitsSecond, with_put}
 use Rattle.builder_trait.specs.Rebuilding.{live_before, live_reordered_before, flags_reordered}
 use Rattle.builder_trait.proofs.Kept.{length-kept_le}
-use Rattle.builder_trait.proofs.Places.{length-placed}
+use Rattle.builder_trait.proofs.Places.{length-placed, IsPart-from_rising}
 use Rattle.ordered_merge.specs.Merging.{Merging, Merges, IsFront, IsNext, IsMerged, StampsDiffer, PassedBelow, HasNewPlaces, chosen, new_place, unbegun}
 use Rattle.ordered_merge.proofs.Fronts.{IsFront-more, PassedBelow-read, PassedBelow-other, IsAfter-merged, IsMerged-more, IsMerged-swap}
 use Rattle.ordered_merge.proofs.Tables.{live_before-taken, live_before-skipped, HasNewPlaces-longer, HasNewPlaces-skipped, HasNewPlaces-taken, reread_none, IsPart-chosen}
@@ -440,6 +440,14 @@ module _ {Item : Type 0} {stamp : Item → ℕ} {before : ℕ → Item → Item 
             length-live_reordered_before (IsPart-chosen m.first.table valid full_table),
             length-live_reordered_before (IsPart-chosen m.second.table other_valid full_other_table),
           )
+
+-- what the builder holds once a merge is done makes a part
+pub IsPart-merged : {Item : Type 0} {stamp : Item → ℕ} {before : ℕ → Item → Item → Bool} {m : Merging Item} {part other : Contents Item}
+    {b : Progress Item} → IsStrictTotalOrder stamp (before 1) → Merges stamp before m part other b → IsPart before part → IsPart before other
+    → m.left ≡ 0 → IsPart before (all_live b)
+IsPart-merged {b = b} order h valid other_valid ended =
+    IsPart-from_rising (all_live b) order h.put.rising h.put_reordered.rising h.placed (as_many h valid other_valid ended)
+    (length-replicate (length b.items) true)
 
 -- the same item is next
 pub IsNext-at : {Item : Type 0} {before : Item → Item → Bool} {i j k l : ℕ} {xs ys : List Item} {x : Item} → i ≡ k → j ≡ l
