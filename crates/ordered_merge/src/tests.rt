@@ -1,0 +1,155 @@
+//! A merge of flat parts, two of whose items die on the way.
+ghost use Rattle.std.specs.Prelude.{◌≡◌, ◌≢◌, ◌<◌, [], ◌∷◌, IsTrue, IfOk, false, length};
+ghost use Rattle.ordered_merge.specs.Merging.{Merges};
+
+use crate::Merge;
+use builder_trait::flat::FlatBuilder;
+use builder_trait::{Builder, Part, completed};
+use map_shapes::Point;
+use query_laws::step_ledger::{SHARES, Steps, blank};
+use query_laws::{Item, NoMemory};
+use std::alloc::Global;
+use std::marker::Brand;
+use std::sync::ledger::{Blank, Ledger};
+use std::test::Fail;
+
+/// A part of two items that rise in both orders.
+fn pair<B: Builder, L: Ledger>(
+    alloc: Global,
+    low: B::Item,
+    high: B::Item,
+    steps: &mut Steps<L>,
+) -> Result<B::Part, NoMemory>
+    requires rising { IsTrue (B.Item.before 0 low high) }
+    requires rising_reordered { IsTrue (B.Item.before 1 low high) }
+    ensures { IfOk result (λ part. (B.Part.Part.contents part).items ≡ low ∷ high ∷ []) }
+{
+    let mut builder = B::room(alloc, 1)?;
+    builder.put(0, low, 0, steps);
+    builder.put(0, high, 1, steps);
+    builder.put(1, low, 0, steps);
+    builder.put(1, high, 1, steps);
+    Ok(completed(builder, steps))
+}
+
+/// Takes all turns that are left.
+fn take_rest<B: Builder, L: Ledger>(
+    merge: &mut Merge<B>,
+    a: &B::Part,
+    b: &B::Part,
+    builder: &mut B,
+    steps: &mut Steps<L>,
+)
+    requires { Merges B.Item.stamp B.Item.before merge.old (B.Part.Part.contents a.now)
+        (B.Part.Part.contents b.now) (B.progress builder.old) }
+    ensures unsealed { (B.progress builder.new).is_sealed ≡ false }
+    ensures complete { length (B.progress builder.new).reordered ≡ length (B.progress builder.new).items }
+{
+    let _lens = [a.len(), b.len()];
+    while !merge.done() {
+        merge.turn(a, b, builder, steps);
+    }
+}
+
+/// The stamps of a part in an order.
+fn stamps<P: Part, L: Ledger>(
+    alloc: Global,
+    order: usize,
+    part: &P,
+    steps: &mut Steps<L>,
+) -> Result<Vec<u64>, NoMemory>
+    requires { order < 2 }
+{
+    let mut stamps = Vec::new(alloc);
+    for k in 0..part.len() {
+        stamps.push(part.item(order, k, steps).stamp())?;
+    }
+    Ok(stamps)
+}
+
+/// Two parts of two items each, merged; after two turns the lowest and the highest item die. The turns left at the beginning,
+/// those taken after two and in all; whether order 0 had passed each of the two; and the stamps in both orders.
+fn merge_seen<B: Builder, L: Ledger>(
+    alloc: Global,
+    first: B::Item,
+    second: B::Item,
+    third: B::Item,
+    fourth: B::Item,
+    blank: Blank,
+) -> Result<([u64; 3], [bool; 2], Vec<u64>, Vec<u64>), NoMemory>
+    requires name { blank.name ≡ L.name }
+    requires parts { blank.parts ≡ L.parts }
+    requires shares { blank.parts ≡ SHARES }
+    requires rising_a { IsTrue (B.Item.before 0 first third) × IsTrue (B.Item.before 1 first third) }
+    requires rising_b { IsTrue (B.Item.before 0 second fourth) × IsTrue (B.Item.before 1 second fourth) }
+    requires apart_first { (B.Item.stamp first ≢ B.Item.stamp second) × (B.Item.stamp first ≢ B.Item.stamp fourth) }
+    requires apart_third { (B.Item.stamp third ≢ B.Item.stamp second) × (B.Item.stamp third ≢ B.Item.stamp fourth) }
+    requires within_a { B.Item.stamp first ≢ B.Item.stamp third }
+    requires within_b { B.Item.stamp second ≢ B.Item.stamp fourth }
+{
+    let mut steps = Steps::<L>::new(blank);
+    let mut a: B::Part = pair::<B, L>(alloc, first, third, &mut steps)?;
+    let mut b: B::Part = pair::<B, L>(alloc, second, fourth, &mut steps)?;
+    let mut merge = Merge::<B>::room(alloc, 2)?;
+    let mut builder = B::room(alloc, 2)?;
+    merge.begin(&a, &b);
+    let left = merge.left();
+    steps.start_lap();
+    merge.turn(&a, &b, &mut builder, &mut steps);
+    merge.turn(&a, &b, &mut builder, &mut steps);
+    let two = steps.lap_turns();
+    a.mark(&first, &mut steps);
+    b.mark(&fourth, &mut steps);
+    let passed = [merge.passed(&first), merge.passed(&fourth)];
+    take_rest(&mut merge, &a, &b, &mut builder, &mut steps);
+    let turns = steps.lap_turns();
+    let merged = completed(builder, &mut steps);
+    let in_first = stamps(alloc, 0, &merged, &mut steps)?;
+    let in_second = stamps(alloc, 1, &merged, &mut steps)?;
+    Ok(([left, two, turns], passed, in_first, in_second))
+}
+
+#[test]
+fn merges_what_was_live(rt: HostRuntime) -> Result<(), Fail> {
+    let first = Point {
+        id: 5,
+        x: 1,
+        y: 1,
+        w: 0,
+        stamp: 0,
+    };
+    let second = Point {
+        id: 6,
+        x: 2,
+        y: 2,
+        w: 0,
+        stamp: 2,
+    };
+    let third = Point {
+        id: 7,
+        x: 3,
+        y: 3,
+        w: 0,
+        stamp: 1,
+    };
+    let fourth = Point {
+        id: 8,
+        x: 4,
+        y: 4,
+        w: 0,
+        stamp: 3,
+    };
+    let (turns, passed, in_first, in_second) = merge_seen::<FlatBuilder<Point>, Brand>(
+        rt.alloc(),
+        first,
+        second,
+        third,
+        fourth,
+        blank(),
+    )?;
+    assert_eq!(rt; turns, [8, 2, 8]);
+    assert_eq!(rt; passed, [true, false]);
+    assert_eq!(rt; in_first.as_slice(), [0, 2, 1].as_slice());
+    assert_eq!(rt; in_second.as_slice(), [0, 2, 1].as_slice());
+    Ok(())
+}
