@@ -1,6 +1,6 @@
 -- What contracts see of a builder: a part under construction, which takes its items in both orders and then turns.
-use Rattle.std.specs.Prelude.{◌≡◌, ℕ, ◌==◌, ◌+◌, ◌*◌, ◌^◌, ◌<◌, ◌≤◌, Bool, true, false, if◌then◌else◌, IsTrue, List, [], ◌∷◌, ◌++◌, length, replicate, All, Some, slice_get}
-use Rattle.builder_trait.specs.Parts.{Contents}
+use Rattle.std.specs.Prelude.{◌≡◌, ℕ, ◌==◌, ◌+◌, ◌*◌, ◌^◌, ◌<◌, ◌≤◌, Bool, true, false, if◌then◌else◌, IsTrue, List, [], ◌∷◌, ◌++◌, length, map, replicate, All, Some, slice_get}
+use Rattle.builder_trait.specs.Parts.{Contents, IsRising}
 
 -- what was put in order 0; what was put in order 1, with the place that each has in order 0; the level, by which there is
 -- room for `2 ^ at_level` items; whether the builder is sealed; and how many turns are left
@@ -38,6 +38,15 @@ module _ {Item : Type 0} where
   with_put order item at b =
       if order == 0 then record b { items = b.items ++ item ∷ [] }
       else record b { reordered = b.reordered ++ item ∷ []; places = b.places ++ at ∷ [] }
+
+  -- what the puts of any builder keep: both orders rise, and each item of order 1 is the one at its place
+  pub record IsUnderway (before : ℕ → Item → Item → Bool) (b : Progress Item) : Type 0 where
+    pub small : b.at_level < 32
+    pub few : length b.items ≤ 2 ^ b.at_level
+    pub rising : IsRising (before 0) b.items
+    pub rising_reordered : IsRising (before 1) b.reordered
+    pub placed : map (slice_get b.items) b.places ≡ map Some b.reordered
+    pub complete : b.is_sealed ≡ true → length b.reordered ≡ length b.items
 
   -- no more puts, and this many turns to go
   abbrev pub sealed_with : ℕ → Progress Item → Progress Item

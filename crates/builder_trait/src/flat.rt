@@ -2,10 +2,12 @@
 //!
 //! It keeps the items in both orders and a flag for each, and answers no question. It stands for any other kind where only
 //! the contract of parts and builders matters.
-ghost use Rattle.std.specs.Prelude.{◌≡◌, ◌+◌, ◌-◌, ◌*◌, ◌<◌, ◌≤◌, ◌^◌, ℕ, IfSome, IsNone, All, ◌≢◌, length, Some, slice_get, refl};
+ghost use Rattle.std.specs.Prelude.{◌≡◌, ◌+◌, ◌-◌, ◌*◌, ◌<◌, ◌≤◌, ◌^◌, ℕ, IfSome, IsNone, All, ◌≢◌, length, Some, slice_get, slice_set, refl, true, false};
 ghost use Rattle.std.specs.List.{items_where_true};
-ghost use Rattle.query_laws.specs.StepLedger.{Spends};
-ghost use Rattle.builder_trait.specs.Parts.{IsRising, OwnsStamp};
+ghost use Rattle.std.specs.Option.{is_some};
+ghost use Rattle.query_laws.specs.StepLedger.{Spends, one_touch};
+ghost use Rattle.builder_trait.specs.Parts.{IsRising, OwnsStamp, has_stamp, without, marked};
+ghost use Rattle.builder_trait.specs.Builders.{IsUnderway, FitsFirst, FitsSecond, with_put};
 ghost use Rattle.builder_trait.specs.Flat.{IsBracket};
 
 use crate::builder::Builder;
@@ -94,6 +96,32 @@ fn place_of_item<I: Item, L: Ledger>(row: &Row<I>, item: &I, steps: &mut Steps<L
     }
 }
 
+impl<I: Item> FlatPart<I> {
+    /// Marks an item as dead, and gives its place where it was there and live: one mark, and `h + 4` touches at most at a part
+    /// of up to `2^h` items.
+    pub fn mark_placed<L: Ledger>(&mut self, item: &I, steps: &mut Steps<L>) -> Option<usize>
+        requires { OwnsStamp I.stamp item.now self.old.items }
+        ensures found { is_some result ≡ has_stamp I.stamp (I.stamp item.now) (items_where_true self.old.flags self.old.items) }
+        ensures marked { self.new ≡ marked I.stamp (I.stamp item.now) self.old }
+        ensures live { items_where_true self.new.flags self.new.items
+            ≡ without I.stamp (I.stamp item.now) (items_where_true self.old.flags self.old.items) }
+        ensures place { IfSome result (λ k. slice_get self.old.items k ≡ Some item.now) }
+        ensures was_live { IfSome result (λ k. slice_get self.old.flags k ≡ Some true) }
+        ensures written { IfSome result (λ k. self.new ≡ record self.old { flags = slice_set self.old.flags k false }) }
+        ensures kept { IsNone result → self.new ≡ self.old }
+        ensures cost { (h : ℕ) → length self.old.items ≤ 2 ^ h → Spends steps.old steps.new 0 1 (h + 4) }
+    {
+        steps.mark();
+        let place = place_of_item(&self.first, item, steps)?;
+        if !self.flags.at(place, steps) {
+            return None;
+        }
+        self.flags.set(place, false, steps);
+        self.live -= 1;
+        Some(place)
+    }
+}
+
 impl<I: Item> Part for FlatPart<I> {
     ghost use Rattle.std.specs.Prelude.{◌+◌, refl};
     ghost use Rattle.std.specs.List.{items_where_true};
@@ -136,16 +164,7 @@ impl<I: Item> Part for FlatPart<I> {
     }
 
     fn mark<L: Ledger>(&mut self, item: &I, steps: &mut Steps<L>) -> bool {
-        steps.mark();
-        let Some(place) = place_of_item(&self.first, item, steps) else {
-            return false;
-        };
-        if !self.flags.at(place, steps) {
-            return false;
-        }
-        self.flags.set(place, false, steps);
-        self.live -= 1;
-        true
+        self.mark_placed(item, steps).is_some()
     }
 
     ghost live_by_flags = { λ part. refl };
@@ -184,6 +203,25 @@ impl<I: Item> Model for FlatBuilder<I> {
         × IsFlagging b.first.items b.second.items b.flags.items b.sealed b.left };
 }
 
+impl<I: Item> FlatBuilder<I> {
+    /// How many items were put in order 0. It counts nothing.
+    pub fn len(&self) -> usize
+        ensures value { result ≡ length self.now.items }
+        ensures valid { IsUnderway I.before self.now }
+    {
+        self.first.len()
+    }
+
+    /// The item at a place of order 0: one touch.
+    pub fn at<L: Ledger>(&self, k: usize, steps: &mut Steps<L>) -> I
+        requires { k < length self.now.items }
+        ensures read { slice_get self.now.items k ≡ Some result }
+        ensures touched { steps.new ≡ one_touch steps.old }
+    {
+        self.first.at(k, steps)
+    }
+}
+
 impl<I: Item> Builder for FlatBuilder<I> {
     ghost use Rattle.std.specs.Prelude.{refl};
     ghost use Rattle.std.proofs.Common.{arith};
@@ -215,7 +253,15 @@ impl<I: Item> Builder for FlatBuilder<I> {
         })
     }
 
-    fn put<L: Ledger>(&mut self, order: usize, item: I, place: usize, steps: &mut Steps<L>) {
+    /// Two touches at most.
+    fn put<L: Ledger>(&mut self, order: usize, item: I, place: usize, steps: &mut Steps<L>)
+        requires order { order < 2 }
+        requires open { self.old.is_sealed ≡ false }
+        requires first { order ≡ 0 → FitsFirst (I.before 0) self.old item place }
+        requires second { order ≡ 1 → FitsSecond (I.before 1) self.old item place }
+        ensures added { self.new ≡ with_put order item place self.old }
+        ensures cost { Spends steps.old steps.new 1 0 2 }
+    {
         steps.turn();
         if order == 0 {
             self.first.push(item, steps);

@@ -137,7 +137,7 @@ impl LiveCounts {
     pub fn seal(&mut self)
         requires { self.old.sealed ≡ false }
         ensures sealed { self.new ≡ record self.old { sealed = true; left = self.new.left } }
-        ensures bounded { self.new.left ≤ length self.new.places }
+        ensures each { self.new.left ≡ length self.new.places }
     {
         self.sealed = true;
     }
