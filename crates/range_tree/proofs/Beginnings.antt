@@ -1,0 +1,117 @@
+-- The growth as it begins.
+use Rattle.std.proofs.Common.{◌≡◌, ℕ, zero, suc, ◌==◌, ◌+◌, ◌-◌, ◌*◌, ◌^◌, ◌<◌, ◌≤◌, true, false, List, [], length, map, take, replicate, refl, sym, ap, ◌∙◌, arith, subst, Some, slice_get}
+use Rattle.std.proofs.lemmas.Bool.{cond-false}
+use Rattle.std.proofs.lemmas.Bool.Decides.{nat_tests}
+use Rattle.std.proofs.Math.Nat.{mul-le-mul_right, pow-le-pow_right}
+use Rattle.weak_delete.specs.Places.{nothing_put}
+use Rattle.builder_trait.specs.Builders.{Progress, IsUnderway}
+use Rattle.map_shapes.specs.declared.point.Point.{Point}
+use Rattle.range_tree.specs.declared.level.Level.{Level}
+use Rattle.range_tree.specs.declared.tree.Tree.{Tree}
+use Rattle.range_tree.specs.Heights.{height_of, levels_for}
+use Rattle.range_tree.specs.Rows.{before, IsRow, counted}
+use Rattle.range_tree.specs.Growing.{IsPutting, IsEmptyLevel, IsCounting, IsComing, IsGrowing, turned}
+use Rattle.range_tree.proofs.Begins.{IsRow-top}
+use Rattle.range_tree.proofs.HeightLemmas.{height_of-above, height_of-least, levels_for-small}
+
+-- what was not begun has no places, is open, and has turned none
+module _ (level : Level) (none : level.counts ≡ nothing_put level.counts.capacity) where
+  pub no_places : level.counts.places ≡ []
+  no_places = ap (λ s. s.places) none
+
+  pub is_open : level.counts.sealed ≡ false
+  is_open = ap (λ s. s.sealed) none
+
+  pub none_turned : turned level.counts ≡ 0
+  none_turned = ap turned none
+
+-- a level whose row is whole and whose counts were not begun is counted next
+pub IsCounting-begun : {points : List Point} {height : ℕ} {level : Level} → IsRow points height level.entries.items
+    → level.counts ≡ nothing_put level.counts.capacity → 0 < length points → IsCounting points height level
+IsCounting-begun {points} {height} {level} row none some =
+    let places : level.counts.places ≡ [] = no_places level none in
+    let open_yet : level.counts.sealed ≡ false = is_open level none in record {
+      row = row;
+      put = places ∙ ap (λ l. map (counted points (replicate (length points) true)) (take (length l) level.entries.items)) (sym places);
+      all_put = λ closed. absurd cc;
+      open_yet = λ is. omega (arith, ap length places, row.entry_each);
+      to_turn = λ closed. absurd cc;
+    }
+
+-- an empty level below it is to come
+pub IsComing-begun : {level next : Level} (height : ℕ) → level.counts ≡ nothing_put level.counts.capacity → IsEmptyLevel next
+    → IsComing level next height 0
+IsComing-begun {level} {next} height none empty =
+    let places : level.counts.places ≡ [] = no_places level none in
+    let open_yet : level.counts.sealed ≡ false = is_open level none in record {
+      copied = λ is. empty.entries ∙ ap (λ l. take (length l) level.entries.items) (sym places);
+      none_lower = λ is. refl;
+      parted = λ closed. absurd cc;
+      uncounted = empty.counts;
+    }
+
+-- how many levels some points need
+some_levels : (n : ℕ) → 0 < n → levels_for n ≡ height_of n + 1
+some_levels n some = let test : (n == 0) ≡ false = grind (arith, nat_tests) in cond-false (n == 0) 0 (height_of n + 1) test
+
+pub few_points : (n level : ℕ) → level < 32 → n ≤ 2 ^ level → n ≤ 2 ^ 31
+few_points n level small few =
+    let le : level ≤ 31 = omega arith in let bound : 2 ^ level ≤ 2 ^ 31 = pow-le-pow_right (omega arith) le in omega arith
+
+pub levels_for-within : (n level : ℕ) → level < 32 → n ≤ 2 ^ level → levels_for n ≤ level + 1
+levels_for-within zero level small few = omega arith
+levels_for-within (suc n) level small few =
+    let small : suc n ≤ 2 ^ 31 = few_points (suc n) level small few in
+    omega (arith, some_levels (suc n) (omega arith), height_of-least (suc n) level (omega arith) few)
+
+some_points : (n used : ℕ) → used ≡ levels_for n → 0 < used → 0 < n
+some_points zero used is some = absurd (omega arith)
+some_points (suc n) used is some = omega arith
+
+small_work : (levels n : ℕ) → levels ≤ 32 → n ≤ 2 ^ 31 → levels * (2 * n) < 2 ^ 38
+small_work levels n few small = let le : levels * (2 * n) ≤ 32 * (2 * n) = mul-le-mul_right (2 * n) few in omega arith
+
+module _ (b : Progress Point) (tree : Tree) (underway : IsUnderway before b) (complete : length b.reordered ≡ length b.items)
+    (putting : IsPutting b tree.levels.items) (used : tree.used ≡ levels_for (length b.items)) (at : tree.at ≡ 0) (lower : tree.lower ≡ 0)
+    (left : tree.left ≡ levels_for (length b.items) * (2 * length b.items)) where
+  top : {level : Level} → slice_get tree.levels.items tree.at ≡ Some level → slice_get tree.levels.items 0 ≡ Some level
+  top {level} found = subst (λ q. slice_get tree.levels.items q ≡ Some level) at found
+
+  few : length b.items ≤ 2 ^ 31
+  few = few_points (length b.items) b.at_level putting.small underway.few
+
+  whole : {level : Level} → tree.at < tree.used → slice_get tree.levels.items 0 ≡ Some level → IsRow b.items (tree.used - 1 - tree.at) level.entries.items
+  whole {level} some found =
+      let height : tree.used - 1 - tree.at ≡ height_of (length b.items) =
+      omega (arith, some_levels (length b.items) (some_points (length b.items) tree.used used (omega arith))) in
+      IsRow-top b level.entries.items underway complete (putting.places level found) (putting.known level found) (tree.used - 1 - tree.at)
+      (subst (λ h. length b.items ≤ 2 ^ h) (sym height) (height_of-above (length b.items) (omega (arith, few))))
+
+  pub IsGrowing-begun : IsGrowing b tree
+  IsGrowing-begun = record {
+    small = putting.small;
+    few = underway.few;
+    used = used;
+    made = omega (arith, levels_for-within (length b.items) b.at_level putting.small underway.few, putting.made);
+    room = putting.room;
+    at_within = omega arith;
+    built = λ q level before found. absurd (omega arith);
+    here = λ level some found.
+        IsCounting-begun (whole some (top found)) (putting.uncounted level (top found)) (some_points (length b.items) tree.used used (omega arith));
+    next = λ level next more found below.
+        subst (IsComing level next (tree.used - 2 - tree.at)) (sym lower)
+        (IsComing-begun (tree.used - 2 - tree.at) (putting.uncounted level (top found)) (putting.below (tree.at + 1) next (omega arith) below));
+    known = λ next more below.
+        let none = (putting.below (tree.at + 1) next (omega arith) below).entries in
+        λ k d within. absurd (omega (arith, ap length none));
+    beyond = λ q level past found. putting.below q level (omega arith) found;
+    left = λ level some found.
+        let none = putting.uncounted level (top found) in
+        let all : (tree.used - tree.at) * (2 * length b.items) ≡ levels_for (length b.items) * (2 * length b.items) =
+        ap (λ u. u * (2 * length b.items)) (omega arith) in
+        omega (arith, ap length (no_places level none), none_turned level none, left, all);
+    ended = λ none.
+        let zero_levels : levels_for (length b.items) ≡ 0 = omega arith in
+        left ∙ ap (λ u. u * (2 * length b.items)) zero_levels ∙ (omega arith);
+    few_left = omega (arith, left, small_work (levels_for (length b.items)) (length b.items) (levels_for-small (length b.items) few) few);
+  }

@@ -1,0 +1,92 @@
+-- The builder's growth through the seal, a turn of the points, and the end.
+use Rattle.std.proofs.Common.{◌≡◌, ℕ, ◌+◌, ◌-◌, ◌*◌, ◌^◌, ◌<◌, ◌≤◌, Bool, true, false, cond, List, length, take, replicate, refl, sym, ap, ◌∙◌, arith, subst, Some, slice_get, ⊎_elim, length-take, min}
+use Rattle.std.proofs.Math.Nat.{mul-le-mul_right, mul-le-mul_left}
+use Rattle.std.proofs.lemmas.Bool.{cases_lt}
+use Rattle.std.proofs.lemmas.Option.{slice_get_within, slice_get_cases, slice_get-get_or, get_or_from_slice_get}
+use Rattle.std.proofs.lemmas.List.{get_or-take}
+use Rattle.builder_trait.specs.Builders.{Progress, sealed_with, all_live, IsQuota}
+use Rattle.map_shapes.specs.declared.point.Point.{Point}
+use Rattle.range_tree.specs.declared.level.Level.{Level}
+use Rattle.range_tree.specs.declared.tree.Tree.{Tree}
+use Rattle.range_tree.specs.Heights.{levels_for}
+use Rattle.range_tree.specs.Rows.{AreLevels, IsLevel}
+use Rattle.range_tree.specs.Growing.{IsCounting, IsGrowing, turned}
+use Rattle.range_tree.proofs.Beginnings.{few_points, levels_for-within}
+
+-- the growth doesn't see how many turns the points have left
+pub IsGrowing-sealed : (b : Progress Point) (tree : Tree) (n : ℕ) → IsGrowing b tree → IsGrowing (sealed_with n b) tree
+IsGrowing-sealed b tree n growing = record {
+  small = growing.small;
+  few = growing.few;
+  used = growing.used;
+  made = growing.made;
+  room = growing.room;
+  at_within = growing.at_within;
+  built = growing.built;
+  here = growing.here;
+  next = growing.next;
+  known = growing.known;
+  beyond = growing.beyond;
+  left = growing.left;
+  ended = growing.ended;
+  few_left = growing.few_left;
+}
+
+-- the flat kind's turns are at most as many as places
+pub left-sealed : (n level left : ℕ) → IsQuota 0 2 level n left → left ≤ 2 ^ level
+left-sealed n level left quota = omega (arith, quota.bounded)
+
+-- all that a builder of this level may take
+pub IsQuota-sealed : (n level left : ℕ) → level < 32 → n ≤ 2 ^ level → IsQuota 0 2 level n left
+    → IsQuota 4 12 level n (left + levels_for n * (2 * n))
+IsQuota-sealed n level left small few quota =
+    let levels : levels_for n * (2 * n) ≤ (level + 1) * (2 * n) = mul-le-mul_right (2 * n) (levels_for-within n level small few) in
+    let twice : 2 * n ≤ 2 * 2 ^ level = omega (arith, few) in
+    let points : (level + 1) * (2 * n) ≤ (level + 1) * (2 * 2 ^ level) = mul-le-mul_left (level + 1) twice in
+    record { enough = omega (arith, quota.enough); bounded = omega (arith, quota.bounded, levels, points) }
+
+-- a level that grows has work to do
+busy : {points : List Point} {height : ℕ} (level : Level) → IsCounting points height level
+    → length level.counts.places + turned level.counts < 2 * length points
+busy {points} {height} level counting = by level.counts.sealed refl
+  where
+    by : (b : Bool) → level.counts.sealed ≡ b → length level.counts.places + turned level.counts < 2 * length points
+    by true is =
+        let some = counting.to_turn is in
+        omega (arith, ap (λ x. cond x (length level.counts.places - level.counts.left) 0) is, some.0, some.1, counting.all_put is, counting.row.entry_each)
+    by false is =
+        omega (arith, ap (λ x. cond x (length level.counts.places - level.counts.left) 0) is, counting.open_yet is, counting.row.entry_each)
+
+-- without work no level grows
+at_end : (b : Progress Point) (tree : Tree) → IsGrowing b tree → tree.left ≡ 0 → tree.at ≡ tree.used
+at_end b tree growing none =
+    ⊎_elim (λ less. absurd (growing_still less)) (λ from. omega (arith, growing.at_within)) (cases_lt tree.at tree.used)
+  where
+    growing_still : tree.at < tree.used → ⊥
+    growing_still less =
+        ⊎_elim
+        (λ (level, within, found, read).
+        let work = busy level (growing.here level less found) in
+        let one : 1 * (2 * length b.items) ≤ (tree.used - tree.at) * (2 * length b.items) = mul-le-mul_right (2 * length b.items) (omega arith) in
+        omega (arith, work, one, growing.left level less found))
+        (λ (past, none). omega (arith, growing.made))
+        (slice_get_cases tree.levels.items tree.at).1
+
+-- what stands below a bound stands in the first items
+slice_get-take : {A : Type 0} (n : ℕ) (xs : List A) (k : ℕ) (x : A) → slice_get (take n xs) k ≡ Some x → (k < n) × (slice_get xs k ≡ Some x)
+slice_get-take n xs k x at =
+    let within : k < length (take n xs) = slice_get_within (take n xs) k x at in
+    let long : length (take n xs) ≡ min n (length xs) = length-take n xs in
+    (omega arith, slice_get-get_or xs k x (omega arith) ∙ ap Some (sym (get_or-take n xs k x (omega arith)) ∙ get_or_from_slice_get (take n xs) k x x at))
+
+pub AreLevels-grown : (b : Progress Point) (tree : Tree) → IsGrowing b tree → tree.left ≡ 0 → AreLevels (all_live b) (take tree.used tree.levels.items)
+AreLevels-grown b tree growing none =
+    let many : length (take tree.used tree.levels.items) ≡ tree.used = omega (arith, length-take tree.used tree.levels.items, growing.made) in
+    record {
+      few = few_points (length b.items) b.at_level growing.small growing.few;
+      as_many = many ∙ growing.used;
+      each = λ q level found.
+          let there = slice_get-take tree.used tree.levels.items q level found in
+          subst (λ h. IsLevel b.items (replicate (length b.items) true) h level) (ap (λ n. n - 1 - q) (sym many))
+          (growing.built q level (omega (arith, at_end b tree growing none, there.0)) there.1);
+    }

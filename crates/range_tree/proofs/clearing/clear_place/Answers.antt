@@ -1,0 +1,90 @@
+use Rattle.std.proofs.Common.{◌≡◌, ◌≢◌, ℕ, ◌+◌, ◌-◌, ◌*◌, ◌<◌, ◌≤◌, List, length, false, slice_get, get_or, set, refl, sym, ap, ◌∙◌, arith, subst}
+use Rattle.std.proofs.Math.Nat.{mul-le-mul_right}
+use Rattle.std.proofs.lemmas.List.{length-map}
+use Rattle.std.proofs.lemmas.Option.{slice_get-get_or, slice_get_within}
+use Rattle.query_laws.proofs.Counting.{Spends-nothing, Spends-then, Spends-within, Spends-weaker}
+use Rattle.builder_trait.specs.Parts.{Contents}
+use Rattle.map_shapes.specs.declared.point.Point.{Point}
+use Rattle.range_tree.specs.declared.level.Level.{Level}
+use Rattle.range_tree.specs.Rows.{IsLevel, AreLevels, counted}
+use Rattle.range_tree.proofs.HeightLemmas.{levels_for-small}
+use Rattle.range_tree.proofs.ClearingLemmas.{block_bounds, block_of, entry_found, entry_live, level_cleared, cleared_more, levels_few, slice_get-set_other}
+use Rattle.range_tree.proofs.clearing.clear_place.Goals as goal
+
+-- the level of a row that is still as it was
+row_is : {part : Contents Point} {old : List Level} → AreLevels part old → (levels : List Level) (row : ℕ) (d : Level) → row < length levels
+    → length levels ≡ length old → slice_get levels row ≡ slice_get old row
+    → IsLevel part.items part.flags (length old - 1 - row) (get_or levels row d)
+row_is are levels row d below same kept = are.each row _ (sym kept ∙ slice_get-get_or levels row d below)
+
+pub loop-row-init : goal.loop-row-init
+loop-row-init g c = record {
+  kept = λ q le. refl;
+  cleared = λ part are known live q level below at. absurd (let no : ⊥ = omega arith in no);
+  cost = λ part h are few. Spends-within (Spends-nothing c.args.steps.now) refl refl (omega arith);
+}
+
+pub block_len-len-requires : goal.block_len-len-requires
+block_len-len-requires g c =
+    let part = c.requires.0 in let are = c.requires.1 in
+    omega (arith, are.as_many, levels_for-small (length part.items) are.few)
+
+pub clear-requires-clause-ordered : goal.clear-requires-clause-ordered
+clear-requires-clause-ordered g c =
+    let is = row_is c.requires.1 c.loop-row.levels c.loop-row.row c.index-levels-row.result (omega arith) c.loop-row.auto.levels (c.loop-row.invariant.kept c.loop-row.row (omega arith)) in
+    (block_bounds is.row c.args.entry.now c.requires.2 _ _ _ c.block_len-len.ensures c.len.ensures.value c.min-end.ensures).0
+
+pub clear-requires-clause-block : goal.clear-requires-clause-block
+clear-requires-clause-block g c =
+    let is = row_is c.requires.1 c.loop-row.levels c.loop-row.row c.index-levels-row.result (omega arith) c.loop-row.auto.levels (c.loop-row.invariant.kept c.loop-row.row (omega arith)) in
+    block_of is.row c.args.entry.now c.requires.2 _ _ _ c.block_len-len.ensures c.len.ensures.value c.min-end.ensures
+
+pub clear-requires-clause-built : goal.clear-requires-clause-built
+clear-requires-clause-built g c =
+    (row_is c.requires.1 c.loop-row.levels c.loop-row.row c.index-levels-row.result (omega arith) c.loop-row.auto.levels
+    (c.loop-row.invariant.kept c.loop-row.row (omega arith))).built
+
+pub clear-requires-clause-as_many : goal.clear-requires-clause-as_many
+clear-requires-clause-as_many g c =
+    let is = row_is c.requires.1 c.loop-row.levels c.loop-row.row c.index-levels-row.result (omega arith) c.loop-row.auto.levels (c.loop-row.invariant.kept c.loop-row.row (omega arith)) in
+    ap length is.counts ∙ length-map (get_or c.loop-row.levels c.loop-row.row c.index-levels-row.result).entries.items (counted c.requires.0.items c.requires.0.flags)
+
+pub clear-requires-clause-there : goal.clear-requires-clause-there
+clear-requires-clause-there g c =
+    let is = row_is c.requires.1 c.loop-row.levels c.loop-row.row c.index-levels-row.result (omega arith) c.loop-row.auto.levels (c.loop-row.invariant.kept c.loop-row.row (omega arith)) in
+    let bounds = block_bounds is.row c.args.entry.now c.requires.2 _ _ _ c.block_len-len.ensures c.len.ensures.value c.min-end.ensures in
+    let found = entry_found is.row c.args.entry.now c.requires.2 _ _ _ c.block_len-len.ensures c.len.ensures.value c.min-end.ensures in
+    (found.0, found.1, found.2, found.3, entry_live is c.args.entry.now found.0 (omega (arith, found.2, bounds.1)) found.3 c.requires.3)
+
+pub loop-row-preserved : goal.loop-row-preserved
+loop-row-preserved g c = record {
+  kept = λ q le.
+      let apart : q ≢ c.loop-row.row = λ e. (let no : ⊥ = omega arith in no) in
+      slice_get-set_other c.loop-row.levels c.loop-row.row q c.clear.new.self apart ∙ c.loop-row.invariant.kept q (omega arith);
+  cleared = λ part are known live.
+      let is = row_is are c.loop-row.levels c.loop-row.row c.index-levels-row.result (omega arith) c.loop-row.auto.levels (c.loop-row.invariant.kept c.loop-row.row (omega arith)) in
+      let bounds = block_bounds is.row c.args.entry.now known _ _ _ c.block_len-len.ensures c.len.ensures.value c.min-end.ensures in
+      let found = entry_found is.row c.args.entry.now known _ _ _ c.block_len-len.ensures c.len.ensures.value c.min-end.ensures in
+      cleared_more part c.loop-row.levels (length c.args.levels.now) c.args.entry.now.place c.loop-row.row c.clear.new.self (c.loop-row.invariant.cleared part are known live) (omega arith)
+      (subst (λ (l : Level). IsLevel part.items (set part.flags c.args.entry.now.place false) (length c.args.levels.now - 1 - c.loop-row.row) l)
+      (sym (c.clear.ensures.cleared found.0 found.1 found.2 found.3))
+      (level_cleared is found.0 c.args.entry.now.place (omega (arith, found.2, bounds.1)) (ap (λ e. e.place) found.3) live));
+  cost = λ part h are few.
+      let is = row_is are c.loop-row.levels c.loop-row.row c.index-levels-row.result (omega arith) c.loop-row.auto.levels (c.loop-row.invariant.kept c.loop-row.row (omega arith)) in
+      Spends-weaker (Spends-then (c.loop-row.invariant.cost part h are few) (c.clear.ensures.cost h (omega (arith, is.row.entry_each)))) (omega arith);
+}
+
+pub returns-clause-cleared : goal.returns-clause-cleared
+returns-clause-cleared g c part are known live = record {
+  few = are.few;
+  as_many = c.loop-row.auto.levels ∙ are.as_many;
+  each = λ q level at.
+      let below = slice_get_within c.loop-row.levels q level at in
+      subst (λ n. IsLevel part.items (set part.flags c.args.entry.now.place false) (n - 1 - q) level) (sym c.loop-row.auto.levels)
+      (c.loop-row.invariant.cleared part are known live q level (omega arith) at);
+}
+
+pub returns-clause-cost : goal.returns-clause-cost
+returns-clause-cost g c part h are few =
+    let levels : c.loop-row.row ≤ h + 1 = omega (arith, are.as_many, levels_few (length part.items) h (omega (arith, are.few)) few) in
+    Spends-weaker (c.loop-row.invariant.cost part h are few) (mul-le-mul_right (5 * (h + 2)) levels)

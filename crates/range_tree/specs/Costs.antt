@@ -1,0 +1,28 @@
+-- The most touches of one question.
+use Rattle.std.specs.Prelude.{◌≡◌, ℕ, ◌+◌, ◌-◌, ◌*◌, ◌≤◌, List, length, filter}
+use Rattle.std.proofs.Common.{arith, subst}
+use Rattle.std.specs.List.{items_where_true}
+use Rattle.builder_trait.specs.Parts.{Contents}
+use Rattle.map_shapes.specs.declared.point.Point.{Point}
+use Rattle.map_shapes.specs.declared.rect.Rect.{Rect}
+use Rattle.map_shapes.specs.Questions.{is_in}
+use Rattle.range_tree.specs.Heights.{height_of}
+
+-- for a number: 16 * (h + 2) ^ 2
+abbrev pub count_touches : List Point → ℕ
+count_touches points = 16 * ((height_of (length points) + 2) * (height_of (length points) + 2))
+
+-- for a list: that, and 8 * (h + 2) for each live point in the rectangle
+abbrev pub list_touches : Rect → Contents Point → ℕ
+list_touches rect part =
+    count_touches part.items
+    + 8 * (height_of (length part.items) + 2) * length (filter (is_in rect) (items_where_true part.flags part.items))
+
+-- a larger part doesn't have a lower bound
+longer : (g d : ℕ) → 16 * ((g + 2) * (g + 2)) ≤ 16 * ((g + d + 2) * (g + d + 2))
+longer g d = omega arith
+
+pub mark_touches-rise : (g h : ℕ) → g ≤ h → 16 * ((g + 2) * (g + 2)) ≤ 16 * ((h + 2) * (h + 2))
+mark_touches-rise g h le =
+    let is : g + (h - g) ≡ h = omega arith in
+    subst (λ n. 16 * ((g + 2) * (g + 2)) ≤ 16 * ((n + 2) * (n + 2))) is (longer g (h - g))

@@ -1,0 +1,5 @@
+pub mod Heights
+pub mod Rows
+pub mod Queries
+pub mod Growing
+pub mod Costs

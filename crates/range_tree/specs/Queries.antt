@@ -1,0 +1,74 @@
+-- Live points between places, in spans of rows, and in a rectangle.
+use Rattle.std.specs.Prelude.{◌≡◌, ℕ, ◌+◌, ◌-◌, ◌*◌, ◌<◌, ◌≤◌, ◌++◌, false, if◌then◌else◌, List, [], Some, length, filter, All, slice_get, slice_index_or, slice_range}
+use Rattle.std.specs.Option.{option_to_list}
+use Rattle.std.specs.List.{flat_map, range_with_len, items_where_true}
+use Rattle.query_laws.specs.Permuted.{Permuted}
+use Rattle.weak_delete.specs.Places.{IsBuilt}
+use Rattle.weak_delete.specs.Levels.{IsMultiple}
+use Rattle.builder_trait.specs.Parts.{Contents}
+use Rattle.map_shapes.specs.declared.point.Point.{Point}
+use Rattle.map_shapes.specs.declared.rect.Rect.{Rect}
+use Rattle.map_shapes.specs.Questions.{is_in}
+use Rattle.range_tree.specs.declared.entry.Entry.{Entry}
+use Rattle.range_tree.specs.declared.level.Level.{Level}
+use Rattle.range_tree.specs.declared.span.Span.{Span}
+use Rattle.range_tree.specs.declared.cover.Cover.{Cover}
+
+-- the live point at a place, if it is one
+abbrev pub live_at : Contents Point → ℕ → List Point
+live_at part place = if slice_index_or part.flags place false then option_to_list (slice_get part.items place) else []
+
+-- the live points at the places from `from` on and below `to`
+abbrev pub live_between : Contents Point → ℕ → ℕ → List Point
+live_between part from to = flat_map (live_at part) (range_with_len from (to - from))
+
+-- the live points of a row's entries from `from` on and below `to`
+abbrev pub live_in_slice : Contents Point → List Entry → ℕ → ℕ → List Point
+live_in_slice part entries from to = flat_map (λ e. live_at part e.place) (slice_range entries from to)
+
+-- the live points of a span
+abbrev pub live_in_span : Contents Point → List Level → Span → List Point
+live_in_span part levels span =
+    flat_map (λ level. live_in_slice part level.entries.items span.from span.to) (option_to_list (slice_get levels span.row))
+
+-- a span of a level that is built
+pub record IsSpan (levels : List Level) (span : Span) : Type 0 where
+  pub row : span.row < length levels
+  pub ordered : span.from ≤ span.to
+  pub within : (level : Level) → slice_get levels span.row ≡ Some level → span.to ≤ length level.counts.places
+  pub built : (level : Level) → slice_get levels span.row ≡ Some level → IsBuilt level.counts
+
+-- the points at places below `place` have abscissas below `x`
+abbrev pub AbscissasBelow : List Point → ℕ → ℕ → Type 0
+AbscissasBelow points place x = (k : ℕ) (p : Point) → k < place → slice_get points k ≡ Some p → p.x < x
+
+-- those from `place` on have at least `x`
+abbrev pub AbscissasFrom : List Point → ℕ → ℕ → Type 0
+AbscissasFrom points place x = (k : ℕ) (p : Point) → place ≤ k → slice_get points k ≡ Some p → x ≤ p.x
+
+-- the points from place `from` on and below `to` have abscissas in the rectangle
+abbrev pub AreWithinAbscissas : Contents Point → ℕ → ℕ → Rect → Type 0
+AreWithinAbscissas part from to rect =
+    (k : ℕ) (p : Point) → from ≤ k → k < to → slice_get part.items k ≡ Some p → (rect.x1 ≤ p.x) × (p.x ≤ rect.x2)
+
+-- the spans, and the places that they don't cover yet, hold the points of the rectangle
+pub record IsCovering (part : Contents Point) (levels : List Level) (rect : Rect) (most : ℕ) (cover : Cover) : Type 0 where
+  pub ordered : cover.from ≤ cover.to
+  pub within : cover.to ≤ length part.items
+  pub abscissas : AreWithinAbscissas part cover.from cover.to rect
+  pub spans : All (IsSpan levels) cover.spans.items
+  pub few : length cover.spans.items ≤ most
+  pub points : Permuted (flat_map (live_in_span part levels) cover.spans.items ++ filter (is_in rect) (live_between part cover.from cover.to))
+      (filter (is_in rect) (items_where_true part.flags part.items))
+
+-- what is left consists of blocks of this height
+pub record IsCover (part : Contents Point) (levels : List Level) (rect : Rect) (height : ℕ) (cover : Cover) : Type 0 where
+  pub covering : IsCovering part levels rect (2 * height) cover
+  pub front : cover.from < cover.to → IsMultiple cover.from height
+  pub back : cover.from < cover.to → IsMultiple cover.to height
+
+-- and begins with a block of the next height
+pub record IsFrontCovered (part : Contents Point) (levels : List Level) (rect : Rect) (height : ℕ) (cover : Cover) : Type 0 where
+  pub covering : IsCovering part levels rect (2 * height + 1) cover
+  pub front : cover.from < cover.to → IsMultiple cover.from (height + 1)
+  pub back : cover.from < cover.to → IsMultiple cover.to height

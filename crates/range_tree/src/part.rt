@@ -1,0 +1,136 @@
+//! The part.
+ghost use Rattle.std.specs.Prelude.{◌≡◌};
+
+use crate::answers::{listed, numbered, weighed};
+use crate::clearing::clear_place;
+use crate::entry::Entry;
+use crate::level::Level;
+use builder_trait::flat::FlatPart;
+use builder_trait::{Answers, Part};
+use map_shapes::{CountIn, IdTally, ListIn, Point, SumIn};
+use query_laws::step_ledger::Steps;
+use query_laws::{NoMemory, Total};
+use std::marker::Model;
+use std::sync::ledger::Ledger;
+
+/// Points of which any rectangle can be counted, weighed and listed: a range tree (Bentley 1979), in which points are marked
+/// as dead (weak deletion, Overmars 1983).
+///
+/// With h the least number such that there are at most `2^h` points, it has `h + 1` rows of an entry and a place of the live
+/// counts for each point. An entry takes 8 bytes and a place of the counts 24, so that at level 16 the rows take 544 bytes a
+/// point; the points themselves, in both orders, with their places and flags, take 73 more.
+#[derive(Drop)]
+pub struct RangePart {
+    pub(crate) points: FlatPart<Point>,
+    pub(crate) levels: Vec<Level>,
+}
+
+impl Model for RangePart {
+    ghost use Rattle.builder_trait.specs.Parts.{Contents};
+    ghost use Rattle.map_shapes.specs.declared.point.Point.{Point};
+
+    ghost Value = { Contents Point };
+
+    ghost use Rattle.range_tree.specs.Rows.{AreLevels};
+
+    ghost view = { λ p. p.points };
+
+    ghost invariant = { λ p. AreLevels p.points p.levels.items };
+}
+
+impl Part for RangePart {
+    ghost use Rattle.std.specs.Prelude.{◌+◌, ◌*◌, refl};
+    ghost use Rattle.std.specs.List.{items_where_true};
+    ghost use Rattle.range_tree.specs.Costs.{mark_touches-rise};
+
+    type Item = Point;
+
+    ghost contents = { λ p. p };
+
+    ghost live_items = { λ p. items_where_true p.flags p.items };
+
+    ghost mark_touches = { λ h. 16 * ((h + 2) * (h + 2)) };
+
+    fn len(&self) -> usize {
+        self.points.len()
+    }
+
+    fn live(&self) -> usize {
+        self.points.live()
+    }
+
+    fn item<L: Ledger>(&self, order: usize, k: usize, steps: &mut Steps<L>) -> Point {
+        self.points.item(order, k, steps)
+    }
+
+    fn place<L: Ledger>(&self, order: usize, k: usize, steps: &mut Steps<L>) -> usize {
+        self.points.place(order, k, steps)
+    }
+
+    fn alive<L: Ledger>(&self, k: usize, steps: &mut Steps<L>) -> bool {
+        self.points.alive(k, steps)
+    }
+
+    fn mark<L: Ledger>(&mut self, item: &Point, steps: &mut Steps<L>) -> bool {
+        let Some(place) = self.points.mark_placed(item, steps) else {
+            return false;
+        };
+        let entry = Entry {
+            y: item.y,
+            place: place as u32,
+        };
+        clear_place(&mut self.levels, &entry, steps);
+        true
+    }
+
+    ghost live_by_flags = { λ part. refl };
+
+    ghost mark_touches_rise = { mark_touches-rise };
+}
+
+impl Answers<CountIn> for RangePart {
+    ghost use Rattle.range_tree.specs.Costs.{count_touches};
+
+    ghost ask_touches = { λ q part. count_touches part.items };
+
+    fn ask<L: Ledger>(
+        &self,
+        question: &CountIn,
+        tally: &mut Total,
+        steps: &mut Steps<L>,
+    ) -> Result<(), NoMemory> {
+        numbered(&self.points, &self.levels, &question.0, tally, steps);
+        Ok(())
+    }
+}
+
+impl Answers<SumIn> for RangePart {
+    ghost use Rattle.range_tree.specs.Costs.{count_touches};
+
+    ghost ask_touches = { λ q part. count_touches part.items };
+
+    fn ask<L: Ledger>(
+        &self,
+        question: &SumIn,
+        tally: &mut Total,
+        steps: &mut Steps<L>,
+    ) -> Result<(), NoMemory> {
+        weighed(&self.points, &self.levels, &question.0, tally, steps);
+        Ok(())
+    }
+}
+
+impl Answers<ListIn> for RangePart {
+    ghost use Rattle.range_tree.specs.Costs.{list_touches};
+
+    ghost ask_touches = { λ q part. list_touches q.0 part };
+
+    fn ask<L: Ledger>(
+        &self,
+        question: &ListIn,
+        tally: &mut IdTally,
+        steps: &mut Steps<L>,
+    ) -> Result<(), NoMemory> {
+        listed(&self.points, &self.levels, &question.0, tally, steps)
+    }
+}

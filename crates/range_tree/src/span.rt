@@ -1,0 +1,84 @@
+//! What a rectangle takes of one block.
+ghost use Rattle.std.specs.Prelude.{◌≡◌, ◌+◌, ◌*◌, ◌^◌, ◌≤◌, ◌<◌, ◌∷◌, ℕ, Some, length, min, filter, slice_get, sum_by};
+ghost use Rattle.query_laws.specs.StepLedger.{Spends};
+ghost use Rattle.query_laws.specs.Permuted.{Permuted};
+ghost use Rattle.weak_delete.specs.declared.live_counts.LiveCounts.{LiveCounts};
+ghost use Rattle.builder_trait.specs.Parts.{Contents, IsPart};
+ghost use Rattle.map_shapes.specs.declared.point.Point.{Point};
+ghost use Rattle.map_shapes.specs.Questions.{is_in};
+ghost use Rattle.range_tree.specs.Rows.{IsBlock, IsRow, AreLevels};
+ghost use Rattle.range_tree.specs.Queries.{live_between, live_in_slice, live_in_span, IsSpan, AreWithinAbscissas};
+
+use crate::entry::Entry;
+use crate::level::Level;
+use crate::search::first_entry;
+use map_shapes::{Point, Rect};
+use query_laws::step_ledger::{Row, Steps};
+use std::sync::ledger::Ledger;
+
+/// Neighbouring entries of one row: those from `from` on and below `to`.
+#[derive(Clone, Copy, Debug, Default)]
+pub(crate) struct Span {
+    pub(crate) row: usize,
+    pub(crate) from: usize,
+    pub(crate) to: usize,
+}
+
+/// The entries of the block from `start` on and below `end` whose ordinates are in the rectangle: two binary searches.
+pub(crate) fn span_in<L: Ledger>(
+    entries: &Row<Entry>,
+    row: usize,
+    start: usize,
+    end: usize,
+    rect: &Rect,
+    steps: &mut Steps<L>,
+) -> Span
+    requires ordered { start ≤ end }
+    requires within { end ≤ length entries.now.items }
+    requires block { IsBlock entries.now.items start end }
+    ensures row { result.row ≡ row }
+    ensures ordered { result.from ≤ result.to }
+    ensures within { result.to ≤ end }
+
+    // In whatever part the row stands, and wherever the block's abscissas are in the rectangle.
+    ensures points { (part : Contents Point) (height : ℕ) → IsRow part.items height entries.now.items
+        → AreWithinAbscissas part start end rect.now
+        → Permuted (live_in_slice part entries.now.items result.from result.to) (filter (is_in rect.now) (live_between part start end)) }
+    ensures cost { (h : ℕ) → end ≤ start + 2 ^ h → Spends steps.old steps.new 0 0 (2 * (h + 1)) }
+{
+    let low = Entry {
+        y: rect.y1,
+        place: 0,
+    };
+    let high = Entry {
+        y: rect.y2 + 1,
+        place: 0,
+    };
+    let from = first_entry(entries, &low, start, end, steps);
+    let to = first_entry(entries, &high, from, end, steps);
+    Span { row, from, to }
+}
+
+/// How many entries of a span are live: two prefixes of its row's counts.
+pub(crate) fn live_in<L: Ledger>(levels: &[Level], span: &Span, steps: &mut Steps<L>) -> u64
+    requires { IsSpan levels.now span.now }
+    ensures count { (part : Contents Point) → AreLevels part levels.now
+        → result ≡ length (live_in_span part levels.now span.now) }
+    ensures cost { (part : Contents Point) (h : ℕ) → AreLevels part levels.now → length part.items ≤ 2 ^ h
+        → Spends steps.old steps.new 0 0 (4 * (h + 2)) }
+{
+    let counts = &levels[span.row].counts;
+    counts.prefix(span.to, steps) - counts.prefix(span.from, steps)
+}
+
+/// What the live entries of a span weigh together: two prefixes of its row's counts.
+pub(crate) fn weight_in<L: Ledger>(levels: &[Level], span: &Span, steps: &mut Steps<L>) -> u64
+    requires { IsSpan levels.now span.now }
+    ensures sum { (part : Contents Point) → AreLevels part levels.now
+        → result ≡ sum_by (λ p. p.w) (live_in_span part levels.now span.now) }
+    ensures cost { (part : Contents Point) (h : ℕ) → AreLevels part levels.now → length part.items ≤ 2 ^ h
+        → Spends steps.old steps.new 0 0 (4 * (h + 2)) }
+{
+    let counts = &levels[span.row].counts;
+    counts.sum_prefix(span.to, steps) - counts.sum_prefix(span.from, steps)
+}

@@ -1,0 +1,126 @@
+//! A part of three points through the traits, one of which dies.
+ghost use Rattle.range_tree.specs.Rows.{before};
+ghost use Rattle.std.specs.Prelude.{◌≡◌, ◌≢◌, ◌∷◌, [], IsTrue, IfOk};
+
+use crate::RangeBuilder;
+use builder_trait::{Answers, Asking, Builder, Part, completed};
+use map_shapes::{CountIn, IdList, ListIn, Point, Rect, SumIn};
+use query_laws::step_ledger::{SHARES, Steps, blank};
+use query_laws::{Item, NoMemory, Question};
+use std::alloc::Global;
+use std::marker::Brand;
+use std::sync::ledger::{Blank, Ledger};
+use std::test::Fail;
+
+/// A part of three items that rise in both orders.
+fn three<B: Builder, L: Ledger>(
+    alloc: Global,
+    low: B::Item,
+    middle: B::Item,
+    high: B::Item,
+    steps: &mut Steps<L>,
+) -> Result<B::Part, NoMemory>
+    requires first { IsTrue (B.Item.before 0 low middle) × IsTrue (B.Item.before 0 low high) × IsTrue (B.Item.before 0 middle high) }
+    requires second { IsTrue (B.Item.before 1 low middle) × IsTrue (B.Item.before 1 low high) × IsTrue (B.Item.before 1 middle high) }
+    ensures { IfOk result (λ part. (B.Part.Part.contents part).items ≡ low ∷ middle ∷ high ∷ []) }
+{
+    let mut builder = B::room(alloc, 2)?;
+    builder.put(0, low, 0, steps);
+    builder.put(0, middle, 1, steps);
+    builder.put(0, high, 2, steps);
+    builder.put(1, low, 0, steps);
+    builder.put(1, middle, 1, steps);
+    builder.put(1, high, 2, steps);
+    Ok(completed(builder, steps))
+}
+
+/// The answer over one part.
+fn answer_of<P: Answers<Q>, Q: Question<Item = P::Item>, L: Ledger>(
+    alloc: Global,
+    question: &Q,
+    part: &P,
+    steps: &mut Steps<L>,
+) -> Result<Q::Answer, NoMemory> {
+    let mut asking = Asking::new(alloc, question);
+    asking.part(part, steps)?;
+    Ok(asking.finish()?.into_answer())
+}
+
+/// How many points of a part lie in a rectangle, what they weigh, and which they are.
+fn seen_in<P: Part<Item = Point> + Answers<CountIn> + Answers<SumIn> + Answers<ListIn>, L: Ledger>(
+    alloc: Global,
+    rect: Rect,
+    part: &P,
+    steps: &mut Steps<L>,
+) -> Result<(u64, u64, IdList), NoMemory> {
+    let count = answer_of(alloc, &CountIn(rect), part, steps)?;
+    let sum = answer_of(alloc, &SumIn(rect), part, steps)?;
+    Ok((count, sum, answer_of(alloc, &ListIn(rect), part, steps)?))
+}
+
+/// What is seen in a rectangle of a part of three points, before and after the middle one is marked twice; what the marks
+/// answer, and the turns of the building.
+fn seen<L: Ledger>(
+    alloc: Global,
+    low: Point,
+    middle: Point,
+    high: Point,
+    rect: Rect,
+    blank: Blank,
+) -> Result<((u64, u64, IdList), (u64, u64, IdList), [bool; 2], u64), NoMemory>
+    requires name { blank.name ≡ L.name }
+    requires parts { blank.parts ≡ L.parts }
+    requires shares { blank.parts ≡ SHARES }
+    requires first { IsTrue (before 0 low middle) × IsTrue (before 0 low high) × IsTrue (before 0 middle high) }
+    requires second { IsTrue (before 1 low middle) × IsTrue (before 1 low high) × IsTrue (before 1 middle high) }
+    requires stamps { (low.stamp ≢ middle.stamp) × (high.stamp ≢ middle.stamp) }
+{
+    let mut steps = Steps::<L>::new(blank);
+    let mut part = three::<RangeBuilder, L>(alloc, low, middle, high, &mut steps)?;
+    let turns = steps.lap_turns();
+    let all = seen_in(alloc, rect, &part, &mut steps)?;
+    let marks = [
+        part.mark(&middle, &mut steps),
+        part.mark(&middle, &mut steps),
+    ];
+    let rest = seen_in(alloc, rect, &part, &mut steps)?;
+    Ok((all, rest, marks, turns))
+}
+
+#[test]
+fn answers_over_a_rectangle(rt: HostRuntime) -> Result<(), Fail> {
+    let low = Point {
+        id: 5,
+        x: 1,
+        y: 1,
+        w: 10,
+        stamp: 0,
+    };
+    let middle = Point {
+        id: 3,
+        x: 2,
+        y: 2,
+        w: 40,
+        stamp: 2,
+    };
+    let high = Point {
+        id: 7,
+        x: 3,
+        y: 3,
+        w: 20,
+        stamp: 1,
+    };
+    let rect = Rect {
+        x1: 0,
+        y1: 0,
+        x2: 2,
+        y2: 2,
+    };
+    let (all, rest, marks, turns) = seen::<Brand>(rt.alloc(), low, middle, high, rect, blank())?;
+    assert_eq!(rt; [all.0, all.1, rest.0, rest.1], [2, 50, 1, 10]);
+    assert_eq!(rt; all.2.into_vec().as_slice(), [3, 5].as_slice());
+    assert_eq!(rt; rest.2.into_vec().as_slice(), [5].as_slice());
+    assert_eq!(rt; marks, [true, false]);
+    assert_eq!(rt; turns, 27);
+    Ok(())
+}
