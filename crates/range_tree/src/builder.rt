@@ -15,7 +15,9 @@ use std::sync::ledger::Ledger;
 /// A [`RangePart`] under construction.
 ///
 /// The points become a flat part, and then the levels grow from the whole tree down to single points: no order is made, since
-/// the row of each level is the one above, parted by places.
+/// the row of each level is the one above, parted by places. For points at level i that are at most half of
+/// `2^i * (4 * i + 12)` turns after the seal. `room` takes all the memory, i + 1 rows for `2^i` points; the part keeps those rows
+/// that its points need.
 #[derive(Drop)]
 pub struct RangeBuilder {
     points: FlatBuilder<Point>,

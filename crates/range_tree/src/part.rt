@@ -14,11 +14,15 @@ use std::marker::Model;
 use std::sync::ledger::Ledger;
 
 /// Points of which any rectangle can be counted, weighed and listed: a range tree (Bentley 1979), in which points are marked
-/// as dead (weak deletion, Overmars 1983).
+/// as dead (weak deletion, Overmars 1983). Only a [`RangeBuilder`](crate::RangeBuilder) makes one.
 ///
-/// With h the least number such that there are at most `2^h` points, it has `h + 1` rows of an entry and a place of the live
-/// counts for each point. An entry takes 8 bytes and a place of the counts 24, so that at level 16 the rows take 544 bytes a
-/// point; the points themselves, in both orders, with their places and flags, take 73 more.
+/// Let h be the least number such that there are at most `2^h` points. A [`CountIn`] and a [`SumIn`] touch at most
+/// `16 * (h + 2)^2` entries, a [`ListIn`] at most `8 * (h + 2)` more for each point that it lists, and a mark at most
+/// `16 * (h + 2)^2`. Nothing takes memory but the tally of a [`ListIn`].
+///
+/// It has `h + 1` rows, each with an entry and a place of the live counts for each point. An entry takes 8 bytes and a place of
+/// the counts 24, so at level 16 the rows take 544 bytes a point. The points themselves, in both orders and with places and
+/// flags, take 73 more.
 #[derive(Drop)]
 pub struct RangePart {
     pub(crate) points: FlatPart<Point>,

@@ -1,9 +1,9 @@
-//! A part of three points through the traits, one of which dies.
+//! A part of three points through the traits, one of which dies; and a part of one at the borders of rectangles.
 ghost use Rattle.range_tree.specs.Rows.{before};
-ghost use Rattle.std.specs.Prelude.{◌≡◌, ◌≢◌, ◌∷◌, [], IsTrue, IfOk};
+ghost use Rattle.std.specs.Prelude.{◌≡◌, ◌≢◌, ◌≤◌, ◌<◌, ◌^◌, ◌∷◌, [], IsTrue, IfOk};
 
 use crate::RangeBuilder;
-use builder_trait::{Answers, Asking, Builder, Part, completed};
+use builder_trait::{Answers, Asking, Builder, Part, completed, part_of_one};
 use map_shapes::{CountIn, IdList, ListIn, Point, Rect, SumIn};
 use query_laws::step_ledger::{SHARES, Steps, blank};
 use query_laws::{Item, NoMemory, Question};
@@ -122,5 +122,57 @@ fn answers_over_a_rectangle(rt: HostRuntime) -> Result<(), Fail> {
     assert_eq!(rt; rest.2.into_vec().as_slice(), [5].as_slice());
     assert_eq!(rt; marks, [true, false]);
     assert_eq!(rt; turns, 27);
+    Ok(())
+}
+
+/// How many points of a part of one lie in each rectangle, and behind them the turns of its building.
+fn one_in<L: Ledger>(
+    alloc: Global,
+    point: Point,
+    rects: &[Rect],
+    blank: Blank,
+) -> Result<Vec<u64>, NoMemory>
+    requires name { blank.name ≡ L.name }
+    requires parts { blank.parts ≡ L.parts }
+    requires shares { blank.parts ≡ SHARES }
+{
+    let mut steps = Steps::<L>::new(blank);
+    let part = part_of_one::<RangeBuilder, L>(alloc, point, &mut steps)?;
+    let mut counts = Vec::new(alloc);
+    for rect in rects {
+        counts.push(answer_of(alloc, &CountIn(*rect), &part, &mut steps)?)?;
+    }
+    counts.push(steps.lap_turns())?;
+    Ok(counts)
+}
+
+fn rect(x1: u32, y1: u32, x2: u32, y2: u32) -> Rect
+    requires x_ordered { x1 ≤ x2 }
+    requires y_ordered { y1 ≤ y2 }
+    requires x_in_range { x2 < 2 ^ 31 }
+    requires y_in_range { y2 < 2 ^ 31 }
+{
+    Rect { x1, y1, x2, y2 }
+}
+
+#[test]
+fn takes_in_the_border(rt: HostRuntime) -> Result<(), Fail> {
+    const LAST: u32 = 2_147_483_647;
+    let corner = Point {
+        id: 9,
+        x: LAST,
+        y: LAST,
+        w: 1,
+        stamp: 0,
+    };
+    let rects = [
+        rect(0, 0, LAST, LAST),
+        rect(LAST, LAST, LAST, LAST),
+        rect(0, 0, LAST - 1, LAST),
+        rect(0, 0, LAST, LAST - 1),
+        rect(0, LAST, LAST, LAST),
+    ];
+    let counts = one_in::<Brand>(rt.alloc(), corner, &rects, blank())?;
+    assert_eq!(rt; counts.as_slice(), [1, 1, 0, 0, 1, 5].as_slice());
     Ok(())
 }
