@@ -1,5 +1,5 @@
 -- Steps of a cover: a span at the front, a span at the back, none at a level, the beginning and the end.
-use Rattle.std.proofs.Common.{◌≡◌, ◌≢◌, ℕ, ◌+◌, ◌-◌, ◌*◌, ◌/◌, ◌%◌, ◌^◌, ◌<◌, ◌≤◌, ◌==◌, inl, inr, false, List, [], ◌∷◌, ◌++◌, length, get_or, Some, slice_get, min, refl, sym, ap, ◌∙◌, arith, subst, append-nil, append_assoc, All}
+use Rattle.std.proofs.Common.{◌≡◌, ◌≢◌, ℕ, ◌+◌, ◌-◌, ◌*◌, ◌/◌, ◌%◌, ◌^◌, ◌<◌, ◌≤◌, ◌==◌, inl, inr, false, List, [], ◌∷◌, ◌++◌, length, get_or, Option, Some, None, slice_get, take, drop, min, refl, sym, ap, ◌∙◌, arith, subst, append-nil, append_assoc, All}
 use Rattle.std.specs.List.{flat_map, items_where_true, filter}
 use Rattle.std.specs.Option.{option_to_list}
 use Rattle.std.proofs.Math.Nat.{mul-le-mul_right, min-eq_left}
@@ -27,7 +27,7 @@ use Rattle.range_tree.specs.declared.span.Span.{Span}
 use Rattle.range_tree.specs.declared.cover.Cover.{Cover}
 use Rattle.range_tree.specs.Heights.{height_of, levels_for}
 use Rattle.range_tree.specs.Rows.{AreLevels, IsLevel, IsRow, IsBlock}
-use Rattle.range_tree.specs.Queries.{live_between, live_in_slice, live_in_span, IsSpan, IsCovering, IsCover, IsFrontCovered, AreWithinAbscissas, AbscissasBelow, AbscissasFrom}
+use Rattle.range_tree.specs.Queries.{live_at, live_between, live_in_slice, live_in_span, IsSpan, IsCovering, IsCover, IsFrontCovered, AreWithinAbscissas, AbscissasBelow, AbscissasFrom}
 use Rattle.range_tree.proofs.HeightLemmas.{height_of-above, height_of-least, levels_for-small}
 use Rattle.range_tree.proofs.Between.{live_in-split, live_in-all, live_between-none}
 
@@ -114,25 +114,62 @@ module _ {A B : Type 0} where
   flat_map-push f xs x = flat_map-append f xs (x ∷ []) ∙ ap (λ l. flat_map f xs ++ l) (append-nil (f x))
 
   -- it has the front of what is left, or the back
-  joined_front : (f : A → List B) (xs : List A) (x : A) (first second : List B) {whole all : List B} → Permuted (f x) first → whole ≡ first ++ second
-      → Permuted (flat_map f xs ++ whole) all → Permuted (flat_map f (xs ++ x ∷ []) ++ second) all
-  joined_front f xs x first second {whole} {all} p is q =
-      let moved : flat_map f (xs ++ x ∷ []) ++ second ≡ flat_map f xs ++ (f x ++ second) =
-      ap (λ l. l ++ second) (flat_map-push f xs x) ∙ append_assoc (flat_map f xs) (f x) second in
+  joined_front : (f : A → List B) (xs ys : List A) (x : A) (first second : List B) {whole all : List B} → flat_map f ys ≡ flat_map f xs ++ f x
+      → Permuted (f x) first → whole ≡ first ++ second → Permuted (flat_map f xs ++ whole) all → Permuted (flat_map f ys ++ second) all
+  joined_front f xs ys x first second {whole} {all} more p is q =
+      let moved : flat_map f ys ++ second ≡ flat_map f xs ++ (f x ++ second) =
+      ap (λ l. l ++ second) more ∙ append_assoc (flat_map f xs) (f x) second in
       let same : Permuted (flat_map f xs ++ (f x ++ second)) (flat_map f xs ++ whole) =
       subst (λ l. Permuted (flat_map f xs ++ (f x ++ second)) (flat_map f xs ++ l)) (sym is)
       (Permuted-append_right (flat_map f xs) (Permuted-append_left second p)) in
       subst (λ l. Permuted l all) (sym moved) (composed same q)
 
-  joined_back : (f : A → List B) (xs : List A) (x : A) (first second : List B) {whole all : List B} → Permuted (f x) second → whole ≡ first ++ second
-      → Permuted (flat_map f xs ++ whole) all → Permuted (flat_map f (xs ++ x ∷ []) ++ first) all
-  joined_back f xs x first second {whole} {all} p is q =
-      let moved : flat_map f (xs ++ x ∷ []) ++ first ≡ flat_map f xs ++ (f x ++ first) =
-      ap (λ l. l ++ first) (flat_map-push f xs x) ∙ append_assoc (flat_map f xs) (f x) first in
+  joined_back : (f : A → List B) (xs ys : List A) (x : A) (first second : List B) {whole all : List B} → flat_map f ys ≡ flat_map f xs ++ f x
+      → Permuted (f x) second → whole ≡ first ++ second → Permuted (flat_map f xs ++ whole) all → Permuted (flat_map f ys ++ first) all
+  joined_back f xs ys x first second {whole} {all} more p is q =
+      let moved : flat_map f ys ++ first ≡ flat_map f xs ++ (f x ++ first) =
+      ap (λ l. l ++ first) more ∙ append_assoc (flat_map f xs) (f x) first in
       let same : Permuted (flat_map f xs ++ (f x ++ first)) (flat_map f xs ++ whole) =
       subst (λ l. Permuted (flat_map f xs ++ (f x ++ first)) (flat_map f xs ++ l)) (sym is)
       (Permuted-append_right (flat_map f xs) (composed (Permuted-append_left first p) (Permuted-append_comm second first))) in
       subst (λ l. Permuted l all) (sym moved) (composed same q)
+
+-- the spans as before, and one more where it isn't empty
+pub record IsKept (part : Contents Point) (levels : List Level) (span : Span) (old new : List Span) : Type 0 where
+  pub valid : All (IsSpan levels) old → All (IsSpan levels) new
+  pub many : length new ≤ length old + 1
+  pub points : flat_map (live_in_span part levels) new ≡ flat_map (live_in_span part levels) old ++ live_in_span part levels span
+
+pub IsKept-pushed : {part : Contents Point} {levels : List Level} {old new : List Span} (span : Span) → IsSpan levels span → new ≡ old ++ span ∷ []
+    → IsKept part levels span old new
+IsKept-pushed {part} {levels} {old} {new} span is_span pushed = record {
+  valid = λ spans. subst (λ l. All (IsSpan levels) l) (sym pushed) (All-push (IsSpan levels) old span spans is_span);
+  many = omega (arith, ap length pushed ∙ length_push old span);
+  points = ap (flat_map (live_in_span part levels)) pushed ∙ flat_map-push (live_in_span part levels) old span;
+}
+
+-- no entries stand between a place and itself
+nothing_between : (part : Contents Point) (levels : List Level) (span : Span) → span.to ≤ span.from → live_in_span part levels span ≡ []
+nothing_between part levels span none = by (slice_get levels span.row)
+  where
+    empty : (level : Level) → live_in_slice part level.entries.items span.from span.to ≡ []
+    empty level =
+        let zero_apart : span.to - span.from ≡ 0 = omega arith in
+        ap (λ n. flat_map (λ e. live_at part e.place) (take n (drop span.from level.entries.items))) zero_apart
+
+    by : (o : Option Level) → flat_map (λ level. live_in_slice part level.entries.items span.from span.to) (option_to_list o) ≡ []
+    by None = refl
+    by (Some level) = append-nil (live_in_slice part level.entries.items span.from span.to) ∙ empty level
+
+pub IsKept-empty : {part : Contents Point} {levels : List Level} {old new : List Span} (span : Span) → span.to ≤ span.from → new ≡ old
+    → IsKept part levels span old new
+IsKept-empty {part} {levels} {old} {new} span none same = record {
+  valid = λ spans. subst (λ l. All (IsSpan levels) l) (sym same) spans;
+  many = omega (arith, ap length same);
+  points = ap (flat_map (live_in_span part levels)) same
+      ∙ sym (append-nil (flat_map (live_in_span part levels) old))
+      ∙ ap (λ l. flat_map (live_in_span part levels) old ++ l) (sym (nothing_between part levels span none));
+}
 
 -- more spans may be there
 pub IsCovering-weaker : {part : Contents Point} {levels : List Level} {rect : Rect} {most more : ℕ} {cover : Cover} → most ≤ more
@@ -149,37 +186,37 @@ IsCovering-weaker le old = record {
 -- a span is pushed that takes the front of what is left
 pub IsCovering-front : {part : Contents Point} {levels : List Level} {rect : Rect} {most mid : ℕ} {old new : Cover} (span : Span)
     → IsCovering part levels rect most old → old.from ≤ mid → mid ≤ old.to → IsTaken part levels rect old.from mid span
-    → new.spans.items ≡ old.spans.items ++ span ∷ [] → new.from ≡ mid → new.to ≡ old.to → IsCovering part levels rect (most + 1) new
-IsCovering-front {part} {levels} {rect} {most} {mid} {old} {new} span cover after before is_taken pushed from to = record {
+    → IsKept part levels span old.spans.items new.spans.items → new.from ≡ mid → new.to ≡ old.to → IsCovering part levels rect (most + 1) new
+IsCovering-front {part} {levels} {rect} {most} {mid} {old} {new} span cover after before is_taken kept from to = record {
   ordered = omega arith;
   within = omega (arith, cover.within);
   abscissas = λ k p low high at. cover.abscissas k p (omega arith) (omega arith) at;
-  spans = subst (λ l. All (IsSpan levels) l) (sym pushed) (All-push (IsSpan levels) old.spans.items span cover.spans is_taken.is_span);
-  few = omega (arith, ap length pushed ∙ length_push old.spans.items span, cover.few);
+  spans = kept.valid cover.spans;
+  few = omega (arith, kept.many, cover.few);
   points =
       let split : filter (is_in rect) (live_between part old.from old.to)
       ≡ filter (is_in rect) (live_between part old.from mid) ++ filter (is_in rect) (live_between part mid old.to) =
       live_in-split part rect old.from mid old.to after before in
-      let done = joined_front (live_in_span part levels) old.spans.items span _ _ is_taken.points split cover.points in
-      rw (pushed, from, to) done;
+      let done = joined_front (live_in_span part levels) old.spans.items new.spans.items span _ _ kept.points is_taken.points split cover.points in
+      rw (from, to) done;
 }
 
 -- or the back
 pub IsCovering-back : {part : Contents Point} {levels : List Level} {rect : Rect} {most mid : ℕ} {old new : Cover} (span : Span)
     → IsCovering part levels rect most old → old.from ≤ mid → mid ≤ old.to → IsTaken part levels rect mid old.to span
-    → new.spans.items ≡ old.spans.items ++ span ∷ [] → new.from ≡ old.from → new.to ≡ mid → IsCovering part levels rect (most + 1) new
-IsCovering-back {part} {levels} {rect} {most} {mid} {old} {new} span cover after before is_taken pushed from to = record {
+    → IsKept part levels span old.spans.items new.spans.items → new.from ≡ old.from → new.to ≡ mid → IsCovering part levels rect (most + 1) new
+IsCovering-back {part} {levels} {rect} {most} {mid} {old} {new} span cover after before is_taken kept from to = record {
   ordered = omega arith;
   within = omega (arith, cover.within);
   abscissas = λ k p low high at. cover.abscissas k p (omega arith) (omega arith) at;
-  spans = subst (λ l. All (IsSpan levels) l) (sym pushed) (All-push (IsSpan levels) old.spans.items span cover.spans is_taken.is_span);
-  few = omega (arith, ap length pushed ∙ length_push old.spans.items span, cover.few);
+  spans = kept.valid cover.spans;
+  few = omega (arith, kept.many, cover.few);
   points =
       let split : filter (is_in rect) (live_between part old.from old.to)
       ≡ filter (is_in rect) (live_between part old.from mid) ++ filter (is_in rect) (live_between part mid old.to) =
       live_in-split part rect old.from mid old.to after before in
-      let done = joined_back (live_in_span part levels) old.spans.items span _ _ is_taken.points split cover.points in
-      rw (pushed, from, to) done;
+      let done = joined_back (live_in_span part levels) old.spans.items new.spans.items span _ _ kept.points is_taken.points split cover.points in
+      rw (from, to) done;
 }
 
 -- what is left has room for a block
@@ -213,13 +250,13 @@ IsCover-skip {part} {levels} {rect} {height} {len} {cover} is old even = record 
 -- the block at the front, where it is a second half
 pub IsFrontCovered-push : {part : Contents Point} {levels : List Level} {rect : Rect} {height len : ℕ} {old new : Cover} (span : Span) → len ≡ 2 ^ height
     → IsCover part levels rect height old → old.from < old.to → old.from / len % 2 ≡ 1
-    → IsTaken part levels rect old.from (old.from + len) span → new.spans.items ≡ old.spans.items ++ span ∷ []
+    → IsTaken part levels rect old.from (old.from + len) span → IsKept part levels span old.spans.items new.spans.items
     → new.from ≡ old.from + len → new.to ≡ old.to → IsFrontCovered part levels rect height new
-IsFrontCovered-push {part} {levels} {rect} {height} {len} {old} {new} span is cover some odd is_taken pushed from to =
+IsFrontCovered-push {part} {levels} {rect} {height} {len} {old} {new} span is cover some odd is_taken kept from to =
     let apart : old.from + 2 ^ height ≤ old.to = front_apart cover some in
     let next : IsMultiple (old.from + len) (height + 1) = odd_block old.from height len (cover.front some) is (λ e. omega arith) in
     record {
-      covering = IsCovering-front span cover.covering (omega arith) (omega arith) is_taken pushed from to;
+      covering = IsCovering-front span cover.covering (omega arith) (omega arith) is_taken kept from to;
       front = λ more. subst (λ n. IsMultiple n (height + 1)) (sym from) next;
       back = λ more. subst (λ n. IsMultiple n height) (sym to) (cover.back some);
     }
@@ -227,13 +264,13 @@ IsFrontCovered-push {part} {levels} {rect} {height} {len} {old} {new} span is co
 -- the block at the back, where it is a first half
 pub IsCover-push : {part : Contents Point} {levels : List Level} {rect : Rect} {height len : ℕ} {old new : Cover} (span : Span) → len ≡ 2 ^ height
     → IsFrontCovered part levels rect height old → old.from < old.to → old.to / len % 2 ≡ 1
-    → IsTaken part levels rect (old.to - len) old.to span → new.spans.items ≡ old.spans.items ++ span ∷ []
+    → IsTaken part levels rect (old.to - len) old.to span → IsKept part levels span old.spans.items new.spans.items
     → new.from ≡ old.from → new.to ≡ old.to - len → IsCover part levels rect (height + 1) new
-IsCover-push {part} {levels} {rect} {height} {len} {old} {new} span is cover some odd is_taken pushed from to =
+IsCover-push {part} {levels} {rect} {height} {len} {old} {new} span is cover some odd is_taken kept from to =
     let apart : old.from + 2 ^ height ≤ old.to = back_apart cover some in
     let next : IsMultiple (old.to - len) (height + 1) = multiple_back (cover.back some) is (omega arith) odd in
     record {
-      covering = IsCovering-weaker (omega arith) (IsCovering-back span cover.covering (omega arith) (omega arith) is_taken pushed from to);
+      covering = IsCovering-weaker (omega arith) (IsCovering-back span cover.covering (omega arith) (omega arith) is_taken kept from to);
       front = λ more. subst (λ n. IsMultiple n (height + 1)) (sym from) (cover.front some);
       back = λ more. subst (λ n. IsMultiple n (height + 1)) (sym to) next;
     }

@@ -49,8 +49,10 @@ fn cover_front<L: Ledger>(
         let row = levels.len() - 1 - height;
         let end = cover.from + len;
         let span = span_in(&levels[row].entries, row, cover.from, end, rect, steps);
-        cover.spans.push(span);
         cover.from = end;
+        if span.from < span.to {
+            cover.spans.push(span);
+        }
     }
 }
 
@@ -74,8 +76,10 @@ fn cover_back<L: Ledger>(
         let row = levels.len() - 1 - height;
         let start = cover.to - len;
         let span = span_in(&levels[row].entries, row, start, cover.to, rect, steps);
-        cover.spans.push(span);
         cover.to = start;
+        if span.from < span.to {
+            cover.spans.push(span);
+        }
     }
 }
 
