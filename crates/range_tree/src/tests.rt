@@ -125,25 +125,26 @@ fn answers_over_a_rectangle(rt: HostRuntime) -> Result<(), Fail> {
     Ok(())
 }
 
-/// How many points of a part of one lie in each rectangle, and behind them the turns of its building.
+/// How many points of a part of one lie in each rectangle; and the turns of its building, and the touches of all.
 fn one_in<L: Ledger>(
     alloc: Global,
     point: Point,
     rects: &[Rect],
     blank: Blank,
-) -> Result<Vec<u64>, NoMemory>
+) -> Result<(Vec<u64>, u64, u64), NoMemory>
     requires name { blank.name ≡ L.name }
     requires parts { blank.parts ≡ L.parts }
     requires shares { blank.parts ≡ SHARES }
 {
     let mut steps = Steps::<L>::new(blank);
     let part = part_of_one::<RangeBuilder, L>(alloc, point, &mut steps)?;
+    let turns = steps.lap_turns();
+    steps.start_lap();
     let mut counts = Vec::new(alloc);
     for rect in rects {
         counts.push(answer_of(alloc, &CountIn(*rect), &part, &mut steps)?)?;
     }
-    counts.push(steps.lap_turns())?;
-    Ok(counts)
+    Ok((counts, turns, steps.lap_touches()))
 }
 
 fn rect(x1: u32, y1: u32, x2: u32, y2: u32) -> Rect
@@ -172,7 +173,10 @@ fn takes_in_the_border(rt: HostRuntime) -> Result<(), Fail> {
         rect(0, 0, LAST, LAST - 1),
         rect(0, LAST, LAST, LAST),
     ];
-    let counts = one_in::<Brand>(rt.alloc(), corner, &rects, blank())?;
-    assert_eq!(rt; counts.as_slice(), [1, 1, 0, 0, 1, 5].as_slice());
+    let (counts, turns, touches) = one_in::<Brand>(rt.alloc(), corner, &rects, blank())?;
+    assert_eq!(rt; counts.as_slice(), [1, 1, 0, 0, 1].as_slice());
+    assert_eq!(rt; turns, 5);
+    // No answer comes without a row being read.
+    assert!(rt; touches >= 5);
     Ok(())
 }
