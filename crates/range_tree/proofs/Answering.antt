@@ -17,34 +17,34 @@ use Rattle.range_tree.proofs.HeightLemmas.{height_of-above}
 -- what was spent, and what the spans and the points that are left may cost, is within the bound of all spans and some points
 abbrev pub IsPaid : Counts → Counts → ℕ → ℕ → ℕ → Type 0
 IsPaid old new items left points = (h : ℕ) → items ≤ 2 ^ h
-    → (n : ℕ) × Spends old new 0 0 n × (n + left * (4 * (h + 2)) ≤ 12 * ((h + 1) * (h + 2)) + points * (4 * (h + 2)))
+    → (n : ℕ) × Spends old new 0 0 n × (n + left * (5 * (h + 2)) ≤ 14 * ((h + 1) * (h + 2)) + points * (5 * (h + 2)))
 
 -- once the spans are found
 pub paid_none : {old new : Counts} (items spans points left : ℕ) → left ≡ spans + points → ((h : ℕ) → items ≤ 2 ^ h → spans ≤ 2 * (h + 1))
     → ((h : ℕ) → items ≤ 2 ^ h → Spends old new 0 0 (4 * ((h + 1) * (h + 2)))) → IsPaid old new items left points
 paid_none items spans points left is few cost h within =
-    (4 * ((h + 1) * (h + 2)), cost h within, omega (arith, mul-le-mul_right (4 * (h + 2)) (few h within), ap (λ n. n * (4 * (h + 2))) is))
+    (4 * ((h + 1) * (h + 2)), cost h within, omega (arith, mul-le-mul_right (5 * (h + 2)) (few h within), ap (λ n. n * (5 * (h + 2))) is))
 
 -- some more of them
 pub paid_more : {old mid new : Counts} (items left k rest points : ℕ) → IsPaid old mid items left points → left ≡ k + rest
-    → ((h : ℕ) → items ≤ 2 ^ h → Spends mid new 0 0 (k * (4 * (h + 2)))) → IsPaid old new items rest points
+    → ((h : ℕ) → items ≤ 2 ^ h → Spends mid new 0 0 (k * (5 * (h + 2)))) → IsPaid old new items rest points
 paid_more items left k rest points paid is cost h within =
     let before = paid h within in
-    (before.0 + k * (4 * (h + 2)), Spends-then before.1 (cost h within), omega (arith, before.2, ap (λ n. n * (4 * (h + 2))) is))
+    (before.0 + k * (5 * (h + 2)), Spends-then before.1 (cost h within), omega (arith, before.2, ap (λ n. n * (5 * (h + 2))) is))
 
 -- and in the end, or where no more were taken
 pub paid_all : {old new : Counts} (items left points : ℕ) → IsPaid old new items left points → items < 2 ^ 64
-    → Spends old new 0 0 (16 * ((height_of items + 2) * (height_of items + 2)) + points * (4 * (height_of items + 2)))
+    → Spends old new 0 0 (16 * ((height_of items + 2) * (height_of items + 2)) + points * (5 * (height_of items + 2)))
 paid_all items left points paid small =
     let all = paid (height_of items) (height_of-above items small) in
     Spends-weaker all.1 (omega (arith, all.2))
 
--- with twice as much for each point
+-- with more for each point
 pub paid_listed : {old new : Counts} (items left points found : ℕ) → IsPaid old new items left points → items < 2 ^ 64 → points ≡ found
     → Spends old new 0 0 (16 * ((height_of items + 2) * (height_of items + 2)) + 8 * (height_of items + 2) * found)
 paid_listed items left points found paid small is =
     Spends-weaker (paid_all items left points paid small)
-    (subst (λ n. 16 * ((height_of items + 2) * (height_of items + 2)) + points * (4 * (height_of items + 2))
+    (subst (λ n. 16 * ((height_of items + 2) * (height_of items + 2)) + points * (5 * (height_of items + 2))
     ≤ 16 * ((height_of items + 2) * (height_of items + 2)) + 8 * (height_of items + 2) * n) is (omega arith))
 
 -- a number is added, cut at the greatest u64

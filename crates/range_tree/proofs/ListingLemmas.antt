@@ -8,8 +8,8 @@ use Rattle.std.proofs.lemmas.List.Concat.{flat_map-append}
 use Rattle.std.proofs.lemmas.List.Sums.{count_by_more_yes}
 use Rattle.std.proofs.lemmas.Option.{get_or_from_slice_get, slice_get_within, slice_get_past, none-some}
 use Rattle.std.proofs.Math.Nat.{mul-le-mul_right}
-use Rattle.query_laws.specs.StepLedger.{Counts, Spends, one_touch}
-use Rattle.query_laws.proofs.Counting.{Spends-then, Spends-weaker, Spends-one_touch}
+use Rattle.query_laws.specs.StepLedger.{Counts, Spends}
+use Rattle.query_laws.proofs.Counting.{Spends-then, Spends-weaker}
 use Rattle.weak_delete.specs.declared.place.Place.{Place}
 use Rattle.weak_delete.specs.Places.{is_live, no_place, IsLive}
 use Rattle.builder_trait.specs.Parts.{Contents}
@@ -122,14 +122,23 @@ pub listed_all : {X : Type 0} (f : X → ℕ) (old so_far : List ℕ) (all : Lis
     → length all ≤ n → so_far ≡ old ++ map f all
 listed_all f old so_far all n before many = before ∙ ap (λ l. old ++ map f l) (take_all n all many)
 
--- a search, an entry and a point are counted for each that is listed
-pub spent_more : {a b c d e : Counts} (h n m : ℕ) → Spends a b 0 0 (4 * (h + 2) + n * (4 * (h + 2))) → Spends b c 0 0 (2 * (h + 2))
-    → d ≡ one_touch c → Spends d e 0 0 2 → m ≡ n + 1 → Spends a e 0 0 (4 * (h + 2) + m * (4 * (h + 2)))
-spent_more {a} {b} {c} {d} {e} h n m first search touch point next =
-    let read : Spends c d 0 0 1 = subst (λ (s : Counts). Spends c s 0 0 1) (sym touch) (Spends-one_touch c) in
-    Spends-weaker (Spends-then (Spends-then (Spends-then first search) read) point)
-    (subst (λ k. 4 * (h + 2) + n * (4 * (h + 2)) + 2 * (h + 2) + 1 + 2 ≤ 4 * (h + 2) + k * (4 * (h + 2))) (sym next) (omega arith))
+-- an entry and a point are counted for each that is listed
+pub spent_more : {a b c d : Counts} (h n m : ℕ) → Spends a b 0 0 (4 * (h + 2) + n * (5 * (h + 2))) → Spends b c 0 0 (2 * (h + 2) + 4)
+    → Spends c d 0 0 2 → m ≡ n + 1 → Spends a d 0 0 (4 * (h + 2) + m * (5 * (h + 2)))
+spent_more h n m first entry point next =
+    Spends-weaker (Spends-then (Spends-then first entry) point)
+    (subst (λ k. 4 * (h + 2) + n * (5 * (h + 2)) + (2 * (h + 2) + 4) + 2 ≤ 4 * (h + 2) + k * (5 * (h + 2))) (sym next) (omega arith))
 
-pub spent_all : {a b : Counts} (h n m : ℕ) → Spends a b 0 0 (4 * (h + 2) + n * (4 * (h + 2))) → n ≤ m
-    → Spends a b 0 0 (4 * (h + 2) + m * (4 * (h + 2)))
-spent_all h n m spent le = Spends-weaker spent (omega (arith, mul-le-mul_right (4 * (h + 2)) le))
+pub spent_all : {a b : Counts} (h n m : ℕ) → Spends a b 0 0 (4 * (h + 2) + n * (5 * (h + 2))) → n ≤ m
+    → Spends a b 0 0 (4 * (h + 2) + m * (5 * (h + 2)))
+spent_all h n m spent le = Spends-weaker spent (omega (arith, mul-le-mul_right (5 * (h + 2)) le))
+
+-- one more live one before the next place
+pub ranked_next : (places : List Place) (k j : ℕ) → IsLive places k → count_by is_live (take k places) ≡ j
+    → count_by is_live (take (k + 1) places) ≡ j + 1
+ranked_next places k j live ranked = count_by_more_yes is_live places k no_place (live_within places k live) live ∙ ap (λ n. n + 1) ranked
+
+-- while live ones are to come the next place is one of the span
+pub rank_inside : (places : List Place) (k to j : ℕ) → count_by is_live (take k places) ≡ j → j < count_by is_live (take to places) → k < to
+rank_inside places k to j ranked more =
+    ⊎_elim (λ lt. lt) (λ le. absurd (omega (arith, sum_by-take-rise (λ p. cond (is_live p) 1 0) places to k le))) (cases_lt k to)

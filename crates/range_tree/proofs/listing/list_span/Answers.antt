@@ -1,5 +1,4 @@
-use Rattle.std.proofs.Common.{◌≡◌, ℕ, ◌+◌, ◌-◌, ◌<◌, ◌≤◌, ◌^◌, ◌++◌, List, [], ◌∷◌, length, take, Some, slice_get, refl, sym, ◌∙◌, arith, subst}
-use Rattle.std.specs.Option.{IfSome}
+use Rattle.std.proofs.Common.{◌≡◌, ℕ, ◌+◌, ◌-◌, ◌<◌, ◌≤◌, ◌^◌, ◌++◌, List, [], ◌∷◌, length, take, Some, slice_get, refl, sym, arith, subst}
 use Rattle.std.specs.List.{count_by}
 use Rattle.std.proofs.lemmas.Option.{get_or_from_slice_get, slice_get_within}
 use Rattle.query_laws.proofs.Counting.{Spends-then, Spends-weaker}
@@ -12,18 +11,12 @@ use Rattle.range_tree.specs.declared.span.Span.{Span}
 use Rattle.range_tree.specs.Rows.{AreLevels, IsEntryOf}
 use Rattle.range_tree.specs.Queries.{live_in_span}
 use Rattle.range_tree.proofs.Counted.{slice_get-from_read, level_is, live_in_span-is, counted_span}
-use Rattle.range_tree.proofs.ListingLemmas.{rank_next, known_within, live_within, listed_none, listed_more, listed_all, spent_more, spent_all}
+use Rattle.range_tree.proofs.ListingLemmas.{rank_next, known_within, live_within, listed_none, listed_more, listed_all, spent_more, spent_all, ranked_next, rank_inside}
 use Rattle.range_tree.proofs.listing.list_span.Goals as goal
 
 module _ {part : Contents Point} {levels : List Level} (are : AreLevels part levels) (row : ℕ) (level : Level)
     (at : slice_get levels row ≡ Some level) where
-  -- a live place has an entry
-  live_entry : (k : ℕ) → IsLive level.counts.places k → k < length level.entries.items
-  live_entry k live =
-      let is = level_is are row level at in
-      subst (λ n. k < n) (is.2 ∙ sym (are.each row level at).row.entry_each) (live_within level.counts.places k live)
-
-  -- and the entry a point
+  -- an entry has a point
   live_place : (k : ℕ) (e : Entry) → slice_get level.entries.items k ≡ Some e → IsEntryOf part.items e
   live_place k e here =
       subst (IsEntryOf part.items) (get_or_from_slice_get level.entries.items k e e here)
@@ -49,52 +42,56 @@ loop-rank-init g c =
       cost = λ h few.
           let within : length c.index-levels-span.result.counts.places ≤ 2 ^ h = subst (λ n. n ≤ 2 ^ h) (sym (level_is c.requires.levels _ _ at).2) few in
           Spends-weaker (Spends-then (c.prefix-first.ensures.cost h within) (c.prefix-last.ensures.cost h within)) (omega arith);
+      ranked = sym c.prefix-first.ensures.count;
     }
 
-pub kth_live-requires : goal.kth_live-requires
-kth_live-requires g c =
+pub live_from-found-requires-clause-index : goal.live_from-found-requires-clause-index
+live_from-found-requires-clause-index g c =
     let at = slice_get-from_read c.args.levels.now c.args.span.now.row c.index-levels-span.result c.requires.span.row c.index-levels-span.is in
-    record { built = c.requires.span.built _ at }
+    let inside = rank_inside c.index-levels-span.result.counts.places c.loop-rank.k c.args.span.now.to c.loop-rank.rank c.loop-rank.invariant.ranked
+    (omega (arith, c.prefix-last.ensures.count, c.loop-rank-test.true)) in
+    omega (
+      arith,
+      inside,
+      c.requires.span.within _ at,
+      (level_is c.requires.levels _ _ at).2,
+      (c.requires.levels.each c.args.span.now.row _ at).row.entry_each,
+    )
 
-pub at-place-requires : goal.at-place-requires
-at-place-requires g c =
+pub overflow_add-k : goal.overflow_add-k
+overflow_add-k g c =
     let at = slice_get-from_read c.args.levels.now c.args.span.now.row c.index-levels-span.result c.requires.span.row c.index-levels-span.is in
-    let live : IsLive c.index-levels-span.result.counts.places c.unwrap-k.result =
-    subst (λ o. IfSome o (IsLive c.index-levels-span.result.counts.places)) c.unwrap-k.ensures c.kth_live.ensures.found in
-    live_entry c.requires.levels _ _ at _ live
+    let within = live_within c.index-levels-span.result.counts.places c.live_from-found.result.0 c.live_from-found.ensures.live in
+    omega (arith, within, (level_is c.requires.levels _ _ at).2, c.requires.levels.few)
 
 pub item-requires-clause-index : goal.item-requires-clause-index
 item-requires-clause-index g c =
     let at = slice_get-from_read c.args.levels.now c.args.span.now.row c.index-levels-span.result c.requires.span.row c.index-levels-span.is in
-    known_within c.args.points.now.items c.at-place.result (live_place c.requires.levels _ _ at _ _ c.at-place.ensures.read)
+    known_within c.args.points.now.items c.live_from-found.result.1 (live_place c.requires.levels _ _ at _ _ c.live_from-found.ensures.entry)
 
 pub returns-in_err-push-clause-cost : goal.returns-in_err-push-clause-cost
 returns-in_err-push-clause-cost g c h few =
     let at = slice_get-from_read c.args.levels.now c.args.span.now.row c.index-levels-span.result c.requires.span.row c.index-levels-span.is in
     let within : length c.index-levels-span.result.counts.places ≤ 2 ^ h = subst (λ n. n ≤ 2 ^ h) (sym (level_is c.requires.levels _ _ at).2) few in
     spent_all h (c.loop-rank.rank - c.prefix-first.result + 1) _
-    (spent_more h (c.loop-rank.rank - c.prefix-first.result) _ (c.loop-rank.invariant.cost h few) (c.kth_live.ensures.cost h within) c.at-place.ensures.touched c.item.ensures.cost refl)
+    (spent_more h (c.loop-rank.rank - c.prefix-first.result) _ (c.loop-rank.invariant.cost h few) (c.live_from-found.ensures.cost h few) c.item.ensures.cost refl)
     (omega (arith, counted_span c.args.points.now c.args.levels.now c.args.span.now _ c.requires.levels at c.requires.span.ordered))
 
 pub loop-rank-preserved : goal.loop-rank-preserved
 loop-rank-preserved g c =
     let at = slice_get-from_read c.args.levels.now c.args.span.now.row c.index-levels-span.result c.requires.span.row c.index-levels-span.is in
-    let live : IsLive c.index-levels-span.result.counts.places c.unwrap-k.result =
-    subst (λ o. IfSome o (IsLive c.index-levels-span.result.counts.places)) c.unwrap-k.ensures c.kth_live.ensures.found in
-    let rank : count_by is_live (take c.unwrap-k.result c.index-levels-span.result.counts.places) ≡ c.loop-rank.rank =
-    subst (λ o. IfSome o (λ k. count_by is_live (take k c.index-levels-span.result.counts.places) ≡ c.loop-rank.rank)) c.unwrap-k.ensures c.kth_live.ensures.rank in
+    let found = c.live_from-found in
     let next : c.loop-rank.rank + 1 - c.prefix-first.result ≡ c.loop-rank.rank - c.prefix-first.result + 1 = omega arith in
     record {
       listed = listed_more (λ p. p.id) c.args.tally.now c.loop-rank.tally _ _ (c.loop-rank.rank - c.prefix-first.result) _ c.item.result
           c.loop-rank.invariant.listed
           (span_next c.requires.levels c.args.span.now c.index-levels-span.result at c.prefix-first.result c.prefix-last.result c.prefix-first.ensures.count
-          c.prefix-last.ensures.count c.loop-rank.rank c.unwrap-k.result c.at-place.result c.item.result live rank c.at-place.ensures.read c.item.ensures.value
-          c.loop-rank.auto.rank c.loop-rank-test.true)
+          c.prefix-last.ensures.count c.loop-rank.rank found.result.0 found.result.1 c.item.result found.ensures.live found.ensures.ranked found.ensures.entry
+          c.item.ensures.value c.loop-rank.auto.rank c.loop-rank-test.true)
           c.in_ok-push.ensures.pushed;
       cost = λ h few.
-          let within : length c.index-levels-span.result.counts.places ≤ 2 ^ h = subst (λ n. n ≤ 2 ^ h) (sym (level_is c.requires.levels _ _ at).2) few in
-          spent_more h (c.loop-rank.rank - c.prefix-first.result) _ (c.loop-rank.invariant.cost h few) (c.kth_live.ensures.cost h within) c.at-place.ensures.touched
-          c.item.ensures.cost next;
+          spent_more h (c.loop-rank.rank - c.prefix-first.result) _ (c.loop-rank.invariant.cost h few) (found.ensures.cost h few) c.item.ensures.cost next;
+      ranked = ranked_next c.index-levels-span.result.counts.places found.result.0 c.loop-rank.rank found.ensures.live found.ensures.ranked;
     }
 
 pub returns-clause-listed : goal.returns-clause-listed
