@@ -86,16 +86,15 @@ fn cover_back<L: Ledger>(
 /// Takes the block at the front or at the back of what is left, or both, where the blocks of the next height don't have them.
 fn cover_level<L: Ledger>(
     cover: &mut Cover,
-    points: &FlatPart<Point>,
     levels: &[Level],
     height: usize,
     rect: &Rect,
     steps: &mut Steps<L>,
 )
-    requires levels { AreLevels points.now levels.now }
     requires height { height < length levels.now }
-    requires cover { IsCover points.now levels.now rect.now height cover.old }
-    ensures cover { IsCover points.now levels.now rect.now (height + 1) cover.new }
+    requires some { (part : Contents Point) × AreLevels part levels.now × IsCover part levels.now rect.now height cover.old }
+    ensures cover { (part : Contents Point) → AreLevels part levels.now → IsCover part levels.now rect.now height cover.old
+        → IsCover part levels.now rect.now (height + 1) cover.new }
     ensures cost { Spends steps.old steps.new 0 0 (4 * (height + 1)) }
 {
     cover_front(cover, levels, height, rect, steps);
@@ -125,7 +124,7 @@ pub(crate) fn spans_in<L: Ledger>(
         to,
     };
     for height in 0..levels.len() {
-        cover_level(&mut cover, points, levels, height, rect, steps);
+        cover_level(&mut cover, levels, height, rect, steps);
     }
     cover.spans
 }

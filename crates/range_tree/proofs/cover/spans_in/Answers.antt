@@ -11,12 +11,12 @@ loop-height-init g c = record {
   cost = Spends-nothing _;
 }
 
-pub cover_level-requires-clause-cover : goal.cover_level-requires-clause-cover
-cover_level-requires-clause-cover g c = c.loop-height.invariant.cover
+pub cover_level-requires-clause-some : goal.cover_level-requires-clause-some
+cover_level-requires-clause-some g c = (c.args.points.now, c.requires, c.loop-height.invariant.cover)
 
 pub loop-height-preserved : goal.loop-height-preserved
 loop-height-preserved g c = record {
-  cover = c.cover_level.ensures.cover;
+  cover = c.cover_level.ensures.cover c.args.points.now c.requires c.loop-height.invariant.cover;
   cost = Spends-level c.loop-height.height c.loop-height.invariant.cost c.cover_level.ensures.cost;
 }
 
