@@ -1,7 +1,5 @@
 -- The growth as it begins.
-use Rattle.std.proofs.Common.{◌≡◌, ℕ, zero, suc, ◌==◌, ◌+◌, ◌-◌, ◌*◌, ◌^◌, ◌<◌, ◌≤◌, true, false, List, [], length, map, take, replicate, refl, sym, ap, ◌∙◌, arith, subst, Some, slice_get}
-use Rattle.std.proofs.lemmas.Bool.{cond-false}
-use Rattle.std.proofs.lemmas.Bool.Decides.{nat_tests}
+use Rattle.std.proofs.Common.{◌≡◌, ℕ, zero, suc, ◌+◌, ◌-◌, ◌*◌, ◌^◌, ◌<◌, ◌≤◌, true, false, List, [], length, map, take, replicate, refl, sym, ap, ◌∙◌, arith, subst, Some, slice_get}
 use Rattle.std.proofs.Math.Nat.{mul-le-mul_right, pow-le-pow_right}
 use Rattle.weak_delete.specs.Places.{nothing_put}
 use Rattle.builder_trait.specs.Builders.{Progress, IsUnderway}
@@ -12,7 +10,7 @@ use Rattle.range_tree.specs.Heights.{height_of, levels_for}
 use Rattle.range_tree.specs.Rows.{before, IsRow, counted}
 use Rattle.range_tree.specs.Growing.{IsPutting, IsEmptyLevel, IsCounting, IsComing, IsGrowing, turned}
 use Rattle.range_tree.proofs.Begins.{IsRow-top}
-use Rattle.range_tree.proofs.HeightLemmas.{height_of-above, height_of-least, levels_for-small}
+use Rattle.range_tree.proofs.HeightLemmas.{height_of-above, levels_for-some, levels_for-few, levels_for-small}
 
 -- what was not begun has no places, is open, and has turned none
 module _ (level : Level) (none : level.counts ≡ nothing_put level.counts.capacity) where
@@ -50,19 +48,13 @@ IsComing-begun {level} {next} height none empty =
       uncounted = empty.counts;
     }
 
--- how many levels some points need
-some_levels : (n : ℕ) → 0 < n → levels_for n ≡ height_of n + 1
-some_levels n some = let test : (n == 0) ≡ false = grind (arith, nat_tests) in cond-false (n == 0) 0 (height_of n + 1) test
-
+-- points that a builder takes are few, and need few levels
 pub few_points : (n level : ℕ) → level < 32 → n ≤ 2 ^ level → n ≤ 2 ^ 31
 few_points n level small few =
     let le : level ≤ 31 = omega arith in let bound : 2 ^ level ≤ 2 ^ 31 = pow-le-pow_right (omega arith) le in omega arith
 
 pub levels_for-within : (n level : ℕ) → level < 32 → n ≤ 2 ^ level → levels_for n ≤ level + 1
-levels_for-within zero level small few = omega arith
-levels_for-within (suc n) level small few =
-    let small : suc n ≤ 2 ^ 31 = few_points (suc n) level small few in
-    omega (arith, some_levels (suc n) (omega arith), height_of-least (suc n) level (omega arith) few)
+levels_for-within n level small few = levels_for-few n level (omega (arith, few_points n level small few)) few
 
 some_points : (n used : ℕ) → used ≡ levels_for n → 0 < used → 0 < n
 some_points zero used is some = absurd (omega arith)
@@ -83,7 +75,7 @@ module _ (b : Progress Point) (tree : Tree) (underway : IsUnderway before b) (co
   whole : {level : Level} → tree.at < tree.used → slice_get tree.levels.items 0 ≡ Some level → IsRow b.items (tree.used - 1 - tree.at) level.entries.items
   whole {level} some found =
       let height : tree.used - 1 - tree.at ≡ height_of (length b.items) =
-      omega (arith, some_levels (length b.items) (some_points (length b.items) tree.used used (omega arith))) in
+      omega (arith, levels_for-some (length b.items) (some_points (length b.items) tree.used used (omega arith))) in
       IsRow-top b level.entries.items underway complete (putting.places level found) (putting.known level found) (tree.used - 1 - tree.at)
       (subst (λ h. length b.items ≤ 2 ^ h) (sym height) (height_of-above (length b.items) (omega (arith, few))))
 

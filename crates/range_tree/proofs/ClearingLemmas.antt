@@ -1,5 +1,5 @@
 -- A place that is taken out of the counts of a level.
-use Rattle.std.proofs.Common.{◌≡◌, ◌≢◌, ℕ, ◌+◌, ◌-◌, ◌*◌, ◌/◌, ◌^◌, ◌<◌, ◌≤◌, ◌==◌, zero, suc, cond, inl, inr, Bool, true, false, List, [], ◌∷◌, length, map, min, refl, sym, ap, ◌∙◌, subst, arith, get_or, set, slice_get, Some}
+use Rattle.std.proofs.Common.{◌≡◌, ◌≢◌, ℕ, ◌+◌, ◌-◌, ◌*◌, ◌/◌, ◌^◌, ◌<◌, ◌≤◌, inl, inr, Bool, true, false, List, length, map, min, refl, sym, ap, ◌∙◌, subst, arith, get_or, set, slice_get, Some}
 use Rattle.std.specs.Option.{option_map}
 use Rattle.std.proofs.lemmas.Bool.{cases_eq, cases_lt}
 use Rattle.std.proofs.lemmas.List.{same_lists, length-map, length-set, get_or-map, get_or-set_same, get_or-set_other}
@@ -12,8 +12,7 @@ use Rattle.map_shapes.specs.declared.point.Point.{Point}
 use Rattle.range_tree.specs.declared.entry.Entry.{Entry}
 use Rattle.range_tree.specs.declared.level.Level.{Level}
 use Rattle.range_tree.specs.Rows.{entry_at, no_entry, IsEntryOf, IsBlock, IsRow, IsLevel, counted}
-use Rattle.range_tree.specs.Heights.{height_of, levels_for}
-use Rattle.range_tree.proofs.HeightLemmas.{height_of-least}
+use Rattle.range_tree.proofs.Slots.{slice_get-set_other}
 use Rattle.range_tree.proofs.Blocks.{block_has, precedes-apart}
 use Rattle.range_tree.proofs.ListingLemmas.{known_within}
 
@@ -151,26 +150,10 @@ entry_live {points} {flags} {height} {level} is entry k within here live =
     ∙ ap is_live (get_or-map (counted points flags) level.entries.items k no_entry no_place within)
     ∙ ap (λ e. is_live (counted points flags e)) here ∙ get_or_from_slice_get flags entry.place true false live
 
--- there are few levels
-levels_few_of : (n h g : ℕ) (b : Bool) → g ≤ h → cond b 0 (g + 1) ≤ h + 1
-levels_few_of n h g true low = omega arith
-levels_few_of n h g false low = omega arith
-
-pub levels_few : (n h : ℕ) → n < 2 ^ 64 → n ≤ 2 ^ h → levels_for n ≤ h + 1
-levels_few n h small few = levels_few_of n h (height_of n) (n == 0) (height_of-least n h small few)
-
 module _ {X : Type 0} where
-  -- what stands elsewhere than at a place that is written
-  pub slice_get-set_other : (xs : List X) (i j : ℕ) (x : X) → j ≢ i → slice_get (set xs i x) j ≡ slice_get xs j
-  slice_get-set_other [] i j x apart = refl
-  slice_get-set_other (y ∷ xs) zero zero x apart = absurd (apart refl)
-  slice_get-set_other (y ∷ xs) zero (suc j) x apart = refl
-  slice_get-set_other (y ∷ xs) (suc i) zero x apart = refl
-  slice_get-set_other (y ∷ xs) (suc i) (suc j) x apart = slice_get-set_other xs i j x (λ e. apart (ap suc e))
-
-  -- and there
-  pub slice_get-set_same : (xs : List X) (i : ℕ) (x y : X) → i < length xs → slice_get (set xs i x) i ≡ Some y → x ≡ y
-  slice_get-set_same xs i x y below at = sym (get_or-set_same xs i x y below) ∙ get_or_from_slice_get (set xs i x) i y y at
+  -- what is written is read
+  read_written : (xs : List X) (i : ℕ) (x y : X) → i < length xs → slice_get (set xs i x) i ≡ Some y → x ≡ y
+  read_written xs i x y below at = sym (get_or-set_same xs i x y below) ∙ get_or_from_slice_get (set xs i x) i y y at
 
 -- the levels before a row are without the place
 abbrev pub AreCleared : Contents Point → List Level → ℕ → ℕ → ℕ → Type 0
@@ -184,7 +167,7 @@ pub cleared_more : (part : Contents Point) (levels : List Level) (count place ro
 cleared_more part levels count place row new before below is q level within at =
     elim (cases_eq q row) [
       | inl same ↦
-          let here : new ≡ level = slice_get-set_same levels row new level below (subst (λ r. slice_get (set levels row new) r ≡ Some level) same at) in
+          let here : new ≡ level = read_written levels row new level below (subst (λ r. slice_get (set levels row new) r ≡ Some level) same at) in
           subst (λ (l : Level). IsLevel part.items (set part.flags place false) (count - 1 - q) l) here
           (subst (λ r. IsLevel part.items (set part.flags place false) (count - 1 - r) new) (sym same) is)
       | inr apart ↦ before q level (let lt : q < row = omega arith in lt) (sym (slice_get-set_other levels row q new apart) ∙ at)

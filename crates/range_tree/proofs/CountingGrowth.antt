@@ -5,7 +5,6 @@ use Rattle.std.proofs.lemmas.Bool.Decides.{nat_tests}
 use Rattle.std.proofs.lemmas.Option.{slice_get_within, get_or_from_slice_get, same_Some}
 use Rattle.std.proofs.lemmas.List.{map_push, length_push, take_more, take_all}
 use Rattle.std.proofs.lemmas.List.Elements.{All-push}
-use Rattle.std.proofs.lemmas.Nat.{pow_pos}
 use Rattle.weak_delete.specs.Places.{LivePlaces, nothing_put}
 use Rattle.builder_trait.specs.Builders.{Progress}
 use Rattle.map_shapes.specs.declared.point.Point.{Point}
@@ -14,6 +13,7 @@ use Rattle.range_tree.specs.declared.level.Level.{Level}
 use Rattle.range_tree.specs.declared.tree.Tree.{Tree}
 use Rattle.range_tree.specs.Rows.{IsRow, IsLevel, IsEntryOf, counted}
 use Rattle.range_tree.specs.Growing.{HasRoom, IsCounting, IsComing, IsParting, IsGrowing, turned}
+use Rattle.range_tree.proofs.Parting.{IsParting-copy}
 use Rattle.range_tree.proofs.Slots.{All-slots, at_slot}
 
 -- while turns are left a level grows
@@ -23,18 +23,6 @@ grows b tree growing more =
     (λ less. less)
     (λ from. let none = growing.ended (omega (arith, growing.at_within)) in absurd (omega arith))
     (cases_lt tree.at tree.used)
-
--- nothing is parted of a copy
-pub IsParting-begun : (entries : List Entry) (height : ℕ) → IsParting entries entries height 0 0
-IsParting-begun entries height = record {
-  same_length = refl;
-  lower_few = omega arith;
-  done = λ start multiple below. absurd (let pos = pow_pos height in omega arith);
-  first = record { rising = λ k l from less to. absurd (omega arith); lower = λ k from to. absurd (omega arith); upper = λ k from to. absurd (omega arith) };
-  second = record { rising = λ k l from less to. absurd (omega arith); lower = λ k from to. absurd (omega arith); upper = λ k from to. absurd (omega arith) };
-  ahead = λ q l from to. absurd (omega arith);
-  ahead_second = λ q l from to. absurd (omega arith);
-}
 
 -- a level with one more entry in its counts
 pub record IsCountedOnce (points : List Point) (level grown : Level) (entry : Entry) : Type 0 where
@@ -118,7 +106,7 @@ module _ (points : List Point) (level grown : Level) (entry : Entry) (once : IsC
             subst (λ l. IsParting grown.entries.items below.entries.items height (turned grown.counts) l) (sym none)
             (subst (λ k. IsParting grown.entries.items below.entries.items height k 0) (sym none_turned_once)
             (subst (λ es. IsParting es below.entries.items height 0 0) (sym same_entries)
-            (subst (λ es. IsParting level.entries.items es height 0 0) (sym whole) (IsParting-begun level.entries.items height))));
+            (subst (λ es. IsParting level.entries.items es height 0 0) (sym whole) (IsParting-copy level.entries.items height))));
         uncounted = copied.counts ∙ coming.uncounted ∙ ap (λ c. nothing_put c.capacity) (sym copied.counts);
       }
 

@@ -1,11 +1,10 @@
 -- Steps of a cover: a span at the front, a span at the back, none at a level, the beginning and the end.
-use Rattle.std.proofs.Common.{◌≡◌, ◌≢◌, ℕ, ◌+◌, ◌-◌, ◌*◌, ◌/◌, ◌%◌, ◌^◌, ◌<◌, ◌≤◌, ◌==◌, inl, inr, false, List, [], ◌∷◌, ◌++◌, length, get_or, Option, Some, None, slice_get, take, drop, min, refl, sym, ap, ◌∙◌, arith, subst, append-nil, append_assoc, All}
+use Rattle.std.proofs.Common.{◌≡◌, ◌≢◌, ℕ, ◌+◌, ◌-◌, ◌*◌, ◌/◌, ◌%◌, ◌^◌, ◌<◌, ◌≤◌, inl, inr, List, [], ◌∷◌, ◌++◌, length, get_or, Option, Some, None, slice_get, take, drop, min, refl, sym, ap, ◌∙◌, arith, subst, append-nil, append_assoc, All}
 use Rattle.std.specs.List.{flat_map, items_where_true, filter}
 use Rattle.std.specs.Option.{option_to_list}
 use Rattle.std.proofs.Math.Nat.{mul-le-mul_right, min-eq_left}
 use Rattle.std.proofs.lemmas.Nat.{pow_pos, mul-le}
-use Rattle.std.proofs.lemmas.Bool.{cond-false, cases_lt}
-use Rattle.std.proofs.lemmas.Bool.Decides.{nat_tests}
+use Rattle.std.proofs.lemmas.Bool.{cases_lt}
 use Rattle.std.proofs.lemmas.Option.{slice_get-get_or, same_Some}
 use Rattle.std.proofs.lemmas.List.{length-map, length_push}
 use Rattle.std.proofs.lemmas.List.Concat.{flat_map-append}
@@ -25,10 +24,10 @@ use Rattle.range_tree.specs.declared.entry.Entry.{Entry}
 use Rattle.range_tree.specs.declared.level.Level.{Level}
 use Rattle.range_tree.specs.declared.span.Span.{Span}
 use Rattle.range_tree.specs.declared.cover.Cover.{Cover}
-use Rattle.range_tree.specs.Heights.{height_of, levels_for}
+use Rattle.range_tree.specs.Heights.{height_of}
 use Rattle.range_tree.specs.Rows.{AreLevels, IsLevel, IsRow, IsBlock}
 use Rattle.range_tree.specs.Queries.{live_at, live_between, live_in_slice, live_in_span, IsSpan, IsCovering, IsCover, IsFrontCovered, AreWithinAbscissas, AbscissasBelow, AbscissasFrom}
-use Rattle.range_tree.proofs.HeightLemmas.{height_of-above, height_of-least, levels_for-small}
+use Rattle.range_tree.proofs.HeightLemmas.{height_of-above, levels_for-some, levels_for-few, levels_for-small}
 use Rattle.range_tree.proofs.Between.{live_in-split, live_in-all, live_between-none}
 
 -- two different multiples of a length are at least that far apart
@@ -326,10 +325,6 @@ IsCover-init {part} {levels} {rect} {cover} flagged none ordered within below fr
   back = λ some. record { times = cover.to; is = omega arith };
 }
 
--- levels of a part with points
-levels_for-some : (n : ℕ) → 0 < n → levels_for n ≡ height_of n + 1
-levels_for-some n some = let test : (n == 0) ≡ false = grind (arith, nat_tests) in cond-false (n == 0) 0 (height_of n + 1) test
-
 -- at the end nothing is left: no two places of a part are so far apart
 pub none_left : {part : Contents Point} {levels : List Level} {rect : Rect} {height : ℕ} {cover : Cover} → AreLevels part levels
     → height ≡ length levels → IsCover part levels rect height cover → cover.to ≤ cover.from
@@ -361,12 +356,7 @@ points_covered {part} {levels} {rect} {height} {cover} tree is old =
 
 -- a tree has at most one level more than the height of a full one
 pub levels_few : {part : Contents Point} {levels : List Level} → AreLevels part levels → (h : ℕ) → length part.items ≤ 2 ^ h → length levels ≤ h + 1
-levels_few {part} {levels} tree h few =
-    let least : height_of (length part.items) ≤ h = height_of-least (length part.items) h (omega (arith, tree.few)) few in
-    elim (cases_lt 0 (length part.items)) [
-      | inl some ↦ omega (arith, tree.as_many, levels_for-some (length part.items) some)
-      | inr none ↦ let zero_points : length part.items ≡ 0 = omega arith in omega (arith, tree.as_many, ap levels_for zero_points)
-    ]
+levels_few {part} {levels} tree h few = omega (arith, tree.as_many, levels_for-few (length part.items) h (omega (arith, tree.few)) few)
 
 -- and at most 32
 pub levels_small : {part : Contents Point} {levels : List Level} → AreLevels part levels → length levels ≤ 32

@@ -1,7 +1,8 @@
 -- The height of a balanced tree over n points is the least h with n at most 2 ^ h.
 use Rattle.std.proofs.Common.{◌≡◌, ℕ, ◌==◌, ◌+◌, ◌-◌, ◌*◌, ◌^◌, ◌<◌, ◌≤◌, ◌⊎◌, inl, inr, Bool, true, false, cond, refl, subst, arith}
 use Rattle.std.proofs.lemmas.Nat.{pow_pos, leading_length}
-use Rattle.std.proofs.lemmas.Bool.{cases_lt}
+use Rattle.std.proofs.lemmas.Bool.{cases_lt, cond-false}
+use Rattle.std.proofs.lemmas.Bool.Decides.{nat_tests}
 use Rattle.std.proofs.Math.Nat.{pow-le-pow_right}
 use Rattle.std.specs.Int.Count.{count_leading_zeros}
 use Rattle.weak_delete.proofs.Levels.{pow_next}
@@ -37,10 +38,18 @@ height_of-above n small = (height_found n small).above
 pub height_of-least : (n h : ℕ) → n < 2 ^ 64 → n ≤ 2 ^ h → height_of n ≤ h
 height_of-least n h small few = (height_found n small).least h few
 
--- a tree of a part has at most 32 levels
-levels_of-small : (n h : ℕ) (b : Bool) → h ≤ 31 → cond b 0 (h + 1) ≤ 32
-levels_of-small n h true low = omega arith
-levels_of-small n h false low = omega arith
+-- points have a level for each height up to theirs
+pub levels_for-some : (n : ℕ) → 0 < n → levels_for n ≡ height_of n + 1
+levels_for-some n some = let test : (n == 0) ≡ false = grind (arith, nat_tests) in cond-false (n == 0) 0 (height_of n + 1) test
 
+-- a tree has at most one level more than the height of a full one
+levels_of-few : (g h : ℕ) (b : Bool) → g ≤ h → cond b 0 (g + 1) ≤ h + 1
+levels_of-few g h true low = omega arith
+levels_of-few g h false low = omega arith
+
+pub levels_for-few : (n h : ℕ) → n < 2 ^ 64 → n ≤ 2 ^ h → levels_for n ≤ h + 1
+levels_for-few n h small few = levels_of-few (height_of n) h (n == 0) (height_of-least n h small few)
+
+-- and that of a part at most 32
 pub levels_for-small : (n : ℕ) → n ≤ 2 ^ 31 → levels_for n ≤ 32
-levels_for-small n small = levels_of-small n (height_of n) (n == 0) (height_of-least n 31 (omega arith) small)
+levels_for-small n small = levels_for-few n 31 (omega arith) small

@@ -2,8 +2,8 @@
 use Rattle.std.proofs.Common.{◌≡◌, ℕ, suc, ◌+◌, ◌-◌, ◌*◌, ◌<◌, ◌≤◌, IsTrue, List, [], ◌∷◌, ◌++◌, length, take, drop, map, cond, sym, ap, ◌∙◌, subst, arith, length-append, append_assoc, append-nil, slice_range, slice_get, get_or, Some, All, ⊎_elim}
 use Rattle.std.specs.Option.{option_map, option_to_list}
 use Rattle.std.specs.List.{flat_map, count_by}
-use Rattle.std.proofs.lemmas.Bool.{cases_lt, false≢true}
-use Rattle.std.proofs.lemmas.List.{drop-drop, drop_more, take_more, take_all, get_or_at, get_or_past, get_or-map, map-append}
+use Rattle.std.proofs.lemmas.Bool.{cases_lt}
+use Rattle.std.proofs.lemmas.List.{drop-drop, drop_more, take_more, take_all, get_or_at, get_or-map, map-append}
 use Rattle.std.proofs.lemmas.List.Concat.{flat_map-append}
 use Rattle.std.proofs.lemmas.List.Sums.{count_by_more_yes}
 use Rattle.std.proofs.lemmas.Option.{get_or_from_slice_get, slice_get_within, slice_get_past, none-some}
@@ -12,6 +12,7 @@ use Rattle.query_laws.specs.StepLedger.{Counts, Spends}
 use Rattle.query_laws.proofs.Counting.{Spends-then, Spends-weaker}
 use Rattle.weak_delete.specs.declared.place.Place.{Place}
 use Rattle.weak_delete.specs.Places.{is_live, no_place, IsLive}
+use Rattle.weak_delete.proofs.Nodes.{live_within}
 use Rattle.builder_trait.specs.Parts.{Contents}
 use Rattle.map_shapes.specs.declared.point.Point.{Point}
 use Rattle.range_tree.specs.declared.entry.Entry.{Entry}
@@ -42,14 +43,7 @@ module _ {X : Type 0} where
       let below : n < length all = omega (arith, ap length is, length-append xs (x ∷ ys)) in
       ap (λ k. take k all) next ∙ take_more all n x below ∙ ap (λ y. take n all ++ y ∷ []) (ap (λ l. get_or l n x) is ∙ get_or_at xs x ys x n many)
 
--- a place that is live is one
-pub live_within : (places : List Place) (k : ℕ) → IsLive places k → k < length places
-live_within places k live =
-    ⊎_elim (λ below. below)
-    (λ above. absurd (false≢true (sym (ap is_live (get_or_past places k no_place above)) ∙ live)))
-    (cases_lt k (length places))
-
--- and the place with a rank in a span stands in it
+-- the place with a rank in a span stands in it
 rank_within : (places : List Place) (from to k : ℕ) → IsLive places k
     → count_by is_live (take from places) ≤ count_by is_live (take k places)
     → count_by is_live (take k places) < count_by is_live (take to places) → (from ≤ k) × (k < to)

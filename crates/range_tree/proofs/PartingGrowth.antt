@@ -3,9 +3,9 @@ use Rattle.std.proofs.Common.{◌≡◌, ◌≢◌, ℕ, ◌+◌, ◌-◌, ◌*�
 use Rattle.std.proofs.Math.ListN.{set}
 use Rattle.std.proofs.Math.Nat.{pow-le-pow_right}
 use Rattle.std.proofs.lemmas.Bool.{cases_lt}
-use Rattle.std.proofs.lemmas.List.{get_or-set_same, get_or-set_other, length-set, length-map, take_all}
+use Rattle.std.proofs.lemmas.List.{length-set, length-map, take_all}
 use Rattle.std.proofs.lemmas.List.Elements.{All-nil, All-set}
-use Rattle.std.proofs.lemmas.Option.{slice_get-get_or, slice_get_past, slice_get_within, slice_get_read, get_or_from_slice_get, same_Some}
+use Rattle.std.proofs.lemmas.Option.{slice_get-get_or, slice_get_read, get_or_from_slice_get, same_Some}
 use Rattle.query_laws.specs.StepLedger.{Entries}
 use Rattle.weak_delete.specs.Places.{LivePlaces, nothing_put}
 use Rattle.builder_trait.specs.Builders.{Progress}
@@ -17,25 +17,8 @@ use Rattle.range_tree.specs.Heights.{levels_for}
 use Rattle.range_tree.specs.Rows.{IsEntryOf, no_entry, entry_at, IsRow, IsLevel, counted}
 use Rattle.range_tree.specs.Growing.{HasRoom, IsEmptyLevel, start_of, IsParting, target_of, lower_after, turned, IsCounting, IsComing, IsGrowing}
 use Rattle.range_tree.proofs.HeightLemmas.{levels_for-small}
+use Rattle.range_tree.proofs.Slots.{at_slot, slice_get-set_same, slice_get-set_other}
 use Rattle.range_tree.proofs.Parting.{target_of-within, IsParting-next, All-parted, IsRow-parted}
-
-module _ {X : Type 0} (xs : List X) where
-  -- an element that was written, and one that wasn't
-  slice_get-set_same : (i : ℕ) (x : X) → i < length xs → slice_get (set xs i x) i ≡ Some x
-  slice_get-set_same i x inside =
-      slice_get-get_or (set xs i x) i x (omega (arith, length-set xs i x)) ∙ ap Some (get_or-set_same xs i x x inside)
-
-  slice_get-set_other : (i j : ℕ) (x : X) → j ≢ i → slice_get (set xs i x) j ≡ slice_get xs j
-  slice_get-set_other i j x other = elim (cases_lt j (length xs)) [
-    | inl inside ↦
-        slice_get-get_or (set xs i x) j x (omega (arith, length-set xs i x)) ∙ ap Some (get_or-set_other xs i j x x other)
-        ∙ sym (slice_get-get_or xs j x inside)
-    | inr past ↦ slice_get_past (set xs i x) j (omega (arith, length-set xs i x)) ∙ sym (slice_get_past xs j past)
-  ]
-
-  -- what holds of each element holds of one
-  All-at : (P : X → Type 0) (i : ℕ) (x : X) → All P xs → slice_get xs i ≡ Some x → P x
-  All-at P i x all at = subst P (get_or_from_slice_get xs i x x at) (all i x (slice_get_within xs i x at))
 
 -- the fields of a tree that grows
 pub record IsGrown (b : Progress Point) (levels : List Level) (used at lower left : ℕ) : Type 0 where
@@ -238,7 +221,7 @@ module _ {b : Progress Point} {levels : List Level} {used at k lower left : ℕ}
 
     module _ (more : 0 < left) where
       room_turned : HasRoom (2 ^ b.at_level) (turned_level level)
-      room_turned = All-at levels (HasRoom (2 ^ b.at_level)) at level turning.room turning.here
+      room_turned = at_slot (HasRoom (2 ^ b.at_level)) levels at level turning.room turning.here
 
       left_turned : left - 1 + (length level.counts.places + (k + 1)) ≡ (used - at) * (2 * length b.items)
       left_turned =
@@ -288,7 +271,7 @@ module _ {b : Progress Point} {levels : List Level} {used at k lower left : ℕ}
             used_is = turning.used_is;
             made = omega (arith, turning.made, length-set levels at (turned_level level), length-set above (at + 1) (parted_level next j e));
             room = All-set (HasRoom (2 ^ b.at_level)) above (at + 1) (parted_level next j e)
-                (All-at levels (HasRoom (2 ^ b.at_level)) (at + 1) next turning.room below)
+                (at_slot (HasRoom (2 ^ b.at_level)) levels (at + 1) next turning.room below)
                 (All-set (HasRoom (2 ^ b.at_level)) levels at (turned_level level) room_turned turning.room);
             inside = turning.inside;
             built = λ q l before there.

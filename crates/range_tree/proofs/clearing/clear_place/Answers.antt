@@ -7,8 +7,9 @@ use Rattle.builder_trait.specs.Parts.{Contents}
 use Rattle.map_shapes.specs.declared.point.Point.{Point}
 use Rattle.range_tree.specs.declared.level.Level.{Level}
 use Rattle.range_tree.specs.Rows.{IsLevel, AreLevels, counted}
-use Rattle.range_tree.proofs.HeightLemmas.{levels_for-small}
-use Rattle.range_tree.proofs.ClearingLemmas.{block_bounds, block_of, entry_found, entry_live, level_cleared, cleared_more, levels_few, slice_get-set_other}
+use Rattle.range_tree.proofs.HeightLemmas.{levels_for-small, levels_for-few}
+use Rattle.range_tree.proofs.Slots.{slice_get-set_other}
+use Rattle.range_tree.proofs.ClearingLemmas.{block_bounds, block_of, entry_found, entry_live, level_cleared, cleared_more}
 use Rattle.range_tree.proofs.clearing.clear_place.Goals as goal
 
 -- the level of a row that is still as it was
@@ -86,5 +87,5 @@ returns-clause-cleared g c part are known live = record {
 
 pub returns-clause-cost : goal.returns-clause-cost
 returns-clause-cost g c part h are few =
-    let levels : c.loop-row.row ≤ h + 1 = omega (arith, are.as_many, levels_few (length part.items) h (omega (arith, are.few)) few) in
+    let levels : c.loop-row.row ≤ h + 1 = omega (arith, are.as_many, levels_for-few (length part.items) h (omega (arith, are.few)) few) in
     Spends-weaker (c.loop-row.invariant.cost part h are few) (mul-le-mul_right (5 * (h + 2)) levels)

@@ -3,6 +3,7 @@ use Rattle.std.specs.List.{count_by}
 use Rattle.std.proofs.lemmas.Option.{get_or_from_slice_get, slice_get_within}
 use Rattle.query_laws.proofs.Counting.{Spends-then, Spends-weaker}
 use Rattle.weak_delete.specs.Places.{IsLive, is_live}
+use Rattle.weak_delete.proofs.Nodes.{live_within}
 use Rattle.builder_trait.specs.Parts.{Contents}
 use Rattle.map_shapes.specs.declared.point.Point.{Point}
 use Rattle.range_tree.specs.declared.entry.Entry.{Entry}
@@ -11,7 +12,7 @@ use Rattle.range_tree.specs.declared.span.Span.{Span}
 use Rattle.range_tree.specs.Rows.{AreLevels, IsEntryOf}
 use Rattle.range_tree.specs.Queries.{live_in_span}
 use Rattle.range_tree.proofs.Counted.{slice_get-from_read, level_is, live_in_span-is, counted_span}
-use Rattle.range_tree.proofs.ListingLemmas.{rank_next, known_within, live_within, listed_none, listed_more, listed_all, spent_more, spent_all, ranked_next, rank_inside}
+use Rattle.range_tree.proofs.ListingLemmas.{rank_next, known_within, listed_none, listed_more, listed_all, spent_more, spent_all, ranked_next, rank_inside}
 use Rattle.range_tree.proofs.listing.list_span.Goals as goal
 
 module _ {part : Contents Point} {levels : List Level} (are : AreLevels part levels) (row : ℕ) (level : Level)
