@@ -1,5 +1,5 @@
 -- The top row, and the beginning of the growth.
-use Rattle.std.proofs.Common.{◌≡◌, ◌≢◌, ℕ, zero, suc, ◌*◌, ◌^◌, ◌<◌, ◌≤◌, false, IsTrue, List, length, map, get_or, sym, ap, ◌∙◌, arith, subst, Some, slice_get, slice_index, All, ⊎_elim}
+use Rattle.std.proofs.Common.{◌≡◌, ℕ, zero, suc, ◌*◌, ◌^◌, ◌<◌, ◌≤◌, false, IsTrue, List, length, map, get_or, sym, ap, ◌∙◌, arith, subst, Some, slice_get, slice_index, All, ⊎_elim}
 use Rattle.std.specs.Option.{option_map}
 use Rattle.std.proofs.Math.Nat.{mul-le-mul_right}
 use Rattle.std.proofs.lemmas.Bool.{cases_lt}
@@ -22,10 +22,6 @@ order_of order = IsStrictTotalOrder-before_in (λ p. p.x) (λ p. p.y) (λ p. p.s
 -- of two points of one ordinate the one before the other in order 1 is it in order 0
 same_ordinate : (p q : Point) → p.y ≡ q.y → IsTrue (before 1 p q) → IsTrue (before 0 p q)
 same_ordinate p q same earlier = grind (arith, nat_tests)
-
--- and else its ordinate is less
-other_ordinate : (p q : Point) → p.y ≢ q.y → IsTrue (before 1 p q) → p.y < q.y
-other_ordinate p q other earlier = grind (arith, nat_tests)
 
 -- none before another in order 1 has a greater ordinate
 no_greater : (p q : Point) → IsTrue (before 1 p q) → q.y ≤ p.y → p.y ≡ q.y

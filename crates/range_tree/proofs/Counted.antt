@@ -25,10 +25,6 @@ module _ {X : Type 0} where
       ∙ ap (λ ys. ys ++ drop i (take j xs)) (take-take i j xs le)
       ∙ ap (λ ys. take i xs ++ ys) (sym (between_is xs i j))
 
-  -- a shorter front has no larger sum
-  pub sum_by-take-rise : (f : X → ℕ) (xs : List X) (i j : ℕ) → i ≤ j → sum_by f (take i xs) ≤ sum_by f (take j xs)
-  sum_by-take-rise f xs i j le = rw (ap (sum_by f) (take-split xs i j le), sum_by-append f (take i xs) (slice_range xs i j)) (omega arith)
-
   -- what is read within a list stands there
   pub slice_get-from_read : (xs : List X) (i : ℕ) (x : X) → i < length xs → x ≡ get_or xs i x → slice_get xs i ≡ Some x
   slice_get-from_read xs i x below read = slice_get-get_or xs i x below ∙ ap Some (sym read)

@@ -3,7 +3,7 @@ use Rattle.std.proofs.Common.{◌≡◌, ℕ, suc, ◌+◌, ◌-◌, ◌*◌, �
 use Rattle.std.specs.Option.{option_map, option_to_list}
 use Rattle.std.specs.List.{flat_map, count_by}
 use Rattle.std.proofs.lemmas.Bool.{cases_lt}
-use Rattle.std.proofs.lemmas.List.{drop-drop, drop_more, take_more, take_all, get_or_at, get_or-map, map-append}
+use Rattle.std.proofs.lemmas.List.{drop_more, take_more, take_all, get_or_at, get_or-map, map-append}
 use Rattle.std.proofs.lemmas.List.Concat.{flat_map-append}
 use Rattle.std.proofs.lemmas.List.Sums.{count_by_more_yes}
 use Rattle.std.proofs.lemmas.Option.{get_or_from_slice_get, slice_get_within, slice_get_past, none-some}
@@ -12,25 +12,17 @@ use Rattle.query_laws.specs.StepLedger.{Counts, Spends}
 use Rattle.query_laws.proofs.Counting.{Spends-then, Spends-weaker}
 use Rattle.weak_delete.specs.declared.place.Place.{Place}
 use Rattle.weak_delete.specs.Places.{is_live, no_place, IsLive}
-use Rattle.weak_delete.proofs.Nodes.{live_within}
+use Rattle.weak_delete.proofs.Nodes.{live_within, sum_by-prefix-le}
 use Rattle.builder_trait.specs.Parts.{Contents}
 use Rattle.map_shapes.specs.declared.point.Point.{Point}
 use Rattle.range_tree.specs.declared.entry.Entry.{Entry}
 use Rattle.range_tree.specs.Rows.{IsEntryOf, counted}
 use Rattle.range_tree.specs.Queries.{live_at, live_in_slice}
-use Rattle.range_tree.proofs.Counted.{take-split, sum_by-take-rise, counted_between}
+use Rattle.range_tree.proofs.Counted.{counted_between}
+use Rattle.range_tree.proofs.SpanLemmas.{slice_range-append}
 
 module _ {X : Type 0} where
-  -- a part of a list is one up to a place, and one from there on
-  slice-split : (xs : List X) (i k j : ℕ) → i ≤ k → k ≤ j → slice_range xs i j ≡ slice_range xs i k ++ slice_range xs k j
-  slice-split xs i k j low high =
-      let there : drop (k - i) (drop i xs) ≡ drop k xs =
-      drop-drop (k - i) i xs ∙ ap (λ n. drop n xs) (let e : i + (k - i) ≡ k = omega arith in e) in
-      let many : (j - i) - (k - i) ≡ j - k = omega arith in
-      take-split (drop i xs) (k - i) (j - i) (omega arith)
-      ∙ ap (λ ys. slice_range xs i k ++ ys) (ap (take _) there ∙ ap (λ n. take n (drop k xs)) many)
-
-  -- and the item there comes first in the second
+  -- the item at a place comes first in the part from there on
   slice-first : (xs : List X) (k j : ℕ) (d : X) → k < j → k < length xs
       → slice_range xs k j ≡ get_or xs k d ∷ slice_range xs (k + 1) j
   slice-first xs k j d below within =
@@ -49,8 +41,8 @@ rank_within : (places : List Place) (from to k : ℕ) → IsLive places k
     → count_by is_live (take k places) < count_by is_live (take to places) → (from ≤ k) × (k < to)
 rank_within places from to k live low high =
     let more = count_by_more_yes is_live places k no_place (live_within places k live) live in
-    let above : from ≤ k = ⊎_elim (λ below. absurd (omega (arith, more, sum_by-take-rise (λ p. cond (is_live p) 1 0) places (k + 1) from (omega arith)))) (λ le. le) (cases_lt k from) in
-    let below : k < to = ⊎_elim (λ lt. lt) (λ le. absurd (omega (arith, sum_by-take-rise (λ p. cond (is_live p) 1 0) places to k le))) (cases_lt k to) in
+    let above : from ≤ k = ⊎_elim (λ below. absurd (omega (arith, more, sum_by-prefix-le (λ p. cond (is_live p) 1 0) places (k + 1) from (omega arith)))) (λ le. le) (cases_lt k from) in
+    let below : k < to = ⊎_elim (λ lt. lt) (λ le. absurd (omega (arith, sum_by-prefix-le (λ p. cond (is_live p) 1 0) places to k le))) (cases_lt k to) in
     (above, below)
 
 -- the live point at the place of an entry that counts
@@ -73,7 +65,7 @@ module _ (part : Contents Point) (entries : List Entry) (from to : ℕ) (known :
       ≡ live_in_slice part entries from k ++ (live_at part e.place ++ live_in_slice part entries (k + 1) to)
   live-split k e low high here =
       let each : Entry → List Point = λ x. live_at part x.place in
-      ap (flat_map each) (slice-split entries from k to low (omega arith)
+      ap (flat_map each) (slice_range-append entries from k to low (omega arith)
       ∙ ap (λ ys. slice_range entries from k ++ ys) (slice-first entries k to e high (slice_get_within entries k e here)
       ∙ ap (λ x. x ∷ slice_range entries (k + 1) to) (get_or_from_slice_get entries k e e here)))
       ∙ flat_map-append each (slice_range entries from k) (e ∷ slice_range entries (k + 1) to)
@@ -135,4 +127,4 @@ ranked_next places k j live ranked = count_by_more_yes is_live places k no_place
 -- while live ones are to come the next place is one of the span
 pub rank_inside : (places : List Place) (k to j : ℕ) → count_by is_live (take k places) ≡ j → j < count_by is_live (take to places) → k < to
 rank_inside places k to j ranked more =
-    ⊎_elim (λ lt. lt) (λ le. absurd (omega (arith, sum_by-take-rise (λ p. cond (is_live p) 1 0) places to k le))) (cases_lt k to)
+    ⊎_elim (λ lt. lt) (λ le. absurd (omega (arith, sum_by-prefix-le (λ p. cond (is_live p) 1 0) places to k le))) (cases_lt k to)

@@ -1,5 +1,5 @@
 -- The top row as points are put.
-use Rattle.std.proofs.Common.{◌≡◌, ℕ, ◌+◌, ◌^◌, ◌<◌, ◌≤◌, IsTrue, List, [], ◌∷◌, ◌++◌, length, map, set, refl, sym, ap, ◌∙◌, arith, subst, Option, Some, None, slice_get, All, ⊎_elim}
+use Rattle.std.proofs.Common.{◌≡◌, ℕ, ◌^◌, ◌<◌, ◌≤◌, IsTrue, List, [], ◌∷◌, ◌++◌, length, map, set, refl, sym, ap, ◌∙◌, arith, subst, Option, Some, None, slice_get, All, ⊎_elim}
 use Rattle.std.specs.Option.{option_map}
 use Rattle.std.proofs.lemmas.Bool.{cases_lt}
 use Rattle.std.proofs.lemmas.Option.{slice_get_within, slice_get-get_or, get_or_from_slice_get, same_Some}
@@ -10,7 +10,7 @@ use Rattle.std.proofs.Math.ListN.{get_or-append}
 use Rattle.query_laws.specs.OrderLaws.{IsStrictTotalOrder-before_in}
 use Rattle.weak_delete.specs.Places.{nothing_put}
 use Rattle.builder_trait.specs.Parts.{IsRising}
-use Rattle.builder_trait.specs.Builders.{Progress, IsUnderway, FitsSecond, with_put, begun}
+use Rattle.builder_trait.specs.Builders.{Progress, IsUnderway, FitsSecond, with_put}
 use Rattle.builder_trait.proofs.Places.{length-reordered_le, length-placed}
 use Rattle.map_shapes.specs.declared.point.Point.{Point}
 use Rattle.range_tree.specs.declared.entry.Entry.{Entry}
@@ -134,22 +134,3 @@ module _ (b : Progress Point) (levels : List Level) (level : Level) (item : Poin
 -- a level that was just made
 abbrev pub empty_level : ℕ → Level
 empty_level cap = record { entries = record { items = []; capacity = cap }; counts = nothing_put cap }
-
--- nothing is put into such levels
-pub IsPutting-begun : (level : ℕ) (levels : List Level) → level < 32 → All (λ l. l ≡ empty_level (2 ^ level)) levels → length levels ≡ level + 1
-    → IsPutting (begun level) levels
-IsPutting-begun level levels small each made = record {
-  small = small;
-  made = made;
-  room = All-slots {P = HasRoom (2 ^ level)} levels (λ q other found. let is = made_so q other found in (ap (λ l. l.entries.capacity) is, ap (λ l. l.counts.capacity) is));
-  places = λ other found. ap (λ l. map (λ (e : Entry). e.place) l.entries.items) (made_so 0 other found);
-  known = λ other found. subst (λ l. All (IsEntryOf []) l.entries.items) (sym (made_so 0 other found)) (λ k d within. absurd (omega arith));
-  uncounted = λ other found. uncounted other (made_so 0 other found);
-  below = λ q other more found. let is = made_so q other found in record { entries = ap (λ l. l.entries.items) is; counts = uncounted other is };
-}
-  where
-    made_so : (q : ℕ) (other : Level) → slice_get levels q ≡ Some other → other ≡ empty_level (2 ^ level)
-    made_so q other found = at_slot (λ l. l ≡ empty_level (2 ^ level)) levels q other each found
-
-    uncounted : (other : Level) → other ≡ empty_level (2 ^ level) → other.counts ≡ nothing_put other.counts.capacity
-    uncounted other is = subst (λ l. l.counts ≡ nothing_put l.counts.capacity) (sym is) refl

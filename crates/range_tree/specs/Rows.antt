@@ -37,7 +37,7 @@ pub record IsRun (entries : List Entry) (from to low high : ℕ) : Type 0 where
   pub lower : (k : ℕ) → from ≤ k → k < to → low ≤ (entry_at entries k).place
   pub upper : (k : ℕ) → from ≤ k → k < to → (entry_at entries k).place < high
 
--- as many entries as places: the block has each point between the two places once
+-- As many entries as places. Where each entry is that of a point, no place comes twice, so the block has each of its points once.
 abbrev pub IsBlock : List Entry → ℕ → ℕ → Type 0
 IsBlock entries start end = IsRun entries start end start end
 

@@ -2,7 +2,8 @@ use Rattle.std.proofs.Common.{◌≤◌, ◌^◌, length, get_or, sym, arith, su
 use Rattle.std.proofs.lemmas.Option.{slice_get-get_or}
 use Rattle.query_laws.proofs.Counting.{Spends-then, Spends-weaker}
 use Rattle.weak_delete.specs.Places.{live_amount}
-use Rattle.range_tree.proofs.Counted.{sum_by-take-rise, weighed_span, level_is}
+use Rattle.weak_delete.proofs.Nodes.{sum_by-prefix-le}
+use Rattle.range_tree.proofs.Counted.{weighed_span, level_is}
 use Rattle.range_tree.proofs.span.weight_in.Goals as goal
 
 -- the prefix up to the span is no larger than that up to its end
@@ -11,7 +12,7 @@ overflow_sub-result g c =
     let level = slice_get-get_or c.args.levels.now c.args.span.now.row c.index-levels-span.result c.requires.row in
     omega (
       arith,
-      sum_by-take-rise live_amount (get_or c.args.levels.now c.args.span.now.row c.index-levels-span.result).counts.places
+      sum_by-prefix-le live_amount (get_or c.args.levels.now c.args.span.now.row c.index-levels-span.result).counts.places
           c.args.span.now.from c.args.span.now.to c.requires.ordered,
     )
 
