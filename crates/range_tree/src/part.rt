@@ -2,7 +2,7 @@
 ghost use Rattle.std.specs.Prelude.{◌≡◌};
 
 use crate::answers::{listed, numbered, weighed};
-use crate::clearing::clear_place;
+use crate::clearing::clear_used;
 use crate::entry::Entry;
 use crate::level::Level;
 use builder_trait::flat::FlatPart;
@@ -27,6 +27,7 @@ use std::sync::ledger::Ledger;
 pub struct RangePart {
     pub(crate) points: FlatPart<Point>,
     pub(crate) levels: Vec<Level>,
+    pub(crate) used: usize,
 }
 
 impl Model for RangePart {
@@ -35,11 +36,11 @@ impl Model for RangePart {
 
     ghost Value = { Contents Point };
 
-    ghost use Rattle.range_tree.specs.Rows.{AreLevels};
+    ghost use Rattle.range_tree.specs.Growing.{AreKept};
 
     ghost view = { λ p. p.points };
 
-    ghost invariant = { λ p. AreLevels p.points p.levels.items };
+    ghost invariant = { λ p. AreKept p.points p.levels.items p.used };
 }
 
 impl Part for RangePart {
@@ -83,7 +84,7 @@ impl Part for RangePart {
             y: item.y,
             place: place as u32,
         };
-        clear_place(&mut self.levels, &entry, steps);
+        clear_used(&mut self.levels, self.used, &entry, steps);
         true
     }
 
@@ -103,7 +104,7 @@ impl Answers<CountIn> for RangePart {
         tally: &mut Total,
         steps: &mut Steps<L>,
     ) -> Result<(), NoMemory> {
-        numbered(&self.points, &self.levels, &question.0, tally, steps);
+        numbered(&self.points, &self.levels[..self.used], &question.0, tally, steps);
         Ok(())
     }
 }
@@ -119,7 +120,7 @@ impl Answers<SumIn> for RangePart {
         tally: &mut Total,
         steps: &mut Steps<L>,
     ) -> Result<(), NoMemory> {
-        weighed(&self.points, &self.levels, &question.0, tally, steps);
+        weighed(&self.points, &self.levels[..self.used], &question.0, tally, steps);
         Ok(())
     }
 }
@@ -135,6 +136,6 @@ impl Answers<ListIn> for RangePart {
         tally: &mut IdTally,
         steps: &mut Steps<L>,
     ) -> Result<(), NoMemory> {
-        listed(&self.points, &self.levels, &question.0, tally, steps)
+        listed(&self.points, &self.levels[..self.used], &question.0, tally, steps)
     }
 }
