@@ -104,7 +104,13 @@ impl Answers<CountIn> for RangePart {
         tally: &mut Total,
         steps: &mut Steps<L>,
     ) -> Result<(), NoMemory> {
-        numbered(&self.points, &self.levels[..self.used], &question.0, tally, steps);
+        numbered(
+            &self.points,
+            &self.levels[..self.used],
+            &question.0,
+            tally,
+            steps,
+        );
         Ok(())
     }
 }
@@ -120,7 +126,13 @@ impl Answers<SumIn> for RangePart {
         tally: &mut Total,
         steps: &mut Steps<L>,
     ) -> Result<(), NoMemory> {
-        weighed(&self.points, &self.levels[..self.used], &question.0, tally, steps);
+        weighed(
+            &self.points,
+            &self.levels[..self.used],
+            &question.0,
+            tally,
+            steps,
+        );
         Ok(())
     }
 }
@@ -136,6 +148,12 @@ impl Answers<ListIn> for RangePart {
         tally: &mut IdTally,
         steps: &mut Steps<L>,
     ) -> Result<(), NoMemory> {
-        listed(&self.points, &self.levels[..self.used], &question.0, tally, steps)
+        listed(
+            &self.points,
+            &self.levels[..self.used],
+            &question.0,
+            tally,
+            steps,
+        )
     }
 }

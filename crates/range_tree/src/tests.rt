@@ -119,8 +119,14 @@ fn answers_over_a_rectangle(rt: HostRuntime) -> Result<(), Fail> {
         x2: 2,
         y2: 2,
     };
-    let (all, rest, marks, turns, recounted) =
-        seen::<Brand>(rt.alloc(), low, middle, high, rect, blank())?;
+    let (all, rest, marks, turns, recounted) = seen::<Brand>(
+        rt.alloc(),
+        low,
+        middle,
+        high,
+        rect,
+        blank(),
+    )?;
     assert_eq!(rt; [all.0, all.1, rest.0, rest.1], [2, 50, 1, 10]);
     assert_eq!(rt; all.2.into_vec().as_slice(), [3, 5].as_slice());
     assert_eq!(rt; rest.2.into_vec().as_slice(), [5].as_slice());

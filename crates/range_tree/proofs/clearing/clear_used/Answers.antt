@@ -1,8 +1,6 @@
-use Rattle.std.proofs.Common.{◌≡◌, ℕ, ◌+◌, ◌^◌, ◌++◌, List, false, length, take, drop, set, sym, ◌∙◌, arith, subst, length-append, length-take, length-drop}
+use Rattle.std.proofs.Common.{◌≡◌, ◌^◌, ◌++◌, false, length, take, drop, set, sym, ◌∙◌, arith, subst, length-append, length-take, length-drop}
 use Rattle.std.proofs.lemmas.List.{take-append-le, take_all}
 use Rattle.std.proofs.lemmas.List.Elements.{All-append, All-take, All-drop}
-use Rattle.map_shapes.specs.declared.point.Point.{Point}
-use Rattle.range_tree.specs.declared.level.Level.{Level}
 use Rattle.range_tree.specs.Rows.{AreLevels}
 use Rattle.range_tree.specs.Growing.{HasRoom}
 use Rattle.range_tree.proofs.clearing.clear_used.Goals as goal

@@ -1,4 +1,4 @@
-use Rattle.std.proofs.Common.{◌≡◌, true, false, ap, refl, sym, ◌∙◌, subst}
+use Rattle.std.proofs.Common.{◌≡◌, false, ap, sym, subst}
 use Rattle.builder_trait.specs.Builders.{begun}
 use Rattle.range_tree.specs.Growing.{IsPutting}
 use Rattle.range_tree.proofs.BuilderLemmas.{IsPutting-emptied}
