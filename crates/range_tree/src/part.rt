@@ -20,9 +20,10 @@ use std::sync::ledger::Ledger;
 /// `16 * (h + 2)^2` entries, a [`ListIn`] at most `8 * (h + 2)` more for each point that it lists, and a mark at most
 /// `16 * (h + 2)^2`. Nothing takes memory but the tally of a [`ListIn`].
 ///
-/// It has `h + 1` rows, each with an entry and a place of the live counts for each point. An entry takes 8 bytes and a place of
-/// the counts 24, so at level 16 the rows take 544 bytes a point. The points themselves, in both orders and with places and
-/// flags, take 73 more.
+/// It keeps the i + 1 rows of its builder at level i, each with room for an entry and a place of the live counts for each of
+/// `2^i` points; its tree uses h + 1 of them. An entry takes 8 bytes and a place of the counts 24, so at level 16 the rows take
+/// 544 bytes for each point that there is room for. The points themselves, in both orders and with places and flags, take 73
+/// more.
 #[derive(Drop)]
 pub struct RangePart {
     pub(crate) points: FlatPart<Point>,
