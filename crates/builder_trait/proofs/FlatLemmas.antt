@@ -73,7 +73,7 @@ module _ {Item : Type 0} where
   }
 
   -- with a flag for each item, all are live
-  items-all_true : (xs : List Item) → items_where_true (replicate (length xs) true) xs ≡ xs
+  pub items-all_true : (xs : List Item) → items_where_true (replicate (length xs) true) xs ≡ xs
   items-all_true [] = refl
   items-all_true (x ∷ xs) = ap (λ l. x ∷ l) (items-all_true xs)
 

@@ -76,6 +76,10 @@ HasRead-more h more = record {
   level = more.level ∙ h.level;
 }
 
+pub HasRead-swap : {Item : Type 0} {n : ℕ} {m new : Merging Item} {part other : Contents Item} {b fresh : Progress Item}
+    → HasRead n m new part other b fresh → HasRead n (swapped m) (swapped new) other part b fresh
+HasRead-swap h = record { left = h.left; capacity = h.capacity; taken = h.other_taken; other_taken = h.taken; level = h.level }
+
 -- nothing is taken in order 1
 pub HasRead-reread : {Item : Type 0} {n capacity left : ℕ} (m : Merging Item) {reread other_reread : ℕ} {part other : Contents Item} {b fresh : Progress Item}
     → capacity ≡ m.capacity → left + n ≡ m.left → fresh.at_level ≡ b.at_level
@@ -168,6 +172,21 @@ module _ {Item : Type 0} {stamp : Item → ℕ} {before : ℕ → Item → Item 
     Merges-flags flags other_flags = record {
       sources = h.sources;
       unsealed = h.unsealed;
+      to_go = h.to_go;
+      taking = h.taking;
+      retaking = record {
+        front = h.retaking.front;
+        in_turn = h.retaking.in_turn;
+        put = h.retaking.put;
+        placed = h.retaking.placed;
+      };
+    }
+
+    -- nor how many turns the builder has left
+    pub Merges-open : (is_sealed : Bool) (left : ℕ) → is_sealed ≡ false → Merges stamp before m part other (record b { is_sealed = is_sealed; left = left })
+    Merges-open is_sealed left open_still = record {
+      sources = h.sources;
+      unsealed = open_still;
       to_go = h.to_go;
       taking = h.taking;
       retaking = record {
@@ -415,7 +434,7 @@ module _ {Item : Type 0} {stamp : Item → ℕ} {before : ℕ → Item → Item 
 
     -- a merge that is done
     module _ (ended : m.left ≡ 0) where
-      read_whole : (length m.a.table ≡ length part.items) × (length m.b.table ≡ length other.items)
+      pub read_whole : (length m.a.table ≡ length part.items) × (length m.b.table ≡ length other.items)
           × (m.a.reread ≡ length part.items) × (m.b.reread ≡ length other.items)
       read_whole =
           let go = h.to_go in

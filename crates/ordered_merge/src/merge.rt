@@ -111,6 +111,9 @@ impl<B: Builder> Merge<B> {
         ensures left { let n = length (B.Part.Part.contents a.now).items + length (B.Part.Part.contents b.now).items in
             self.new ≡ record (unbegun self.old.capacity) { left = 2 * n } }
 
+        ensures valid { IsPart B.Item.before (B.Part.Part.contents a.now) }
+        ensures other_valid { IsPart B.Item.before (B.Part.Part.contents b.now) }
+
         // With a builder to which nothing was put, and which has room for all.
         ensures merges { (level : ℕ) → let a = B.Part.Part.contents a.now in let b = B.Part.Part.contents b.now in
             length a.items + length b.items ≤ 2 ^ level → Merges B.Item.stamp B.Item.before self.new a b (begun level) }
