@@ -5,8 +5,8 @@ use Rattle.std.specs.Option.{option_map_or}
 use Rattle.slab.proofs.SlabLemmas.{vacant_after_removal}
 use Rattle.slab.specs.Slab.{Slab, get, slab_len, ContainsKey, Updates}
 use Rattle.id_chain.specs.declared.node.Node.{Node}
-use Rattle.id_chain.specs.Chained.{Entry, is_linked, item_at, before, after, first_or, last_or, first_handle, last_handle}
-use Rattle.id_chain.specs.Linking.{walk_back, IsRun, IsChainOf, Refines, list_of, SetsNext, SetsPrev}
+use Rattle.id_chain.specs.Chain.{Entry, is_linked, item_at, before, after, first_or, last_or, first_handle, last_handle}
+use Rattle.id_chain.specs.Linking.{walk_back, IsRun, IsChainOf, Refines, list_of, SetsNext, SetsPrev, IsNodeOf}
 use Rattle.id_chain.proofs.Links.{ContainsKey-some}
 use Rattle.id_chain.proofs.Entries.{not_false, not_true, last_handle-linked, first_handle-linked, split_at, no_end, linked_head, linked_tail, unlinked_parts, unlinked_both, unlinked_head, unlinked_more, first_or-append, last_or-append, last_or-other, first_or-other, Apart-parts, HandlesDiffer-append}
 use Rattle.id_chain.proofs.Runs.{walk-run, walk_back-run, IsRun-parts, IsRun-append, IsRun-same, IsRun-next, IsRun-prev, node_at, linked_apart, run_linked, vacant_unlinked, first_or-linked, last_or-linked}
@@ -159,15 +159,10 @@ module _ {I : Type 0} where
   pub opened : (nodes : Slab (Node I)) (first last : Option ℕ) (es : List (Entry I)) → Refines nodes first last (list_of nodes first) → list_of nodes first ≡ es → IsChainOf nodes first last es
   opened nodes first last es refines is = rw is at refines.links
 
-  -- a node reads as the list says
-  pub record ReadsAs (node : Node I) (handle : ℕ) (es : List (Entry I)) : Type 0 where
-    pub item : item_at handle es ≡ Some node.item
-    pub next : node.next ≡ first_handle (after handle es)
-    pub prev : node.prev ≡ last_handle (before handle es)
-
-  pub reads : (nodes : Slab (Node I)) (first last : Option ℕ) (es : List (Entry I)) (handle : ℕ) (node : Node I) → IsChainOf nodes first last es
-      → is_linked handle es ≡ true → get nodes handle ≡ Some node → ReadsAs node handle es
-  reads nodes first last es handle node chain linked found =
+  -- the node at a linked handle
+  pub IsNodeOf-linked : (nodes : Slab (Node I)) (first last : Option ℕ) (es : List (Entry I)) (handle : ℕ) (node : Node I) → IsChainOf nodes first last es
+      → is_linked handle es ≡ true → get nodes handle ≡ Some node → IsNodeOf node handle es
+  IsNodeOf-linked nodes first last es handle node chain linked found =
       let split = split_at handle es linked in
       let run : IsRun (get nodes) None (before handle es ++ record { handle = handle; item = split.0 } ∷ after handle es) None =
       let P : List (Entry I) → Type 0 = λ xs. IsRun (get nodes) None xs None in subst P split.1.whole chain.run in
@@ -221,7 +216,7 @@ module _ {I : Type 0} where
   pub neighbours_stay : (old nodes : Slab (Node I)) (first last : Option ℕ) (es : List (Entry I)) (handle : ℕ) (node : Node I) → IsChainOf old first last es
       → is_linked handle es ≡ true → get old handle ≡ Some node → Updates old nodes handle None → NeighboursStay nodes node
   neighbours_stay old nodes first last es handle node chain linked found updates =
-      let read = reads old first last es handle node chain linked found in
+      let read = IsNodeOf-linked old first last es handle node chain linked found in
       let whole = split_chain old first last es handle chain linked in
       let front = before handle es in
       let back = after handle es in
@@ -255,7 +250,7 @@ module _ {I : Type 0} where
       → last' ≡ option_map_or (λ _. last) node.next node.prev
       → IsChainOf new first' last' (before handle es ++ after handle es)
   unlinked_at old nodes mid new first last first' last' es handle node chain linked found updates len sets_next sets_prev first_is last_is =
-      let read = reads old first last es handle node chain linked found in
+      let read = IsNodeOf-linked old first last es handle node chain linked found in
       let whole = split_chain old first last es handle chain linked in
       rw (first_is, last_is)
       (unlinked old nodes mid new first last node.prev node.next (before handle es) (record { handle = handle; item = whole.0 }) (after handle es)

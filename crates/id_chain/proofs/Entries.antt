@@ -3,7 +3,7 @@ use Rattle.std.proofs.Common.{◌≡◌, ◌⊎◌, ℕ, ◌==◌, ◌||◌, Boo
 use Rattle.std.proofs.lemmas.Bool.{cases_eq}
 use Rattle.std.proofs.lemmas.Bool.Decides.{nat_tests}
 use Rattle.std.proofs.lemmas.Grind.{common_steps}
-use Rattle.id_chain.specs.Chained.{Entry, is_linked, HandlesDiffer, item_at, before, after, first_or, last_or, first_handle, last_handle}
+use Rattle.id_chain.specs.Chain.{Entry, is_linked, HandlesDiffer, item_at, before, after, first_or, last_or, first_handle, last_handle}
 
 pub no_end : {n : ℕ} → None ≡ Some n → ⊥
 no_end same = cc

@@ -6,7 +6,7 @@ use Rattle.std.proofs.lemmas.Grind.{reverse_onto}
 use Rattle.std.specs.Option.{option_map_or}
 use Rattle.slab.specs.Slab.{Slab, get}
 use Rattle.id_chain.specs.declared.node.Node.{Node}
-use Rattle.id_chain.specs.Chained.{Entry, is_linked, HandlesDiffer, first_or, last_or}
+use Rattle.id_chain.specs.Chain.{Entry, is_linked, HandlesDiffer, first_or, last_or}
 use Rattle.id_chain.specs.Linking.{walk, walk_back, IsRun, SetsNext, SetsPrev}
 use Rattle.id_chain.proofs.Entries.{not_true, first_or-append, last_or-other, last_or-some}
 

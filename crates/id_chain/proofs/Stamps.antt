@@ -1,7 +1,9 @@
 -- Stamps that rise along a chain, for callers.
-use Rattle.std.proofs.Common.{◌≡◌, ℕ, ◌+◌, ◌<◌, ◌≤◌, List, [], ◌∷◌, ◌++◌, arith}
-use Rattle.id_chain.specs.Chained.{Entry}
-use Rattle.id_chain.specs.Stamped.{StampsRise}
+use Rattle.std.proofs.Common.{◌≡◌, ℕ, ◌==◌, ◌+◌, ◌<◌, ◌≤◌, true, false, List, [], ◌∷◌, ◌++◌, Some, filter, nat_lt, refl, ap, sym, inl, inr, unwrap_or, arith}
+use Rattle.std.proofs.lemmas.Bool.{cases_eq}
+use Rattle.std.proofs.lemmas.Bool.Decides.{nat_tests}
+use Rattle.id_chain.specs.Chain.{Entry, item_at, before}
+use Rattle.id_chain.specs.StampsRise.{StampsRise}
 
 module _ {I : Type 0} (stamp : I → ℕ) where
   pub StampsRise-lower : (low from : ℕ) (es : List (Entry I)) (high : ℕ) → low ≤ from → StampsRise stamp from es high → StampsRise stamp low es high
@@ -19,3 +21,43 @@ module _ {I : Type 0} (stamp : I → ℕ) where
       → StampsRise stamp low (front ++ back) high
   StampsRise-without low [] e back high rise = StampsRise-lower low (stamp e.item + 1) back high (omega (arith, rise.0)) rise.1
   StampsRise-without low (x ∷ front) e back high rise = (rise.0, StampsRise-without (stamp x.item + 1) front e back high rise.1)
+
+  -- no stamp is below a number that they rise from
+  none_below : (bound low : ℕ) (es : List (Entry I)) (high : ℕ) → bound ≤ low → StampsRise stamp low es high → filter (λ e. nat_lt (stamp e.item) bound) es ≡ []
+  none_below bound low [] high le rise = refl
+  none_below bound low (e ∷ es) high le rise =
+      let test : nat_lt (stamp e.item) bound ≡ false = grind (arith, nat_tests, rise.0) in
+      rw test (none_below bound (stamp e.item + 1) es high (omega (arith, rise.0)) rise.1)
+
+  item_at-above : (handle low : ℕ) (item : I) (es : List (Entry I)) (high : ℕ) → StampsRise stamp low es high → item_at handle es ≡ Some item → low ≤ stamp item
+  item_at-above handle low item [] high rise is = absurd (cc)
+  item_at-above handle low item (e ∷ es) high rise is = elim (cases_eq e.handle handle) [
+    | inl same ↦
+        let test : (e.handle == handle) ≡ true = grind (arith, nat_tests) in
+        let here : Some e.item ≡ Some item = rw test at is in
+        let is_it : stamp e.item ≡ stamp item = ap (λ o. stamp (unwrap_or o item)) here in
+        omega (arith, rise.0)
+    | inr apart ↦
+        let test : (e.handle == handle) ≡ false = grind (arith, nat_tests) in
+        let later = item_at-above handle (stamp e.item + 1) item es high rise.1 (rw test at is) in
+        omega (arith, rise.0)
+  ]
+
+  -- the entries before a handle are those of a smaller stamp
+  pub before-by_stamp : (low high handle : ℕ) (item : I) (es : List (Entry I)) → StampsRise stamp low es high → item_at handle es ≡ Some item
+      → before handle es ≡ filter (λ e. nat_lt (stamp e.item) (stamp item)) es
+  before-by_stamp low high handle item [] rise is = refl
+  before-by_stamp low high handle item (e ∷ es) rise is = elim (cases_eq e.handle handle) [
+    | inl same ↦
+        let test : (e.handle == handle) ≡ true = grind (arith, nat_tests) in
+        let here : Some e.item ≡ Some item = rw test at is in
+        let is_it : stamp e.item ≡ stamp item = ap (λ o. stamp (unwrap_or o item)) here in
+        let not_less : nat_lt (stamp e.item) (stamp item) ≡ false = grind (arith, nat_tests) in
+        rw (test, not_less) (sym (none_below (stamp item) (stamp e.item + 1) es high (omega arith) rise.1))
+    | inr apart ↦
+        let test : (e.handle == handle) ≡ false = grind (arith, nat_tests) in
+        let found : item_at handle es ≡ Some item = rw test at is in
+        let above = item_at-above handle (stamp e.item + 1) item es high rise.1 found in
+        let less : nat_lt (stamp e.item) (stamp item) ≡ true = grind (arith, nat_tests) in
+        rw (test, less) (ap (λ xs. e ∷ xs) (before-by_stamp (stamp e.item + 1) high handle item es rise.1 found))
+  ]
