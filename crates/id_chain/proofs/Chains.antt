@@ -1,4 +1,4 @@
--- The refinement: what each operation on the nodes and the ends makes of the list that they stand for.
+-- The refinement: what each operation on the nodes and the ends makes of their list.
 use Rattle.std.proofs.Common.{◌↔◌, ◌≡◌, ◌≢◌, ℕ, ◌+◌, Bool, true, false, List, [], ◌∷◌, ◌++◌, Option, Some, None, refl, sym, ap, ◌∙◌, arith, subst, append-nil, length-append, reverse, add-zero}
 use Rattle.std.proofs.lemmas.Bool.Decides.{nat_tests}
 use Rattle.std.specs.Option.{option_map_or}
@@ -8,7 +8,7 @@ use Rattle.id_chain.specs.declared.node.Node.{Node}
 use Rattle.id_chain.specs.Chain.{Entry, is_linked, item_at, before, after, first_or, last_or, first_handle, last_handle}
 use Rattle.id_chain.specs.Linking.{walk_back, IsRun, IsChainOf, Refines, list_of, SetsNext, SetsPrev, IsNodeOf}
 use Rattle.id_chain.proofs.Links.{ContainsKey-some}
-use Rattle.id_chain.proofs.Entries.{not_false, not_true, last_handle-linked, first_handle-linked, split_at, no_end, linked_head, linked_tail, unlinked_parts, unlinked_both, unlinked_head, unlinked_more, first_or-append, last_or-append, last_or-other, first_or-other, Apart-parts, HandlesDiffer-append}
+use Rattle.id_chain.proofs.Entries.{not_false, not_true, last_handle-linked, first_handle-linked, item_at-linked, split_at, no_end, linked_head, linked_tail, unlinked_parts, unlinked_both, unlinked_head, unlinked_more, first_or-append, last_or-append, last_or-other, first_or-other, Apart-parts, HandlesDiffer-append}
 use Rattle.id_chain.proofs.Runs.{walk-run, walk_back-run, IsRun-parts, IsRun-append, IsRun-same, IsRun-next, IsRun-prev, node_at, linked_apart, run_linked, vacant_unlinked, first_or-linked, last_or-linked}
 
 module _ {I : Type 0} where
@@ -30,7 +30,7 @@ module _ {I : Type 0} where
     backward = walk_back-chain nodes first last es chain;
   }
 
-  -- so what stands for a list stands for the one that the walk gives
+  -- so they are refined by the list that the walk gives
   pub Refines-walked : (nodes : Slab (Node I)) (first last : Option ℕ) (es : List (Entry I)) → IsChainOf nodes first last es
       → Refines nodes first last (list_of nodes first)
   Refines-walked nodes first last es chain = rw (list_of-chain nodes first last es chain) (Refines-chain nodes first last es chain)
@@ -144,7 +144,7 @@ module _ {I : Type 0} where
     only = λ place none. rw empty refl;
   }
 
-  -- an operation that gives fields that stand for a list gives a chain with these entries
+  -- more room leaves the list
   pub IsChainOf-room : (old new : Slab (Node I)) (first last : Option ℕ) (es : List (Entry I)) → new ≡ record old { capacity = new.capacity } → IsChainOf old first last es → IsChainOf new first last es
   IsChainOf-room old new first last es same chain = rw same (record {
     first_is = chain.first_is;
@@ -163,14 +163,13 @@ module _ {I : Type 0} where
   pub IsNodeOf-linked : (nodes : Slab (Node I)) (first last : Option ℕ) (es : List (Entry I)) (handle : ℕ) (node : Node I) → IsChainOf nodes first last es
       → is_linked handle es ≡ true → get nodes handle ≡ Some node → IsNodeOf node handle es
   IsNodeOf-linked nodes first last es handle node chain linked found =
-      let split = split_at handle es linked in
-      let run : IsRun (get nodes) None (before handle es ++ record { handle = handle; item = split.0 } ∷ after handle es) None =
-      let P : List (Entry I) → Type 0 = λ xs. IsRun (get nodes) None xs None in subst P split.1.whole chain.run in
-      let here = node_at (get nodes) None (before handle es) (record { handle = handle; item = split.0 }) (after handle es) None run in
-      let both : Some node ≡ Some (record { item = split.0; prev = last_handle (before handle es); next = first_handle (after handle es) }) = sym found ∙ here in
-      let same : node ≡ record { item = split.0; prev = last_handle (before handle es); next = first_handle (after handle es) } = cc in
+      let item = item_at-linked handle es linked in
+      let run : IsRun (get nodes) None (before handle es ++ record { handle = handle; item = item.0 } ∷ after handle es) None =
+      let P : List (Entry I) → Type 0 = λ xs. IsRun (get nodes) None xs None in subst P (split_at handle item.0 es item.1) chain.run in
+      let both = sym found ∙ node_at (get nodes) None (before handle es) (record { handle = handle; item = item.0 }) (after handle es) None run in
+      let same : node ≡ record { item = item.0; prev = last_handle (before handle es); next = first_handle (after handle es) } = cc in
       record {
-        item = split.1.item_is ∙ ap (λ (n : Node I). Some n.item) (sym same);
+        item = item.1 ∙ ap (λ (n : Node I). Some n.item) (sym same);
         next = ap (λ (n : Node I). n.next) same;
         prev = ap (λ (n : Node I). n.prev) same;
       }
@@ -209,9 +208,9 @@ module _ {I : Type 0} where
   pub split_chain : (nodes : Slab (Node I)) (first last : Option ℕ) (es : List (Entry I)) (handle : ℕ) → IsChainOf nodes first last es → is_linked handle es ≡ true
       → (item : I) × IsChainOf nodes first last (before handle es ++ record { handle = handle; item = item } ∷ after handle es)
   split_chain nodes first last es handle chain linked =
-      let split = split_at handle es linked in
+      let item = item_at-linked handle es linked in
       let P : List (Entry I) → Type 0 = IsChainOf nodes first last in
-      (split.0, subst P split.1.whole chain)
+      (item.0, subst P (split_at handle item.0 es item.1) chain)
 
   pub neighbours_stay : (old nodes : Slab (Node I)) (first last : Option ℕ) (es : List (Entry I)) (handle : ℕ) (node : Node I) → IsChainOf old first last es
       → is_linked handle es ≡ true → get old handle ≡ Some node → Updates old nodes handle None → NeighboursStay nodes node

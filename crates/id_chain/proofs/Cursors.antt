@@ -1,7 +1,7 @@
 -- What lies before a handle, where entries come and go.
 use Rattle.std.proofs.Common.{◌≡◌, ◌≢◌, ℕ, ◌==◌, ◌+◌, ◌<◌, ◌≤◌, true, false, List, [], ◌∷◌, ◌++◌, Option, None, Some, IfSome, refl, sym, ap, ◌∙◌, inl, inr, arith, filter, nat_lt}
-use Rattle.std.proofs.lemmas.Bool.{cases_eq}
 use Rattle.std.proofs.lemmas.Bool.Decides.{nat_tests}
+use Rattle.std.proofs.lemmas.Grind.{common_steps}
 use Rattle.id_chain.specs.Chain.{Entry, is_linked, HandlesDiffer, item_at, before, after, up_to, without_handle, first_handle, last_handle}
 use Rattle.id_chain.specs.StampsRise.{StampsRise}
 use Rattle.id_chain.proofs.Entries.{no_end, not_true, first_handle-linked, last_handle-linked}
@@ -10,26 +10,11 @@ module _ {I : Type 0} where
   -- what is linked before or after a handle is linked
   before-linked : (handle other : ℕ) (es : List (Entry I)) → is_linked other (before handle es) ≡ true → is_linked other es ≡ true
   before-linked handle other [] linked = linked
-  before-linked handle other (e ∷ es) linked = elim (cases_eq e.handle handle) [
-    | inl same ↦ let test : (e.handle == handle) ≡ true = grind (arith, nat_tests) in absurd (let none : false ≡ true = rw test at linked in cc)
-    | inr apart ↦
-        let test : (e.handle == handle) ≡ false = grind (arith, nat_tests) in
-        let parts : is_linked other (e ∷ before handle es) ≡ true = rw test at linked in
-        grind (arith, nat_tests, before-linked handle other es)
-  ]
+  before-linked handle other (e ∷ es) linked = grind (arith, nat_tests, before-linked handle other es)
 
   after-linked : (handle other : ℕ) (es : List (Entry I)) → is_linked other (after handle es) ≡ true → is_linked other es ≡ true
   after-linked handle other [] linked = linked
-  after-linked handle other (e ∷ es) linked = elim (cases_eq e.handle handle) [
-    | inl same ↦
-        let test : (e.handle == handle) ≡ true = grind (arith, nat_tests) in
-        let rest : is_linked other es ≡ true = rw test at linked in
-        grind (arith, nat_tests)
-    | inr apart ↦
-        let test : (e.handle == handle) ≡ false = grind (arith, nat_tests) in
-        let rest : is_linked other es ≡ true = after-linked handle other es (rw test at linked) in
-        grind (arith, nat_tests)
-  ]
+  after-linked handle other (e ∷ es) linked = grind (arith, nat_tests, after-linked handle other es)
 
   -- the neighbours of a handle are linked
   next-linked : (handle next : ℕ) (es : List (Entry I)) → first_handle (after handle es) ≡ Some next → is_linked next es ≡ true
@@ -44,26 +29,14 @@ module _ {I : Type 0} where
   IfSome-prev_linked handle es (Some prev) is = before-linked handle prev es (last_handle-linked (before handle es) prev (sym is))
 
   -- before the next handle there is what is before a handle, and its entry
+  before_first : (first : ℕ) (es : List (Entry I)) → first_handle es ≡ Some first → before first es ≡ []
+  before_first first [] is = refl
+  before_first first (e ∷ es) is = grind (arith, nat_tests)
+
   before-next : (handle next : ℕ) (es : List (Entry I)) → HandlesDiffer es → first_handle (after handle es) ≡ Some next → before next es ≡ up_to handle es
   before-next handle next [] differ is = refl
-  before-next handle next (e ∷ es) differ is = elim (cases_eq e.handle handle) [
-    | inl same ↦
-        let test : (e.handle == handle) ≡ true = grind (arith, nat_tests) in
-        let first : first_handle es ≡ Some next = rw test at is in
-        let linked = first_handle-linked es next first in
-        let other : (e.handle == next) ≡ false = grind (arith, nat_tests, differ.0) in
-        rw (test, other) (ap (λ xs. e ∷ xs) (before_first next es first))
-    | inr apart ↦
-        let test : (e.handle == handle) ≡ false = grind (arith, nat_tests) in
-        let first : first_handle (after handle es) ≡ Some next = rw test at is in
-        let linked = next-linked handle next es first in
-        let other : (e.handle == next) ≡ false = grind (arith, nat_tests, differ.0) in
-        rw (test, other) (ap (λ xs. e ∷ xs) (before-next handle next es differ.1 first))
-  ]
-    where
-      before_first : (next : ℕ) (es : List (Entry I)) → first_handle es ≡ Some next → before next es ≡ []
-      before_first next [] is = refl
-      before_first next (e ∷ es) is = let test : (e.handle == next) ≡ true = (let same : e.handle ≡ next = cc in grind (arith, nat_tests)) in rw test refl
+  before-next handle next (e ∷ es) differ is =
+      grind (arith, nat_tests, common_steps, differ.0, first_handle-linked es next, before_first next es, next-linked handle next es, before-next handle next es differ.1)
 
   pub IfSome-before_next : (handle : ℕ) (es : List (Entry I)) (next : Option ℕ) → HandlesDiffer es → next ≡ first_handle (after handle es) → IfSome next (λ n. before n es ≡ up_to handle es)
   IfSome-before_next handle es None differ is = tt
@@ -72,59 +45,31 @@ module _ {I : Type 0} where
   -- an unlinked entry leaves what is before another handle, but for itself
   pub before-without : (handle other : ℕ) (es : List (Entry I)) → other ≢ handle → before other (without_handle handle es) ≡ without_handle handle (before other es)
   before-without handle other [] apart = refl
-  before-without handle other (e ∷ es) apart = elim (cases_eq e.handle handle) [
-    | inl same ↦
-        let test : (e.handle == handle) ≡ true = grind (arith, nat_tests) in
-        let later : (e.handle == other) ≡ false = grind (arith, nat_tests) in
-        rw (test, later) (rw test refl)
-    | inr differs ↦
-        let test : (e.handle == handle) ≡ false = grind (arith, nat_tests) in
-        elim (cases_eq e.handle other) [
-          | inl here ↦ let at : (e.handle == other) ≡ true = grind (arith, nat_tests) in rw (test, at) refl
-          | inr later ↦
-              let at : (e.handle == other) ≡ false = grind (arith, nat_tests) in
-              rw (test, at, test) (ap (λ xs. e ∷ xs) (before-without handle other es apart))
-        ]
-  ]
+  before-without handle other (e ∷ es) apart = grind (arith, nat_tests, common_steps, before-without handle other es)
 
   pub without_handle-other : (handle : ℕ) (es : List (Entry I)) → is_linked handle es ≡ false → without_handle handle es ≡ es
   without_handle-other handle [] none = refl
-  without_handle-other handle (e ∷ es) none =
-      let test : (e.handle == handle) ≡ false = grind (arith, nat_tests) in
-      rw test (ap (λ xs. e ∷ xs) (without_handle-other handle es (grind (arith, nat_tests))))
+  without_handle-other handle (e ∷ es) none = grind (arith, nat_tests, common_steps, without_handle-other handle es)
 
   without_handle-up_to : (handle : ℕ) (es : List (Entry I)) → without_handle handle (up_to handle es) ≡ before handle es
   without_handle-up_to handle [] = refl
-  without_handle-up_to handle (e ∷ es) = elim (cases_eq e.handle handle) [
-    | inl same ↦ let test : (e.handle == handle) ≡ true = grind (arith, nat_tests) in rw test refl
-    | inr apart ↦
-        let test : (e.handle == handle) ≡ false = grind (arith, nat_tests) in
-        rw test (ap (λ xs. e ∷ xs) (without_handle-up_to handle es))
-  ]
+  without_handle-up_to handle (e ∷ es) = let rest = without_handle-up_to handle es in grind (arith, nat_tests, common_steps, rest)
 
   -- a handle isn't linked after itself
   after-other : (handle : ℕ) (es : List (Entry I)) → HandlesDiffer es → is_linked handle (after handle es) ≡ false
   after-other handle [] differ = refl
-  after-other handle (e ∷ es) differ = elim (cases_eq e.handle handle) [
-    | inl same ↦ let test : (e.handle == handle) ≡ true = grind (arith, nat_tests) in rw test (ap (λ h. is_linked h es) (sym same) ∙ differ.0)
-    | inr apart ↦ let test : (e.handle == handle) ≡ false = grind (arith, nat_tests) in rw test (after-other handle es differ.1)
-  ]
+  after-other handle (e ∷ es) differ = let rest = after-other handle es differ.1 in grind (arith, nat_tests, rest, differ.0)
 
   -- a cursor at an unlinked entry goes on to the next one: what was before it is before that one
   pub before-next_unlinked : (handle next : ℕ) (es : List (Entry I)) → HandlesDiffer es → first_handle (after handle es) ≡ Some next
       → before next (without_handle handle es) ≡ before handle es
   before-next_unlinked handle next es differ is =
-      let apart : next ≢ handle = λ same.
-      let linked : is_linked handle (after handle es) ≡ true = ap (λ h. is_linked h (after handle es)) (sym same) ∙ first_handle-linked (after handle es) next is in
-      let none : false ≡ true = sym (after-other handle es differ) ∙ linked in cc in
+      let linked = first_handle-linked (after handle es) next is in
+      let none = after-other handle es differ in
+      let apart : next ≢ handle = λ same. grind (arith, nat_tests) in
       before-without handle next es apart ∙ ap (without_handle handle) (before-next handle next es differ is) ∙ without_handle-up_to handle es
 
   -- an appended entry comes after every cursor
   pub before-append : (handle : ℕ) (es : List (Entry I)) (e : Entry I) → is_linked handle es ≡ true → before handle (es ++ e ∷ []) ≡ before handle es
   before-append handle [] e linked = absurd (cc)
-  before-append handle (x ∷ es) e linked = elim (cases_eq x.handle handle) [
-    | inl same ↦ let test : (x.handle == handle) ≡ true = grind (arith, nat_tests) in rw test refl
-    | inr apart ↦
-        let test : (x.handle == handle) ≡ false = grind (arith, nat_tests) in
-        rw test (ap (λ xs. x ∷ xs) (before-append handle es e (rw test at linked)))
-  ]
+  before-append handle (x ∷ es) e linked = grind (arith, nat_tests, common_steps, before-append handle es e)

@@ -1,7 +1,7 @@
 -- Stamps that rise along a chain, for callers.
 use Rattle.std.proofs.Common.{◌≡◌, ℕ, ◌==◌, ◌+◌, ◌<◌, ◌≤◌, true, false, List, [], ◌∷◌, ◌++◌, Some, filter, nat_lt, refl, ap, sym, inl, inr, unwrap_or, arith}
-use Rattle.std.proofs.lemmas.Bool.{cases_eq}
 use Rattle.std.proofs.lemmas.Bool.Decides.{nat_tests}
+use Rattle.std.proofs.lemmas.Grind.{common_steps}
 use Rattle.id_chain.specs.Chain.{Entry, item_at, before}
 use Rattle.id_chain.specs.StampsRise.{StampsRise}
 
@@ -26,38 +26,17 @@ module _ {I : Type 0} (stamp : I → ℕ) where
   none_below : (bound low : ℕ) (es : List (Entry I)) (high : ℕ) → bound ≤ low → StampsRise stamp low es high → filter (λ e. nat_lt (stamp e.item) bound) es ≡ []
   none_below bound low [] high le rise = refl
   none_below bound low (e ∷ es) high le rise =
-      let test : nat_lt (stamp e.item) bound ≡ false = grind (arith, nat_tests, rise.0) in
-      rw test (none_below bound (stamp e.item + 1) es high (omega (arith, rise.0)) rise.1)
+      let rest = none_below bound (stamp e.item + 1) es high (omega (arith, rise.0)) rise.1 in
+      grind (arith, nat_tests, common_steps, rise.0, rest)
 
   item_at-above : (handle low : ℕ) (item : I) (es : List (Entry I)) (high : ℕ) → StampsRise stamp low es high → item_at handle es ≡ Some item → low ≤ stamp item
   item_at-above handle low item [] high rise is = absurd (cc)
-  item_at-above handle low item (e ∷ es) high rise is = elim (cases_eq e.handle handle) [
-    | inl same ↦
-        let test : (e.handle == handle) ≡ true = grind (arith, nat_tests) in
-        let here : Some e.item ≡ Some item = rw test at is in
-        let is_it : stamp e.item ≡ stamp item = ap (λ o. stamp (unwrap_or o item)) here in
-        omega (arith, rise.0)
-    | inr apart ↦
-        let test : (e.handle == handle) ≡ false = grind (arith, nat_tests) in
-        let later = item_at-above handle (stamp e.item + 1) item es high rise.1 (rw test at is) in
-        omega (arith, rise.0)
-  ]
+  item_at-above handle low item (e ∷ es) high rise is = grind (arith, nat_tests, rise.0, item_at-above handle (stamp e.item + 1) item es high rise.1)
 
   -- the entries before a handle are those of a smaller stamp
   pub before-by_stamp : (low high handle : ℕ) (item : I) (es : List (Entry I)) → StampsRise stamp low es high → item_at handle es ≡ Some item
       → before handle es ≡ filter (λ e. nat_lt (stamp e.item) (stamp item)) es
   before-by_stamp low high handle item [] rise is = refl
-  before-by_stamp low high handle item (e ∷ es) rise is = elim (cases_eq e.handle handle) [
-    | inl same ↦
-        let test : (e.handle == handle) ≡ true = grind (arith, nat_tests) in
-        let here : Some e.item ≡ Some item = rw test at is in
-        let is_it : stamp e.item ≡ stamp item = ap (λ o. stamp (unwrap_or o item)) here in
-        let not_less : nat_lt (stamp e.item) (stamp item) ≡ false = grind (arith, nat_tests) in
-        rw (test, not_less) (sym (none_below (stamp item) (stamp e.item + 1) es high (omega arith) rise.1))
-    | inr apart ↦
-        let test : (e.handle == handle) ≡ false = grind (arith, nat_tests) in
-        let found : item_at handle es ≡ Some item = rw test at is in
-        let above = item_at-above handle (stamp e.item + 1) item es high rise.1 found in
-        let less : nat_lt (stamp e.item) (stamp item) ≡ true = grind (arith, nat_tests) in
-        rw (test, less) (ap (λ xs. e ∷ xs) (before-by_stamp (stamp e.item + 1) high handle item es rise.1 found))
-  ]
+  before-by_stamp low high handle item (e ∷ es) rise is =
+      grind (arith, nat_tests, common_steps, rise.0, none_below (stamp item) (stamp e.item + 1) es high, item_at-above handle (stamp e.item + 1) item es high rise.1,
+      before-by_stamp (stamp e.item + 1) high handle item es rise.1)
