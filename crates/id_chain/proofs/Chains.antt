@@ -5,7 +5,7 @@ use Rattle.std.specs.Option.{option_map_or}
 use Rattle.slab.proofs.SlabLemmas.{vacant_after_removal}
 use Rattle.slab.specs.Slab.{Slab, get, slab_len, ContainsKey, Updates}
 use Rattle.id_chain.specs.declared.node.Node.{Node}
-use Rattle.id_chain.specs.Chain.{Entry, is_linked, item_at, before, after, first_or, last_or, first_handle, last_handle}
+use Rattle.id_chain.specs.Chain.{Entry, is_linked, before, after, first_or, last_or, first_handle, last_handle}
 use Rattle.id_chain.specs.Linking.{walk_back, IsRun, IsChainOf, Refines, list_of, SetsNext, SetsPrev, IsNodeOf}
 use Rattle.id_chain.proofs.Links.{ContainsKey-some}
 use Rattle.id_chain.proofs.Entries.{not_false, not_true, last_handle-linked, first_handle-linked, item_at-linked, split_at, no_end, linked_head, linked_tail, unlinked_parts, unlinked_both, unlinked_head, unlinked_more, first_or-append, last_or-append, last_or-other, first_or-other, Apart-parts, HandlesDiffer-append}

@@ -1,10 +1,9 @@
 -- What lies before a handle, where entries come and go.
-use Rattle.std.proofs.Common.{◌≡◌, ◌≢◌, ℕ, ◌==◌, ◌+◌, ◌<◌, ◌≤◌, true, false, List, [], ◌∷◌, ◌++◌, Option, None, Some, IfSome, refl, sym, ap, ◌∙◌, inl, inr, arith, filter, nat_lt}
+use Rattle.std.proofs.Common.{◌≡◌, ◌≢◌, ℕ, true, false, List, [], ◌∷◌, ◌++◌, Option, None, Some, IfSome, refl, sym, ap, ◌∙◌, arith}
 use Rattle.std.proofs.lemmas.Bool.Decides.{nat_tests}
 use Rattle.std.proofs.lemmas.Grind.{common_steps}
-use Rattle.id_chain.specs.Chain.{Entry, is_linked, HandlesDiffer, item_at, before, after, up_to, without_handle, first_handle, last_handle}
-use Rattle.id_chain.specs.StampsRise.{StampsRise}
-use Rattle.id_chain.proofs.Entries.{no_end, not_true, first_handle-linked, last_handle-linked}
+use Rattle.id_chain.specs.Chain.{Entry, is_linked, HandlesDiffer, before, after, up_to, without_handle, first_handle, last_handle}
+use Rattle.id_chain.proofs.Entries.{first_handle-linked, last_handle-linked}
 
 module _ {I : Type 0} where
   -- what is linked before or after a handle is linked

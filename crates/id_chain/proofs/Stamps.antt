@@ -1,5 +1,5 @@
 -- Stamps that rise along a chain, for callers.
-use Rattle.std.proofs.Common.{◌≡◌, ℕ, ◌==◌, ◌+◌, ◌<◌, ◌≤◌, true, false, List, [], ◌∷◌, ◌++◌, Some, filter, nat_lt, refl, ap, sym, inl, inr, unwrap_or, arith}
+use Rattle.std.proofs.Common.{◌≡◌, ℕ, ◌+◌, ◌≤◌, List, [], ◌∷◌, ◌++◌, Some, filter, nat_lt, refl, arith}
 use Rattle.std.proofs.lemmas.Bool.Decides.{nat_tests}
 use Rattle.std.proofs.lemmas.Grind.{common_steps}
 use Rattle.id_chain.specs.Chain.{Entry, item_at, before}
@@ -38,5 +38,12 @@ module _ {I : Type 0} (stamp : I → ℕ) where
       → before handle es ≡ filter (λ e. nat_lt (stamp e.item) (stamp item)) es
   before-by_stamp low high handle item [] rise is = refl
   before-by_stamp low high handle item (e ∷ es) rise is =
-      grind (arith, nat_tests, common_steps, rise.0, none_below (stamp item) (stamp e.item + 1) es high, item_at-above handle (stamp e.item + 1) item es high rise.1,
-      before-by_stamp (stamp e.item + 1) high handle item es rise.1)
+      grind (
+        arith,
+        nat_tests,
+        common_steps,
+        rise.0,
+        none_below (stamp item) (stamp e.item + 1) es high,
+        item_at-above handle (stamp e.item + 1) item es high rise.1,
+        before-by_stamp (stamp e.item + 1) high handle item es rise.1,
+      )

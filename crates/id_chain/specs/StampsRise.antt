@@ -1,5 +1,5 @@
 -- Stamps along a chain.
-use Rattle.std.specs.Prelude.{ℕ, ◌+◌, ◌<◌, ◌≤◌, List, [], ◌∷◌}
+use Rattle.std.specs.Prelude.{ℕ, ◌+◌, ◌≤◌, List, [], ◌∷◌}
 use Rattle.id_chain.specs.Chain.{Entry}
 
 module _ {I : Type 0} (stamp : I → ℕ) where
