@@ -1,14 +1,14 @@
--- The refinement: what each operation on the nodes and the ends makes of the list that they stand for.
+-- The refinement: what each operation on the nodes and the ends makes of their list.
 use Rattle.std.proofs.Common.{◌↔◌, ◌≡◌, ◌≢◌, ℕ, ◌+◌, Bool, true, false, List, [], ◌∷◌, ◌++◌, Option, Some, None, refl, sym, ap, ◌∙◌, arith, subst, append-nil, length-append, reverse, add-zero}
 use Rattle.std.proofs.lemmas.Bool.Decides.{nat_tests}
 use Rattle.std.specs.Option.{option_map_or}
 use Rattle.slab.proofs.SlabLemmas.{vacant_after_removal}
 use Rattle.slab.specs.Slab.{Slab, get, slab_len, ContainsKey, Updates}
 use Rattle.id_chain.specs.declared.node.Node.{Node}
-use Rattle.id_chain.specs.Chained.{Entry, is_linked, item_at, before, after, first_or, last_or, first_handle, last_handle}
-use Rattle.id_chain.specs.Linking.{walk_back, IsRun, IsChainOf, Refines, list_of, SetsNext, SetsPrev}
+use Rattle.id_chain.specs.Chain.{Entry, is_linked, before, after, first_or, last_or, first_handle, last_handle}
+use Rattle.id_chain.specs.Linking.{walk_back, IsRun, IsChainOf, Refines, list_of, SetsNext, SetsPrev, IsNodeOf}
 use Rattle.id_chain.proofs.Links.{ContainsKey-some}
-use Rattle.id_chain.proofs.Entries.{not_false, not_true, last_handle-linked, first_handle-linked, split_at, no_end, linked_head, linked_tail, unlinked_parts, unlinked_both, unlinked_head, unlinked_more, first_or-append, last_or-append, last_or-other, first_or-other, Apart-parts, HandlesDiffer-append}
+use Rattle.id_chain.proofs.Entries.{not_false, not_true, last_handle-linked, first_handle-linked, item_at-linked, split_at, no_end, linked_head, linked_tail, unlinked_parts, unlinked_both, unlinked_head, unlinked_more, first_or-append, last_or-append, last_or-other, first_or-other, Apart-parts, HandlesDiffer-append}
 use Rattle.id_chain.proofs.Runs.{walk-run, walk_back-run, IsRun-parts, IsRun-append, IsRun-same, IsRun-next, IsRun-prev, node_at, linked_apart, run_linked, vacant_unlinked, first_or-linked, last_or-linked}
 
 module _ {I : Type 0} where
@@ -30,7 +30,7 @@ module _ {I : Type 0} where
     backward = walk_back-chain nodes first last es chain;
   }
 
-  -- so what stands for a list stands for the one that the walk gives
+  -- so they are refined by the list that the walk gives
   pub Refines-walked : (nodes : Slab (Node I)) (first last : Option ℕ) (es : List (Entry I)) → IsChainOf nodes first last es
       → Refines nodes first last (list_of nodes first)
   Refines-walked nodes first last es chain = rw (list_of-chain nodes first last es chain) (Refines-chain nodes first last es chain)
@@ -144,7 +144,7 @@ module _ {I : Type 0} where
     only = λ place none. rw empty refl;
   }
 
-  -- an operation that gives fields that stand for a list gives a chain with these entries
+  -- more room leaves the list
   pub IsChainOf-room : (old new : Slab (Node I)) (first last : Option ℕ) (es : List (Entry I)) → new ≡ record old { capacity = new.capacity } → IsChainOf old first last es → IsChainOf new first last es
   IsChainOf-room old new first last es same chain = rw same (record {
     first_is = chain.first_is;
@@ -159,23 +159,17 @@ module _ {I : Type 0} where
   pub opened : (nodes : Slab (Node I)) (first last : Option ℕ) (es : List (Entry I)) → Refines nodes first last (list_of nodes first) → list_of nodes first ≡ es → IsChainOf nodes first last es
   opened nodes first last es refines is = rw is at refines.links
 
-  -- a node reads as the list says
-  pub record ReadsAs (node : Node I) (handle : ℕ) (es : List (Entry I)) : Type 0 where
-    pub item : item_at handle es ≡ Some node.item
-    pub next : node.next ≡ first_handle (after handle es)
-    pub prev : node.prev ≡ last_handle (before handle es)
-
-  pub reads : (nodes : Slab (Node I)) (first last : Option ℕ) (es : List (Entry I)) (handle : ℕ) (node : Node I) → IsChainOf nodes first last es
-      → is_linked handle es ≡ true → get nodes handle ≡ Some node → ReadsAs node handle es
-  reads nodes first last es handle node chain linked found =
-      let split = split_at handle es linked in
-      let run : IsRun (get nodes) None (before handle es ++ record { handle = handle; item = split.0 } ∷ after handle es) None =
-      let P : List (Entry I) → Type 0 = λ xs. IsRun (get nodes) None xs None in subst P split.1.whole chain.run in
-      let here = node_at (get nodes) None (before handle es) (record { handle = handle; item = split.0 }) (after handle es) None run in
-      let both : Some node ≡ Some (record { item = split.0; prev = last_handle (before handle es); next = first_handle (after handle es) }) = sym found ∙ here in
-      let same : node ≡ record { item = split.0; prev = last_handle (before handle es); next = first_handle (after handle es) } = cc in
+  -- the node at a linked handle
+  pub IsNodeOf-linked : (nodes : Slab (Node I)) (first last : Option ℕ) (es : List (Entry I)) (handle : ℕ) (node : Node I) → IsChainOf nodes first last es
+      → is_linked handle es ≡ true → get nodes handle ≡ Some node → IsNodeOf node handle es
+  IsNodeOf-linked nodes first last es handle node chain linked found =
+      let item = item_at-linked handle es linked in
+      let run : IsRun (get nodes) None (before handle es ++ record { handle = handle; item = item.0 } ∷ after handle es) None =
+      let P : List (Entry I) → Type 0 = λ xs. IsRun (get nodes) None xs None in subst P (split_at handle item.0 es item.1) chain.run in
+      let both = sym found ∙ node_at (get nodes) None (before handle es) (record { handle = handle; item = item.0 }) (after handle es) None run in
+      let same : node ≡ record { item = item.0; prev = last_handle (before handle es); next = first_handle (after handle es) } = cc in
       record {
-        item = split.1.item_is ∙ ap (λ (n : Node I). Some n.item) (sym same);
+        item = item.1 ∙ ap (λ (n : Node I). Some n.item) (sym same);
         next = ap (λ (n : Node I). n.next) same;
         prev = ap (λ (n : Node I). n.prev) same;
       }
@@ -214,14 +208,14 @@ module _ {I : Type 0} where
   pub split_chain : (nodes : Slab (Node I)) (first last : Option ℕ) (es : List (Entry I)) (handle : ℕ) → IsChainOf nodes first last es → is_linked handle es ≡ true
       → (item : I) × IsChainOf nodes first last (before handle es ++ record { handle = handle; item = item } ∷ after handle es)
   split_chain nodes first last es handle chain linked =
-      let split = split_at handle es linked in
+      let item = item_at-linked handle es linked in
       let P : List (Entry I) → Type 0 = IsChainOf nodes first last in
-      (split.0, subst P split.1.whole chain)
+      (item.0, subst P (split_at handle item.0 es item.1) chain)
 
   pub neighbours_stay : (old nodes : Slab (Node I)) (first last : Option ℕ) (es : List (Entry I)) (handle : ℕ) (node : Node I) → IsChainOf old first last es
       → is_linked handle es ≡ true → get old handle ≡ Some node → Updates old nodes handle None → NeighboursStay nodes node
   neighbours_stay old nodes first last es handle node chain linked found updates =
-      let read = reads old first last es handle node chain linked found in
+      let read = IsNodeOf-linked old first last es handle node chain linked found in
       let whole = split_chain old first last es handle chain linked in
       let front = before handle es in
       let back = after handle es in
@@ -255,7 +249,7 @@ module _ {I : Type 0} where
       → last' ≡ option_map_or (λ _. last) node.next node.prev
       → IsChainOf new first' last' (before handle es ++ after handle es)
   unlinked_at old nodes mid new first last first' last' es handle node chain linked found updates len sets_next sets_prev first_is last_is =
-      let read = reads old first last es handle node chain linked found in
+      let read = IsNodeOf-linked old first last es handle node chain linked found in
       let whole = split_chain old first last es handle chain linked in
       rw (first_is, last_is)
       (unlinked old nodes mid new first last node.prev node.next (before handle es) (record { handle = handle; item = whole.0 }) (after handle es)

@@ -1,9 +1,9 @@
 -- Lemmas on lists of entries, for this crate and its callers.
-use Rattle.std.proofs.Common.{◌≡◌, ◌⊎◌, ℕ, ◌==◌, ◌||◌, Bool, true, false, List, [], ◌∷◌, ◌++◌, Option, Some, None, refl, sym, ap, ◌∙◌, inl, inr, arith}
+use Rattle.std.proofs.Common.{◌≡◌, ◌⊎◌, ℕ, ◌||◌, Bool, true, false, List, [], ◌∷◌, ◌++◌, Option, Some, None, refl, sym, ap, ◌∙◌, inl, inr, arith}
 use Rattle.std.proofs.lemmas.Bool.{cases_eq}
 use Rattle.std.proofs.lemmas.Bool.Decides.{nat_tests}
 use Rattle.std.proofs.lemmas.Grind.{common_steps}
-use Rattle.id_chain.specs.Chained.{Entry, is_linked, HandlesDiffer, item_at, before, after, first_or, last_or, first_handle, last_handle}
+use Rattle.id_chain.specs.Chain.{Entry, is_linked, HandlesDiffer, item_at, before, after, first_or, last_or, first_handle, last_handle}
 
 pub no_end : {n : ℕ} → None ≡ Some n → ⊥
 no_end same = cc
@@ -15,26 +15,6 @@ not_true false other = refl
 pub not_false : (b : Bool) → ¬ (b ≡ false) → b ≡ true
 not_false true other = refl
 not_false false other = absurd (other refl)
-
-neither : (a b : Bool) → (a || b) ≡ false → (a ≡ false) × (b ≡ false)
-neither true b none = absurd (cc)
-neither false b none = (refl, none)
-
-nor : (a b : Bool) → a ≡ false → b ≡ false → (a || b) ≡ false
-nor a b first second = rw (first, second) refl
-
-or_second : (a b : Bool) → b ≡ true → (a || b) ≡ true
-or_second true b second = refl
-or_second false b second = second
-
-same_test : (a : ℕ) → (a == a) ≡ true
-same_test a = grind (arith, nat_tests)
-
-other_test : (a b : ℕ) → ¬ (a ≡ b) → (a == b) ≡ false
-other_test a b apart = grind (arith, nat_tests)
-
-apart_by_test : (a b : ℕ) → (a == b) ≡ false → ¬ (a ≡ b)
-apart_by_test a b test same = grind (arith, nat_tests)
 
 module _ {I : Type 0} where
   -- a list is empty, or has a last entry
@@ -51,25 +31,23 @@ module _ {I : Type 0} where
   is_linked-append handle (x ∷ xs) ys = rw (is_linked-append handle xs ys) (grind (arith, common_steps))
 
   pub linked_head : (e : Entry I) (es : List (Entry I)) → is_linked e.handle (e ∷ es) ≡ true
-  linked_head e es = rw (same_test e.handle) refl
+  linked_head e es = grind (arith, nat_tests)
 
   pub linked_tail : (handle : ℕ) (e : Entry I) (es : List (Entry I)) → is_linked handle es ≡ true → is_linked handle (e ∷ es) ≡ true
-  linked_tail handle e es linked = or_second _ _ linked
+  linked_tail handle e es linked = grind (arith, nat_tests)
 
   -- a handle that is linked in neither of two parts, and the head of a list that is not linked
   pub unlinked_parts : (handle : ℕ) (xs ys : List (Entry I)) → is_linked handle (xs ++ ys) ≡ false → (is_linked handle xs ≡ false) × (is_linked handle ys ≡ false)
-  unlinked_parts handle xs ys none = neither _ _ (sym (is_linked-append handle xs ys) ∙ none)
+  unlinked_parts handle xs ys none = (grind (arith, is_linked-append handle xs ys), grind (arith, is_linked-append handle xs ys))
 
   pub unlinked_both : (handle : ℕ) (xs ys : List (Entry I)) → is_linked handle xs ≡ false → is_linked handle ys ≡ false → is_linked handle (xs ++ ys) ≡ false
-  unlinked_both handle xs ys first second = is_linked-append handle xs ys ∙ nor _ _ first second
+  unlinked_both handle xs ys first second = grind (arith, is_linked-append handle xs ys)
 
   pub unlinked_head : (handle : ℕ) (e : Entry I) (es : List (Entry I)) → is_linked handle (e ∷ es) ≡ false → (¬ (e.handle ≡ handle)) × (is_linked handle es ≡ false)
-  unlinked_head handle e es none =
-      let parts = neither _ _ none in
-      (apart_by_test _ _ parts.0, parts.1)
+  unlinked_head handle e es none = (λ same. grind (arith, nat_tests), grind (arith, nat_tests))
 
   pub unlinked_more : (handle : ℕ) (e : Entry I) (es : List (Entry I)) → ¬ (e.handle ≡ handle) → is_linked handle es ≡ false → is_linked handle (e ∷ es) ≡ false
-  unlinked_more handle e es apart none = nor _ _ (other_test _ _ apart) none
+  unlinked_more handle e es apart none = grind (arith, nat_tests)
 
   pub first_or-append : (xs ys : List (Entry I)) (next : Option ℕ) → first_or (xs ++ ys) next ≡ first_or xs (first_or ys next)
   first_or-append [] ys next = refl
@@ -79,7 +57,7 @@ module _ {I : Type 0} where
   last_or-append prev [] ys = refl
   last_or-append prev (x ∷ xs) ys = last_or-append (Some x.handle) xs ys
 
-  -- a handle that is not among the entries is the last of them only by standing before them
+  -- a handle that isn't among the entries is the last of them only where there are none, and it is before them
   pub last_or-other : (handle : ℕ) (prev : Option ℕ) (es : List (Entry I)) → is_linked handle es ≡ false → last_or prev es ≡ Some handle → prev ≡ Some handle
   last_or-other handle prev [] other last = last
   last_or-other handle prev (e ∷ es) other last =
@@ -89,7 +67,7 @@ module _ {I : Type 0} where
   first_or-other handle [] next other first = first
   first_or-other handle (e ∷ es) next other first = absurd (grind (arith, nat_tests))
 
-  -- behind an entry there is always a last one
+  -- after an entry there is always a last one
   pub last_or-some : (handle : ℕ) (es : List (Entry I)) → (last : ℕ) × (last_or (Some handle) es ≡ Some last)
   last_or-some handle [] = (handle, refl)
   last_or-some handle (e ∷ es) = last_or-some e.handle es
@@ -125,57 +103,34 @@ module _ {I : Type 0} where
     }),
   )
 
-  -- where a handle is linked, the list is what stands before it, its entry, and what stands after it
-  pub record IsSplitAt (handle : ℕ) (es : List (Entry I)) (item : I) : Type 0 where
-    pub whole : es ≡ before handle es ++ record { handle = handle; item = item } ∷ after handle es
-    pub item_is : item_at handle es ≡ Some item
-    pub not_before : is_linked handle (before handle es) ≡ false
-
-  pub split_at : (handle : ℕ) (es : List (Entry I)) → is_linked handle es ≡ true → (item : I) × IsSplitAt handle es item
-  split_at handle [] linked = absurd (cc)
-  split_at handle (e ∷ es) linked = elim (cases_eq e.handle handle) [
-    | inl same ↦
-        let test : (e.handle == handle) ≡ true = grind (arith, nat_tests) in (
-          e.item,
-          record {
-            whole = rw test (ap (λ h. record { handle = h; item = e.item } ∷ es) same);
-            item_is = rw test refl;
-            not_before = rw test refl;
-          },
-        )
-    | inr other ↦
-        let test : (e.handle == handle) ≡ false = grind (arith, nat_tests) in
-        let later = split_at handle es (rw test at linked) in (
-          later.0,
-          record {
-            whole = rw test (ap (λ xs. e ∷ xs) later.1.whole);
-            item_is = rw test later.1.item_is;
-            not_before = rw test (rw test later.1.not_before);
-          },
-        )
+  -- a linked handle has an item
+  pub item_at-linked : (handle : ℕ) (es : List (Entry I)) → is_linked handle es ≡ true → (item : I) × (item_at handle es ≡ Some item)
+  item_at-linked handle [] linked = absurd (cc)
+  item_at-linked handle (e ∷ es) linked = elim (cases_eq e.handle handle) [
+    | inl same ↦ (e.item, grind (arith, nat_tests))
+    | inr apart ↦ let later = item_at-linked handle es (grind (arith, nat_tests)) in (later.0, grind (arith, nat_tests, later.1))
   ]
 
-  -- the other way round: an entry whose handle does not stand before it splits the list
+  -- the list is what is before a handle, its entry, and what is after it
+  pub split_at : (handle : ℕ) (item : I) (es : List (Entry I)) → item_at handle es ≡ Some item → es ≡ before handle es ++ record { handle = handle; item = item } ∷ after handle es
+  split_at handle item [] is = absurd (cc)
+  split_at handle item (e ∷ es) is = grind (arith, nat_tests, common_steps, split_at handle item es)
+
+  -- the other way round: an entry whose handle isn't linked before it splits the list
   pub before-split : (handle : ℕ) (item : I) (front back : List (Entry I)) → is_linked handle front ≡ false
       → before handle (front ++ record { handle = handle; item = item } ∷ back) ≡ front
-  before-split handle item [] back other = let test : (handle == handle) ≡ true = grind (arith, nat_tests) in rw test refl
-  before-split handle item (e ∷ front) back other =
-      let test : (e.handle == handle) ≡ false = grind (arith, nat_tests) in
-      rw test (ap (λ xs. e ∷ xs) (before-split handle item front back (rw test at other)))
+  before-split handle item [] back other = grind (arith, nat_tests)
+  before-split handle item (e ∷ front) back other = grind (arith, nat_tests, common_steps, before-split handle item front back)
 
   pub after-split : (handle : ℕ) (item : I) (front back : List (Entry I)) → is_linked handle front ≡ false
       → after handle (front ++ record { handle = handle; item = item } ∷ back) ≡ back
-  after-split handle item [] back other = let test : (handle == handle) ≡ true = grind (arith, nat_tests) in rw test refl
-  after-split handle item (e ∷ front) back other =
-      let test : (e.handle == handle) ≡ false = grind (arith, nat_tests) in
-      rw test (after-split handle item front back (rw test at other))
+  after-split handle item [] back other = grind (arith, nat_tests)
+  after-split handle item (e ∷ front) back other = grind (arith, nat_tests, common_steps, after-split handle item front back)
 
   pub item_at-split : (handle : ℕ) (item : I) (front back : List (Entry I)) → is_linked handle front ≡ false
       → item_at handle (front ++ record { handle = handle; item = item } ∷ back) ≡ Some item
-  item_at-split handle item [] back other = let test : (handle == handle) ≡ true = grind (arith, nat_tests) in rw test refl
-  item_at-split handle item (e ∷ front) back other =
-      let test : (e.handle == handle) ≡ false = grind (arith, nat_tests) in
-      rw test (item_at-split handle item front back (rw test at other))
+  item_at-split handle item [] back other = grind (arith, nat_tests)
+  item_at-split handle item (e ∷ front) back other = grind (arith, nat_tests, common_steps, item_at-split handle item front back)
 
   -- a handle at an end is linked
   pub last_handle-linked : (es : List (Entry I)) (handle : ℕ) → last_handle es ≡ Some handle → is_linked handle es ≡ true

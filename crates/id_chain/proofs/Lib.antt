@@ -3,3 +3,4 @@ pub mod Links
 pub mod Runs
 pub mod Chains
 pub mod Stamps
+pub mod Cursors

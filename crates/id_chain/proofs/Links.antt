@@ -5,7 +5,7 @@ use Rattle.std.proofs.lemmas.Grind.{common_steps}
 use Rattle.slab.specs.Slab.{Slab, get, with_value, slab_len, ContainsKey}
 use Rattle.slab.proofs.SlabLemmas.{Updates-with_value, ContainsKey-within}
 use Rattle.id_chain.specs.declared.node.Node.{Node}
-use Rattle.id_chain.specs.Linking.{SetsNext, SetsPrev}
+use Rattle.id_chain.specs.Linking.{ChangesNode}
 
 module _ {T : Type 0} where
   pub ContainsKey-some : (s : Slab T) (key : ℕ) (value : T) → get s key ≡ Some value → ContainsKey s key
@@ -27,49 +27,26 @@ module _ {T : Type 0} where
       go (Some value) is some = (value, is)
 
 module _ {I : Type 0} where
-  pub SetsNext-with_value : (s : Slab (Node I)) (place : ℕ) (to : Option ℕ) (node : Node I) → get s place ≡ Some node
-      → SetsNext s (with_value s place (record node { next = to })) (Some place) to
-  SetsNext-with_value s place to node found =
+  -- a write of a node that is there
+  ChangesNode-with_value : (change : Node I → Node I) (s : Slab (Node I)) (place : ℕ) (node : Node I) → get s place ≡ Some node
+      → ChangesNode change s (with_value s place (change node)) (Some place)
+  ChangesNode-with_value change s place node found =
       let present = ContainsKey-some s place node found in
-      let updates = Updates-with_value s place (record node { next = to }) present in
+      let updates = Updates-with_value s place (change node) present in
       record {
         changed = λ p old same there.
             let here : place ≡ p = cc in
             let one : Some node ≡ Some old = sym found ∙ ap (get s) here ∙ there in
             let both : node ≡ old = cc in
-            ap (get (with_value s place (record node { next = to }))) (sym here) ∙ updates.changed ∙ ap (λ (x : Node I). Some (record x { next = to })) both;
+            ap (get (with_value s place (change node))) (sym here) ∙ updates.changed ∙ ap (λ (x : Node I). Some (change x)) both;
         others = λ other differs. updates.others other (λ same. differs (ap Some (sym same)));
         len = slab_len-with_value s place _ present;
         capacity = refl;
       }
 
-  -- one write through the node at the place
-  pub SetsNext-write : (old new : Slab (Node I)) (from : Option ℕ) (place : ℕ) (to : Option ℕ) → from ≡ Some place → ContainsKey old place
-      → ((node : Node I) → get old place ≡ Some node → new ≡ with_value old place (record node { next = to })) → SetsNext old new from to
-  SetsNext-write old new from place to is present written =
+  -- a call that writes the node at a place, if there is one, changes that node
+  pub ChangesNode-write : (change : Node I → Node I) (old new : Slab (Node I)) (from : Option ℕ) (place : ℕ) → from ≡ Some place → ContainsKey old place
+      → ((node : Node I) → get old place ≡ Some node → new ≡ with_value old place (change node)) → ChangesNode change old new from
+  ChangesNode-write change old new from place is present written =
       let found = value_at old place present in
-      rw (is, written found.0 found.1) (SetsNext-with_value old place to found.0 found.1)
-
-module _ {I : Type 0} where
-  pub SetsPrev-with_value : (s : Slab (Node I)) (place : ℕ) (to : Option ℕ) (node : Node I) → get s place ≡ Some node
-      → SetsPrev s (with_value s place (record node { prev = to })) (Some place) to
-  SetsPrev-with_value s place to node found =
-      let present = ContainsKey-some s place node found in
-      let updates = Updates-with_value s place (record node { prev = to }) present in
-      record {
-        changed = λ p old same there.
-            let here : place ≡ p = cc in
-            let one : Some node ≡ Some old = sym found ∙ ap (get s) here ∙ there in
-            let both : node ≡ old = cc in
-            ap (get (with_value s place (record node { prev = to }))) (sym here) ∙ updates.changed ∙ ap (λ (x : Node I). Some (record x { prev = to })) both;
-        others = λ other differs. updates.others other (λ same. differs (ap Some (sym same)));
-        len = slab_len-with_value s place _ present;
-        capacity = refl;
-      }
-
-  -- one write through the node at the place
-  pub SetsPrev-write : (old new : Slab (Node I)) (from : Option ℕ) (place : ℕ) (to : Option ℕ) → from ≡ Some place → ContainsKey old place
-      → ((node : Node I) → get old place ≡ Some node → new ≡ with_value old place (record node { prev = to })) → SetsPrev old new from to
-  SetsPrev-write old new from place to is present written =
-      let found = value_at old place present in
-      rw (is, written found.0 found.1) (SetsPrev-with_value old place to found.0 found.1)
+      rw (is, written found.0 found.1) (ChangesNode-with_value change old place found.0 found.1)

@@ -6,7 +6,7 @@ use Rattle.std.proofs.lemmas.Grind.{reverse_onto}
 use Rattle.std.specs.Option.{option_map_or}
 use Rattle.slab.specs.Slab.{Slab, get}
 use Rattle.id_chain.specs.declared.node.Node.{Node}
-use Rattle.id_chain.specs.Chained.{Entry, is_linked, HandlesDiffer, first_or, last_or}
+use Rattle.id_chain.specs.Chain.{Entry, is_linked, HandlesDiffer, first_or, last_or}
 use Rattle.id_chain.specs.Linking.{walk, walk_back, IsRun, SetsNext, SetsPrev}
 use Rattle.id_chain.proofs.Entries.{not_true, first_or-append, last_or-other, last_or-some}
 
@@ -69,7 +69,7 @@ module _ {I : Type 0} where
     IsRun-next old new (Some e.handle) (f ∷ es) next to differ.1 sets run.1,
   )
 
-  -- the first node of a run is linked to what stands before it now
+  -- the first node of a run is linked to what is before it now
   pub IsRun-prev : (old new : Slab (Node I)) (prev : Option ℕ) (es : List (Entry I)) (next to : Option ℕ) → HandlesDiffer es
       → SetsPrev old new (first_or es next) to → IsRun (get old) prev es next → IsRun (get new) to es next
   IsRun-prev old new prev [] next to differ sets run = tt
@@ -85,9 +85,7 @@ module _ {I : Type 0} where
 
   -- two handles of a list with different handles
   pub linked_apart : (handle other : ℕ) (es : List (Entry I)) → is_linked handle es ≡ false → is_linked other es ≡ true → other ≢ handle
-  linked_apart handle other es unlinked linked same =
-      let clash : false ≡ true = sym unlinked ∙ ap (λ p. is_linked p es) (sym same) ∙ linked in
-      cc
+  linked_apart handle other es unlinked linked same = grind (arith, nat_tests)
 
   pub run_linked : (at : ℕ → Option (Node I)) (prev : Option ℕ) (es : List (Entry I)) (next : Option ℕ) (place : ℕ) → IsRun at prev es next → is_linked place es ≡ true
       → (node : Node I) × (at place ≡ Some node)
@@ -105,7 +103,7 @@ module _ {I : Type 0} where
       let clash : None ≡ Some found.0 = sym vacant ∙ found.1 in
       cc)
 
-  -- the first handle is set where nothing stands before, and the last where nothing follows
+  -- the first handle is set where nothing is before, and the last where nothing follows
   pub first_or-linked : (es : List (Entry I)) (old next : Option ℕ) → option_map_or (λ _. first_or es old) (last_or None es) next ≡ first_or es next
   first_or-linked [] old next = refl
   first_or-linked (e ∷ es) old next = let last = last_or-some e.handle es in rw last.1 refl

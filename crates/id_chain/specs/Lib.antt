@@ -1,3 +1,3 @@
-pub mod Chained
+pub mod Chain
 pub mod Linking
-pub mod Stamped
+pub mod StampsRise

@@ -3,7 +3,7 @@ use Rattle.std.specs.Prelude.{◌≡◌, ℕ, zero, suc, false, List, [], ◌∷
 use Rattle.std.specs.Option.{option_map_or}
 use Rattle.slab.specs.Slab.{Slab, get, slab_len}
 use Rattle.id_chain.specs.declared.node.Node.{Node}
-use Rattle.id_chain.specs.Chained.{Entry, is_linked, HandlesDiffer, first_or, first_handle, last_handle}
+use Rattle.id_chain.specs.Chain.{Entry, is_linked, HandlesDiffer, item_at, before, after, first_or, first_handle, last_handle}
 
 module _ {I : Type 0} where
   -- the entries that so many steps by `next` come by, from a place on
@@ -44,16 +44,23 @@ module _ {I : Type 0} where
     pub forward : walk (get nodes) (slab_len nodes) first ≡ es
     pub backward : walk_back (get nodes) (slab_len nodes) last ≡ reverse es
 
-  -- the node at the place, where there is one, has this next, and all else stays
-  pub record SetsNext (old new : Slab (Node I)) (place to : Option ℕ) : Type 0 where
-    pub changed : (p : ℕ) (node : Node I) → place ≡ Some p → get old p ≡ Some node → get new p ≡ Some (record node { next = to })
+  -- the node at the place, where there is one, is changed so, and all else stays
+  pub record ChangesNode (change : Node I → Node I) (old new : Slab (Node I)) (place : Option ℕ) : Type 0 where
+    pub changed : (p : ℕ) (node : Node I) → place ≡ Some p → get old p ≡ Some node → get new p ≡ Some (change node)
     pub others : (other : ℕ) → ¬ (place ≡ Some other) → get new other ≡ get old other
     pub len : slab_len new ≡ slab_len old
     pub capacity : new.capacity ≡ old.capacity
 
-  -- the same of its prev
-  pub record SetsPrev (old new : Slab (Node I)) (place to : Option ℕ) : Type 0 where
-    pub changed : (p : ℕ) (node : Node I) → place ≡ Some p → get old p ≡ Some node → get new p ≡ Some (record node { prev = to })
-    pub others : (other : ℕ) → ¬ (place ≡ Some other) → get new other ≡ get old other
-    pub len : slab_len new ≡ slab_len old
-    pub capacity : new.capacity ≡ old.capacity
+  -- the node at the place has this next
+  abbrev pub SetsNext : Slab (Node I) → Slab (Node I) → Option ℕ → Option ℕ → Type 0
+  SetsNext old new place to = ChangesNode (λ node. record node { next = to }) old new place
+
+  -- the node at the place has this prev
+  abbrev pub SetsPrev : Slab (Node I) → Slab (Node I) → Option ℕ → Option ℕ → Type 0
+  SetsPrev old new place to = ChangesNode (λ node. record node { prev = to }) old new place
+
+  -- a node has the item and the neighbours of a handle's entry
+  pub record IsNodeOf (node : Node I) (handle : ℕ) (es : List (Entry I)) : Type 0 where
+    pub item : item_at handle es ≡ Some node.item
+    pub next : node.next ≡ first_handle (after handle es)
+    pub prev : node.prev ≡ last_handle (before handle es)

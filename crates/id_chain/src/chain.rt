@@ -1,6 +1,6 @@
 //! The chain itself.
-ghost use Rattle.std.specs.Prelude.{◌≡◌, ◌+◌, ◌≤◌, [], ◌∷◌, ◌++◌, length, Some, false, IsTrue, OnOk};
-ghost use Rattle.id_chain.specs.Chained.{is_linked, HandlesDiffer, item_at, before, after, first_handle, last_handle};
+ghost use Rattle.std.specs.Prelude.{◌≡◌, ◌≢◌, ◌↔◌, ℕ, ◌+◌, ◌≤◌, [], ◌∷◌, ◌++◌, length, Some, false, IsTrue, IsOk, IfSome, OnOk};
+ghost use Rattle.id_chain.specs.Chain.{is_linked, HandlesDiffer, item_at, before, after, up_to, without_handle, first_handle, last_handle};
 
 use crate::handle::Handle;
 use crate::node::{Node, link_next, link_prev};
@@ -24,11 +24,11 @@ pub struct Chain<I: Copy> {
 impl<I: Copy> Model for Chain<I> {
     ghost use Rattle.std.specs.Prelude.{◌-◌};
     ghost use Rattle.slab.specs.Slab.{slab_len};
-    ghost use Rattle.id_chain.specs.Chained.{Chained, chained_code};
+    ghost use Rattle.id_chain.specs.Chain.{ChainState, chain_code};
 
-    ghost Value = { Chained I };
+    ghost Value = { ChainState I };
 
-    ghost coded = { chained_code I.code };
+    ghost coded = { chain_code I.code };
 
     ghost use Rattle.id_chain.specs.Linking.{list_of, Refines};
 
@@ -41,6 +41,8 @@ impl<I: Copy> Model for Chain<I> {
 }
 
 impl<I: Copy> Chain<I> {
+    ghost use Rattle.id_chain.specs.Linking.{IsNodeOf};
+
     /// An empty chain, which takes its memory from `alloc` later, in [`reserve`](Chain::reserve).
     pub fn new(alloc: Global) -> Chain<I>
         ensures { result.entries ≡ [] }
@@ -52,14 +54,15 @@ impl<I: Copy> Chain<I> {
         }
     }
 
-    /// Makes room for one more append. It takes no memory where there is room.
+    /// Makes room for one more append. Where there is room it does nothing, and is `Ok`.
     pub fn reserve(&mut self) -> Result<(), NoMemory>
         ensures room { OnOk result (1 ≤ self.new.spare) }
         ensures entries { self.new.entries ≡ self.old.entries }
         ensures spare { self.old.spare ≤ self.new.spare }
+        ensures succeeds { 1 ≤ self.old.spare → IsOk result }
+        ensures had_room { 1 ≤ self.old.spare → self.new ≡ self.old }
     {
-        self.nodes.reserve(1)?;
-        Ok(())
+        self.nodes.reserve(1).map_err(NoMemory::from)
     }
 
     /// How many appends need no further memory.
@@ -74,6 +77,10 @@ impl<I: Copy> Chain<I> {
         requires { 1 ≤ self.old.spare }
         ensures new_handle { is_linked result self.old.entries ≡ false }
         ensures entries { self.new.entries ≡ self.old.entries ++ record { handle = result; item = item } ∷ [] }
+
+        // What is before a handle stays.
+        ensures before { (other : ℕ) → IsTrue (is_linked other self.old.entries)
+            → before other self.new.entries ≡ before other self.old.entries }
         ensures spare { self.old.spare ≤ self.new.spare + 1 }
     {
         let place = self.nodes.insert_reserved(Node {
@@ -87,11 +94,21 @@ impl<I: Copy> Chain<I> {
         handle
     }
 
-    /// Takes an item out and links its neighbours to each other. Its handle and no other is no longer good.
+    /// Takes an item out and links its neighbours to each other. Its handle isn't linked any more; all others are.
     pub fn unlink(&mut self, handle: Handle) -> I
         requires { IsTrue (is_linked handle self.old.entries) }
         ensures item { item_at handle self.old.entries ≡ Some result }
-        ensures entries { self.new.entries ≡ before handle self.old.entries ++ after handle self.old.entries }
+        ensures entries { self.new.entries ≡ without_handle handle self.old.entries }
+
+        // Before any other handle there is what was before it, but for the unlinked entry.
+        ensures before { (other : ℕ) → other ≢ handle
+            → before other self.new.entries ≡ without_handle handle (before other self.old.entries) }
+        ensures before_kept { (other : ℕ) → other ≢ handle → is_linked handle (before other self.old.entries) ≡ false
+            → before other self.new.entries ≡ before other self.old.entries }
+
+        // Before the next handle there is what was before the unlinked one.
+        ensures before_next { (next : ℕ) → first_handle (after handle self.old.entries) ≡ Some next
+            → before next self.new.entries ≡ before handle self.old.entries }
         ensures spare { self.old.spare ≤ self.new.spare }
     {
         let node = self.nodes.remove(handle.place);
@@ -100,7 +117,7 @@ impl<I: Copy> Chain<I> {
         node.item
     }
 
-    /// Whether the handle is good.
+    /// Whether the handle is linked.
     pub fn has(&self, handle: Handle) -> bool
         ensures { result ≡ is_linked handle self.now.entries }
     {
@@ -112,35 +129,51 @@ impl<I: Copy> Chain<I> {
         requires { IsTrue (is_linked handle self.now.entries) }
         ensures { item_at handle self.now.entries ≡ Some result }
     {
-        self.nodes[handle.place].item
+        self.node(handle).item
     }
 
-    /// The handle of the item that was appended next of those that are linked, or `None` at the end.
+    // The node under a handle.
+    fn node(&self, handle: Handle) -> &Node<I>
+        requires { IsTrue (is_linked handle self.now.entries) }
+        ensures node { IsNodeOf result.now handle self.now.entries }
+        ensures differ { HandlesDiffer self.now.entries }
+    {
+        &self.nodes[handle.place]
+    }
+
+    /// The handle of the item after this one, or `None` at the end.
     pub fn next(&self, handle: Handle) -> Option<Handle>
         requires { IsTrue (is_linked handle self.now.entries) }
-        ensures { result ≡ first_handle (after handle self.now.entries) }
+        ensures neighbour { result ≡ first_handle (after handle self.now.entries) }
+        ensures linked { IfSome result (λ next. IsTrue (is_linked next self.now.entries)) }
+
+        // What is before the next handle is what is before this one, and this one's entry.
+        ensures before { IfSome result (λ next. before next self.now.entries ≡ up_to handle self.now.entries) }
     {
-        self.nodes[handle.place].next
+        self.node(handle).next
     }
 
-    /// The handle of the item that was appended just before of those that are linked, or `None` at the front.
+    /// The handle of the item before this one, or `None` at the front.
     pub fn prev(&self, handle: Handle) -> Option<Handle>
         requires { IsTrue (is_linked handle self.now.entries) }
-        ensures { result ≡ last_handle (before handle self.now.entries) }
+        ensures neighbour { result ≡ last_handle (before handle self.now.entries) }
+        ensures linked { IfSome result (λ prev. IsTrue (is_linked prev self.now.entries)) }
     {
-        self.nodes[handle.place].prev
+        self.node(handle).prev
     }
 
     /// The handle at the front, or `None` where the chain is empty.
     pub fn first(&self) -> Option<Handle>
-        ensures { result ≡ first_handle self.now.entries }
+        ensures end { result ≡ first_handle self.now.entries }
+        ensures linked { IfSome result (λ first. IsTrue (is_linked first self.now.entries)) }
     {
         self.first
     }
 
     /// The handle at the end, or `None` where the chain is empty.
     pub fn last(&self) -> Option<Handle>
-        ensures { result ≡ last_handle self.now.entries }
+        ensures end { result ≡ last_handle self.now.entries }
+        ensures linked { IfSome result (λ last. IsTrue (is_linked last self.now.entries)) }
     {
         self.last
     }
@@ -151,5 +184,12 @@ impl<I: Copy> Chain<I> {
         ensures differ { HandlesDiffer self.now.entries }
     {
         self.nodes.len()
+    }
+
+    /// Whether no item is linked.
+    pub fn is_empty(&self) -> bool
+        ensures { IsTrue result ↔ (self.now.entries ≡ []) }
+    {
+        self.len() == 0
     }
 }

@@ -5,8 +5,8 @@ use std::marker::Model;
 
 /// The place of an item in its [`Chain`](crate::Chain).
 ///
-/// It is good while its item is linked. After that the place is used again, so the handle may come to stand for another
-/// item.
+/// It is linked while its item is in the chain. After that the place is used again: a later append may give out the same
+/// handle for another item.
 #[derive(Clone, Copy, Debug, PartialEq, Eq)]
 pub struct Handle {
     pub(crate) place: usize,

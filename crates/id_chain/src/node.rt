@@ -31,7 +31,7 @@ fn set_prev<I: Copy>(nodes: &mut Slab<Node<I>>, place: usize, to: Option<Handle>
     nodes[place].prev = to;
 }
 
-/// Links `to` behind a node, or at the front where there is none.
+/// Links `to` after a node, or at the front where there is none.
 pub(crate) fn link_next<I: Copy>(
     nodes: &mut Slab<Node<I>>,
     first: &mut Option<Handle>,

@@ -7,11 +7,11 @@ use Rattle.std.proofs.lemmas.Map.Lookups.{exact_unsigned}
 use Rattle.std.specs.Ordering.{nat_cmp, is_eq}
 use Rattle.std.specs.Option.{option_map_or}
 use Rattle.std.specs.BTreeMap.{BTreeMap, get, is_at, UpdatesBy}
-use Rattle.id_chain.specs.Chained.{Entry, is_linked, HandlesDiffer, before, after}
-use Rattle.id_chain.specs.Stamped.{StampsRise}
+use Rattle.id_chain.specs.Chain.{Entry, is_linked, HandlesDiffer, before, after}
+use Rattle.id_chain.specs.StampsRise.{StampsRise}
 use Rattle.id_chain.proofs.Entries.{not_true, Apart-parts, HandlesDiffer-append, linked_tail, unlinked_head, unlinked_more}
 use Rattle.id_chain.proofs.Stamps.{StampsRise-append, StampsRise-without}
-use Rattle.id_directory.specs.Registered.{Registered, handle_of, without, IdsDiffer}
+use Rattle.id_directory.specs.Directory.{DirectoryState, handle_of, without, IdsDiffer}
 use Rattle.id_directory.specs.Agreement.{is_pending, slot_of, Agrees}
 use Rattle.id_directory.proofs.Identifiers.{other_test, find_id, handle_of-other, handle_of-removed, IdsDiffer-without, handle_of-push, handle_of-pushed, IdsDiffer-push, same_by_handle}
 
@@ -32,7 +32,7 @@ slot_handle None false handle slot = absurd (cc)
 
 -- directories with the same parts are seen as one
 pub same_registered : {I : Type 0} (es fs : List (Entry I)) (m n : ℕ) (p q : Option ℕ) → es ≡ fs → m ≡ n → p ≡ q
-    → ◌≡◌ {A = Registered I} (record { entries = es; adds = m; pending = p }) (record { entries = fs; adds = n; pending = q })
+    → ◌≡◌ {A = DirectoryState I} (record { entries = es; adds = m; pending = p }) (record { entries = fs; adds = n; pending = q })
 same_registered es fs m n p q entries adds pending = rw (entries, adds, pending) refl
 
 module _ {I : Type 0} (id_of stamp : I → ℕ) where

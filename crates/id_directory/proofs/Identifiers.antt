@@ -2,9 +2,9 @@
 use Rattle.std.proofs.Common.{◌≡◌, ◌≢◌, ℕ, ◌==◌, true, false, List, [], ◌∷◌, ◌++◌, Some, None, refl, sym, ap, ◌∙◌, subst, arith, inl, inr}
 use Rattle.std.proofs.lemmas.Bool.{cases_eq}
 use Rattle.std.proofs.lemmas.Bool.Decides.{nat_tests}
-use Rattle.id_chain.specs.Chained.{Entry, is_linked, HandlesDiffer, item_at, before, after}
+use Rattle.id_chain.specs.Chain.{Entry, is_linked, HandlesDiffer, item_at, before, after}
 use Rattle.id_chain.proofs.Entries.{linked_head, Apart-parts, before-split, after-split, item_at-split, linked_tail}
-use Rattle.id_directory.specs.Registered.{handle_of, item_of, without, IdsDiffer}
+use Rattle.id_directory.specs.Directory.{handle_of, item_of, without, IdsDiffer}
 
 pub same_test : (a b : ℕ) → a ≡ b → (a == b) ≡ true
 same_test a b same = grind (arith, nat_tests)

@@ -3,9 +3,9 @@ use Rattle.std.proofs.Common.{◌≡◌, ℕ, ◌+◌, ◌-◌, ◌<◌, ◌≤�
 use Rattle.std.proofs.Math.Seq.{take-append_seam, take-append-add}
 use Rattle.std.proofs.lemmas.List.{take-append-drop, length-take, length-reverse, reverse-append, map-append, take_all, length-map, length-drop}
 use Rattle.std.proofs.lemmas.Grind.{reverse_onto}
-use Rattle.id_chain.specs.Chained.{Entry, is_linked, HandlesDiffer, item_at, before, last_handle}
+use Rattle.id_chain.specs.Chain.{Entry, is_linked, HandlesDiffer, item_at, before, last_handle}
 use Rattle.id_chain.proofs.Entries.{is_linked-append, front_and_last, last_or-append, linked_head, Apart-parts, before-split, item_at-split}
-use Rattle.id_directory.specs.Registered.{ids}
+use Rattle.id_directory.specs.Directory.{ids}
 
 take_next : (xs : List ℕ) (y : ℕ) (ys : List ℕ) → take (length xs + 1) (xs ++ y ∷ ys) ≡ take (length xs) (xs ++ y ∷ ys) ++ y ∷ []
 take_next xs y ys = take-append-add xs (y ∷ ys) 1 ∙ ap (λ zs. zs ++ y ∷ []) (sym (take-append_seam xs (y ∷ ys)))

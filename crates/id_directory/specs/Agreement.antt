@@ -3,9 +3,9 @@ use Rattle.std.specs.Prelude.{◌≡◌, ℕ, ◌==◌, ◌≤◌, Bool, false, 
 use Rattle.std.specs.Ordering.{nat_cmp}
 use Rattle.std.specs.Option.{option_map_or}
 use Rattle.std.specs.BTreeMap.{BTreeMap, get}
-use Rattle.id_chain.specs.Chained.{Entry, HandlesDiffer}
-use Rattle.id_chain.specs.Stamped.{StampsRise}
-use Rattle.id_directory.specs.Registered.{handle_of, IdsDiffer}
+use Rattle.id_chain.specs.Chain.{Entry, HandlesDiffer}
+use Rattle.id_chain.specs.StampsRise.{StampsRise}
+use Rattle.id_directory.specs.Directory.{handle_of, IdsDiffer}
 
 -- whether an add is prepared for this identifier
 abbrev pub is_pending : ℕ → Option ℕ → Bool

@@ -1,8 +1,8 @@
 //! The directory itself.
 ghost use Rattle.std.specs.Prelude.{◌≡◌, ◌+◌, ◌<◌, ◌≤◌, ◌^◌, [], ◌∷◌, ◌++◌, Some, None, false, OnOk, OnErr, IsSome, take, reverse};
-ghost use Rattle.id_chain.specs.Chained.{is_linked, HandlesDiffer, before, after};
-ghost use Rattle.id_chain.specs.Stamped.{StampsRise};
-ghost use Rattle.id_directory.specs.Registered.{ids, handle_of, item_of, without, IdsDiffer};
+ghost use Rattle.id_chain.specs.Chain.{is_linked, HandlesDiffer, before, after};
+ghost use Rattle.id_chain.specs.StampsRise.{StampsRise};
+ghost use Rattle.id_directory.specs.Directory.{ids, handle_of, item_of, without, IdsDiffer};
 
 use crate::slots::{fill, take};
 use id_chain::{Chain, Handle};
@@ -26,11 +26,11 @@ pub struct Directory<I: Named> {
 }
 
 impl<I: Named> Model for Directory<I> {
-    ghost use Rattle.id_directory.specs.Registered.{Registered, registered_code};
+    ghost use Rattle.id_directory.specs.Directory.{DirectoryState, directory_code};
 
-    ghost Value = { Registered I };
+    ghost Value = { DirectoryState I };
 
-    ghost coded = { registered_code I.code };
+    ghost coded = { directory_code I.code };
 
     ghost use Rattle.id_directory.specs.Agreement.{Agrees};
 

@@ -1,5 +1,5 @@
 -- What a run says of its endings, where the source and the sink tell their bytes.
-use Rattle.std.proofs.Common.{◌≡◌, ℕ, ◌+◌, List, [], ◌∷◌, ◌++◌, length, take, Option, Some, None, sym, ap, ◌∙◌, subst, append-nil, length-append, take_at}
+use Rattle.std.proofs.Common.{◌≡◌, ℕ, ◌+◌, ◌≤◌, ◌⊎◌, inl, inr, refl, List, [], ◌∷◌, ◌++◌, length, take, Option, Some, None, sym, ap, ◌∙◌, subst, append-nil, length-append, take_at}
 use Rattle.std.specs.Io.KnownBytes.{Appends, Consumes}
 use Rattle.map_model.specs.State.{State, empty_map}
 use Rattle.map_model.specs.Text.{lines, whole_lines}
@@ -8,8 +8,9 @@ use Rattle.map_model.proofs.OutputLemmas.{Interrupted-append}
 use Rattle.map_model.proofs.TextLemmas.{lines_begin_whole}
 use Rattle.live_map.specs.declared.intake.Ending.{Ending}
 use Rattle.live_map.specs.declared.intake.Ending.TheVariants.{End, Fault, TooLong}
+use Rattle.live_map.specs.declared.run.Status.{Status}
 use Rattle.live_map.specs.declared.run.Status.TheVariants as statuses
-use Rattle.live_map.specs.Run.{script_limit, Told, TakenIn, IsOutput, IsInterrupted, IsStopped, script_of, AnswersText}
+use Rattle.live_map.specs.Run.{script_limit, Told, ToldTaken, TakenIn, IsOutput, IsInterrupted, IsStopped, script_of, AnswersText}
 use Rattle.live_map.specs.Session.{SessionState, new_session}
 
 -- what is told holds of any bytes that were taken and appended
@@ -17,6 +18,30 @@ pub told : (rest rest' written written' : Option (List ℕ)) (taken bytes : List
 told None rest' written written' taken bytes P c a h = tt
 told (Some left) rest' None written' taken bytes P c a h = tt
 told (Some left) rest' (Some before) written' taken bytes P c a h = (taken, bytes, c, a, h left)
+
+-- what is told of the taken bytes alone
+pub told_taken : (rest rest' : Option (List ℕ)) (taken : List ℕ) (P : List ℕ → Type 0) → Consumes rest rest' taken → P taken → ToldTaken rest rest' P
+told_taken None rest' taken P c h = tt
+told_taken (Some left) rest' taken P c h = (taken, c, h)
+
+-- what is told of the bytes that a run with this ending took in
+pub told_ending : (ending : Ending) (text : List ℕ) (rest rest' : Option (List ℕ)) (P : List ℕ → Type 0) → TakenIn ending rest rest' text
+    → ((taken : List ℕ) → (length taken ≤ script_limit) ⊎ ((length taken ≡ script_limit + 1) × (ending ≡ TooLong)) → P taken) → ToldTaken rest rest' P
+told_ending End text rest rest' P t h = told_taken rest rest' text P t.1 (h text (inl t.0))
+told_ending Fault text rest rest' P t h = told_taken rest rest' text P t.1 (h text (inl t.0))
+told_ending TooLong text rest rest' P t h =
+    told_taken rest rest' (text ++ t.1.0 ∷ []) P t.1.1 (h (text ++ t.1.0 ∷ []) (inr (length-append text (t.1.0 ∷ []) ∙ ap (λ n. n + 1) t.0, refl)))
+
+-- a text that ended by its length is answered so, or writing stopped
+pub too_long_status : (ending : Ending) (text : List ℕ) (written written' : Option (List ℕ)) (status : Status) → AnswersText ending text written written' status → ending ≡ TooLong
+    → (status ≡ statuses.TooLong) ⊎ ((status ≡ statuses.WriteFault) ⊎ (status ≡ statuses.NoMemory))
+too_long_status ending text written written' statuses.Clean a is = absurd (let none : ⊥ = cc (a.0) in none)
+too_long_status ending text written written' statuses.Refusals a is = absurd (let none : ⊥ = cc (a.0) in none)
+too_long_status ending text written written' statuses.Usage a is = absurd a
+too_long_status ending text written written' statuses.ReadFault a is = absurd (let none : ⊥ = cc (a.0) in none)
+too_long_status ending text written written' statuses.WriteFault a is = inr (inl refl)
+too_long_status ending text written written' statuses.TooLong a is = inl refl
+too_long_status ending text written written' statuses.NoMemory a is = absurd a
 
 interrupted_in_more : (text more bytes : List ℕ) → IsInterrupted (whole_lines text) bytes → IsInterrupted (lines (text ++ more)) bytes
 interrupted_in_more text more bytes h =

@@ -4,7 +4,7 @@ use Rattle.std.proofs.lemmas.List.{drop_more, take_rest, get_or-take}
 use Rattle.std.proofs.lemmas.Bool.{eqb-true, and_from, not_from_false, false_from_ne_true}
 use Rattle.std.specs.Io.KnownBytes.{Appends}
 use Rattle.std.proofs.KnownBytes.{Appends-nil, Appends-trans}
-use Rattle.map_io.specs.Parts.{AppendsPart}
+use Rattle.map_io.specs.ProperPrefix.{AppendsProperPrefix}
 use Rattle.map_model.specs.Reply.{written_for, refusal_count}
 use Rattle.map_model.specs.State.{State}
 use Rattle.map_model.specs.Text.{lines, whole_lines, one_line, refusals}
@@ -102,24 +102,24 @@ last_answered start now now' written w w' text rest given p unended some e a = r
 
 -- ---- a fault
 
-stopped : (start now now' : SessionState) (written w w' : Option (List ℕ)) (answered more script : List (List ℕ)) (line bytes : List ℕ) (given : Answer) → script ≡ answered ++ line ∷ more → Output start.map answered bytes now.map → Appends written w bytes → Executes now now' line given → AppendsPart w w' (written_for given.reply) → IsStopped start written script now' w'
-stopped start now now' written w w' answered more script line bytes given split p appended e part = record {
-  bytes = bytes ++ take part.0 (written_for given.reply);
-  interrupted = subst (λ (s : State). Interrupted start.map script (bytes ++ take part.0 (written_for given.reply)) s) (sym e.map) (Interrupted-from start.map now.map answered more script line bytes given part.0 split p e.answers part.1);
-  appended = Appends-trans written w w' bytes (take part.0 (written_for given.reply)) appended part.2;
+stopped : (start now now' : SessionState) (written w w' : Option (List ℕ)) (answered more script : List (List ℕ)) (line bytes : List ℕ) (given : Answer) → script ≡ answered ++ line ∷ more → Output start.map answered bytes now.map → Appends written w bytes → Executes now now' line given → AppendsProperPrefix w w' (written_for given.reply) → IsStopped start written script now' w'
+stopped start now now' written w w' answered more script line bytes given split p appended e prefix = record {
+  bytes = bytes ++ take prefix.0 (written_for given.reply);
+  interrupted = subst (λ (s : State). Interrupted start.map script (bytes ++ take prefix.0 (written_for given.reply)) s) (sym e.map) (Interrupted-from start.map now.map answered more script line bytes given prefix.0 split p e.answers prefix.1);
+  appended = Appends-trans written w w' bytes (take prefix.0 (written_for given.reply)) appended prefix.2;
 }
 
 -- writing stopped in a line that a line feed ends
-pub stopped_whole : (start now now' : SessionState) (written w w' : Option (List ℕ)) (text rest line after : List ℕ) (given : Answer) → Progress start written text rest now w → rest ≡ line ++ 10 ∷ after → one_line line ≡ true → Executes now now' line given → AppendsPart w w' (written_for given.reply) → IsStopped start written (whole_lines text) now' w'
-stopped_whole start now now' written w w' text rest line after given p split ended e part =
+pub stopped_whole : (start now now' : SessionState) (written w w' : Option (List ℕ)) (text rest line after : List ℕ) (given : Answer) → Progress start written text rest now w → rest ≡ line ++ 10 ∷ after → one_line line ≡ true → Executes now now' line given → AppendsProperPrefix w w' (written_for given.reply) → IsStopped start written (whole_lines text) now' w'
+stopped_whole start now now' written w w' text rest line after given p split ended e prefix =
     stopped start now now' written w w' p.answered (whole_lines after) (whole_lines text) line p.bytes given
-    (p.whole ∙ ap (λ (ls : List (List ℕ)). p.answered ++ ls) (ap whole_lines split ∙ whole_lines-line line after ended)) p.output p.appended e part
+    (p.whole ∙ ap (λ (ls : List (List ℕ)). p.answered ++ ls) (ap whole_lines split ∙ whole_lines-line line after ended)) p.output p.appended e prefix
 
 -- writing stopped in the last line, which no line feed ends
-pub stopped_last : (start now now' : SessionState) (written w w' : Option (List ℕ)) (text rest : List ℕ) (given : Answer) → Progress start written text rest now w → one_line rest ≡ true → 0 < length rest → Executes now now' rest given → AppendsPart w w' (written_for given.reply) → IsStopped start written (lines text) now' w'
-stopped_last start now now' written w w' text rest given p unended some e part =
+pub stopped_last : (start now now' : SessionState) (written w w' : Option (List ℕ)) (text rest : List ℕ) (given : Answer) → Progress start written text rest now w → one_line rest ≡ true → 0 < length rest → Executes now now' rest given → AppendsProperPrefix w w' (written_for given.reply) → IsStopped start written (lines text) now' w'
+stopped_last start now now' written w w' text rest given p unended some e prefix =
     stopped start now now' written w w' p.answered [] (lines text) rest p.bytes given
-    (p.all ∙ ap (λ (ls : List (List ℕ)). p.answered ++ ls) (one_last rest unended some)) p.output p.appended e part
+    (p.all ∙ ap (λ (ls : List (List ℕ)). p.answered ++ ls) (one_last rest unended some)) p.output p.appended e prefix
 
 -- more text behind the whole lines that writing stopped in
 pub stopped_in_more : (start now : SessionState) (written w : Option (List ℕ)) (text more : List ℕ) → IsStopped start written (whole_lines text) now w → IsStopped start written (lines (text ++ more)) now w

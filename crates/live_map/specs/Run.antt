@@ -1,7 +1,7 @@
 -- What a run takes in and writes.
 use Rattle.std.specs.Prelude.{◌≡◌, ℕ, ◌+◌, ◌<◌, ◌≤◌, ⊤, List, [], ◌∷◌, ◌++◌, length, take, Option, Some, None, codes}
 use Rattle.std.specs.Io.KnownBytes.{Appends, Consumes, IsAtEnd}
-use Rattle.map_io.specs.Parts.{AppendsPart}
+use Rattle.map_io.specs.ProperPrefix.{AppendsProperPrefix}
 use Rattle.map_model.specs.State.{empty_map}
 use Rattle.map_model.specs.Text.{lines, whole_lines, refusals}
 use Rattle.map_model.specs.Output.{Output, Interrupted}
@@ -36,10 +36,6 @@ IsOutput script written = (end : State) × Output empty_map script written end
 abbrev pub IsInterrupted : List (List ℕ) → List ℕ → Type 0
 IsInterrupted script written = (end : State) × Interrupted empty_map script written end
 
--- a front of the bytes, and not all of them
-abbrev pub IsPart : List ℕ → List ℕ → Type 0
-IsPart whole part = (n : ℕ) × (n < length whole) × (part ≡ take n whole)
-
 -- Where a source and a sink tell their bytes: P holds of what the source had left, of the bytes that were taken from
 -- it, and of those that were appended to the sink.
 abbrev pub Told : Option (List ℕ) → Option (List ℕ) → Option (List ℕ) → Option (List ℕ) → (List ℕ → List ℕ → List ℕ → Type 0) → Type 0
@@ -47,6 +43,11 @@ Told None rest' written written' P = ⊤
 Told (Some left) rest' None written' P = ⊤
 Told (Some left) rest' (Some before) written' P =
     (taken : List ℕ) × (written : List ℕ) × Consumes (Some left) rest' taken × Appends (Some before) written' written × P left taken written
+
+-- Where a source tells its bytes: P holds of those that were taken from it.
+abbrev pub ToldTaken : Option (List ℕ) → Option (List ℕ) → (List ℕ → Type 0) → Type 0
+ToldTaken None rest' P = ⊤
+ToldTaken (Some left) rest' P = (taken : List ℕ) × Consumes (Some left) rest' taken × P taken
 
 -- ---- taking in
 
@@ -56,9 +57,9 @@ TakenIn endings.End rest rest' text = (length text ≤ script_limit) × Consumes
 TakenIn endings.Fault rest rest' text = (length text ≤ script_limit) × Consumes rest rest' text
 TakenIn endings.TooLong rest rest' text = (length text ≡ script_limit) × ((byte : ℕ) × Consumes rest rest' (text ++ byte ∷ []))
 
--- some bytes were taken
-abbrev pub TakesSome : Option (List ℕ) → Option (List ℕ) → Type 0
-TakesSome rest rest' = (bytes : List ℕ) × Consumes rest rest' bytes
+-- at most n bytes were taken
+abbrev pub TakesWithin : ℕ → Option (List ℕ) → Option (List ℕ) → Type 0
+TakesWithin n rest rest' = (bytes : List ℕ) × Consumes rest rest' bytes × (length bytes ≤ n)
 
 -- ---- answering
 
@@ -102,12 +103,12 @@ AnswersText ending text written written' WriteFault = (bytes : List ℕ) × Appe
 AnswersText ending text written written' TooLong = (ending ≡ endings.TooLong) × ((bytes : List ℕ) × Appends written written' bytes × IsOutput (whole_lines text) bytes)
 AnswersText ending text written written' NoMemory = ⊥
 
--- the usage line was written, or a part of it
+-- the usage line was written, or a proper prefix of it
 abbrev pub WritesUsage : Option (List ℕ) → Option (List ℕ) → Status → Type 0
 WritesUsage written written' Clean = ⊥
 WritesUsage written written' Refusals = ⊥
 WritesUsage written written' Usage = Appends written written' usage_line
 WritesUsage written written' ReadFault = ⊥
-WritesUsage written written' WriteFault = AppendsPart written written' usage_line
+WritesUsage written written' WriteFault = AppendsProperPrefix written written' usage_line
 WritesUsage written written' TooLong = ⊥
 WritesUsage written written' NoMemory = ⊥

@@ -19,6 +19,7 @@ pub fn answer_lines<K: Sink>(
     ensures stopped { OnErr result (IsStopped session.old (K.written sink.old) (lines text.now) session.new (K.written sink.new)) }
     ensures kept { K.faults sink.old ≤ K.faults sink.new }
     ensures failed { OnErr result (Rose (K.faults sink.old) (K.faults sink.new)) }
+    ensures succeeded { OnOk result (K.faults sink.new ≡ K.faults sink.old) }
 {
     let rest = answer_ended_lines(session, text, sink)?;
     if !rest.is_empty() {
@@ -38,6 +39,7 @@ pub fn answer_whole_lines<K: Sink>(
     ensures stopped { OnErr result (IsStopped session.old (K.written sink.old) (whole_lines text.now) session.new (K.written sink.new)) }
     ensures kept { K.faults sink.old ≤ K.faults sink.new }
     ensures failed { OnErr result (Rose (K.faults sink.old) (K.faults sink.new)) }
+    ensures succeeded { OnOk result (K.faults sink.new ≡ K.faults sink.old) }
 {
     answer_ended_lines(session, text, sink)?;
     Ok(())
@@ -55,6 +57,7 @@ fn answer_ended_lines<'a, K: Sink>(
     ensures stopped { OnErr result (IsStopped session.old (K.written sink.old) (whole_lines text.now) session.new (K.written sink.new)) }
     ensures kept { K.faults sink.old ≤ K.faults sink.new }
     ensures failed { OnErr result (Rose (K.faults sink.old) (K.faults sink.new)) }
+    ensures succeeded { OnOk result (K.faults sink.new ≡ K.faults sink.old) }
 {
     let mut rest = text;
     while let Some((line, after)) = split_line(rest) {

@@ -1,8 +1,8 @@
 // Taking in a script.
-ghost use Rattle.std.specs.Prelude.{◌≡◌, ◌<◌, ◌≤◌, ℕ, List, [], ◌++◌, length, IfOk, OnOk, OnErr, MatchResult, Ok, Some, ◌-◌, min, max};
+ghost use Rattle.std.specs.Prelude.{◌≡◌, ◌≢◌, ◌<◌, ◌≤◌, ℕ, List, [], ◌++◌, length, IfOk, OnOk, OnErr, MatchResult, Ok, Some, ◌-◌, min, max};
 ghost use Rattle.std.specs.Io.KnownBytes.{Consumes};
 ghost use Rattle.map_io.specs.Faults.{Rose};
-ghost use Rattle.live_map.specs.Run.{script_limit, TakenIn, TakesSome};
+ghost use Rattle.live_map.specs.Run.{script_limit, TakenIn, TakesWithin};
 ghost use Rattle.live_map.specs.Intake.{Takes};
 
 use map_io::{Failed, Source};
@@ -29,9 +29,10 @@ pub enum Ending {
 pub fn take_in<S: Source>(text: &mut Vec<u8>, source: &mut S) -> Result<Ending, AllocError>
     requires { text.old.items ≡ [] }
     ensures taken { IfOk result (λ ending. TakenIn ending (S.rest source.old) (S.rest source.new) text.new.items) }
-    ensures no_memory { OnErr result (TakesSome (S.rest source.old) (S.rest source.new)) }
+    ensures no_memory { OnErr result (TakesWithin script_limit (S.rest source.old) (S.rest source.new)) }
     ensures kept { S.faults source.old ≤ S.faults source.new }
     ensures failed { result ≡ Ok Ending.Fault → Rose (S.faults source.old) (S.faults source.new) }
+    ensures succeeded { result ≢ Ok Ending.Fault → S.faults source.new ≡ S.faults source.old }
 {
     loop {
         if let Some(ending) = take_piece(text, source)? {
@@ -45,9 +46,10 @@ fn take_piece<S: Source>(text: &mut Vec<u8>, source: &mut S) -> Result<Option<En
     requires { length text.old.items ≤ script_limit }
     ensures taken { MatchResult result
         (λ ending. Takes ending (S.rest source.old) (S.rest source.new) text.old.items text.new.items)
-        (λ _. TakesSome (S.rest source.old) (S.rest source.new)) }
+        (λ _. TakesWithin (script_limit - length text.old.items) (S.rest source.old) (S.rest source.new)) }
     ensures kept { S.faults source.old ≤ S.faults source.new }
     ensures failed { result ≡ Ok (Some Ending.Fault) → Rose (S.faults source.old) (S.faults source.new) }
+    ensures succeeded { result ≢ Ok (Some Ending.Fault) → S.faults source.new ≡ S.faults source.old }
 {
     let mut piece = [0u8; PIECE];
     let wanted = piece_len(text.len());

@@ -6,36 +6,71 @@ mod intake;
 pub mod map_session;
 mod run;
 
+ghost use Rattle.std.specs.Prelude.{◌≡◌, ◌≢◌, drop};
+ghost use Rattle.std.specs.Process.{exit_status};
+ghost use Rattle.std.specs.IoError.{error_kind};
+ghost use Rattle.live_map.specs.Run.{code_of};
+
 use map_io::{StdSink, StdSource};
 pub use run::{Status, run};
 use std::process::ExitCode;
 use std::rt::Env;
+use std::io::ErrorKind;
 use std::{env, io};
 
-/// The exit status where no memory is found for the words.
+/// The exit status where no memory is found for the arguments.
 const NO_MEMORY: u8 = 6;
 
-/// The exit status where the words are refused for another cause, as one that isn't UTF-8.
-const NO_WORDS: u8 = 7;
+/// The exit status where the arguments are refused for another cause, as one that isn't UTF-8.
+const NO_ARGUMENTS: u8 = 7;
 
 fn main(rt: HostRuntime) -> ExitCode {
-    let words = match words(&rt) {
-        Ok(words) => words,
-        Err(error) if error.kind() == io::ErrorKind::OutOfMemory => {
-            return ExitCode::from(NO_MEMORY);
-        }
-        Err(_) => return ExitCode::from(NO_WORDS),
+    let arguments = match arguments(&rt) {
+        Ok(arguments) => arguments,
+        Err(error) => return exit_code_without_arguments(&error),
     };
     let mut source = StdSource::new(rt.stdin());
     let mut sink = StdSink::new(rt.stdout());
-    let status = run(rt.alloc(), &words, &mut source, &mut sink);
-    ExitCode::from(status.code())
+    exit_code(run(
+        rt.alloc(),
+        words_of(&arguments),
+        &mut source,
+        &mut sink,
+    ))
+}
+
+/// The list of arguments, of which the first is the program's name.
+fn arguments<R: Env + AllocGlobal>(rt: &R) -> io::Result<Vec<String>> {
+    let arguments = env::args(rt)?.collect(rt.alloc())?;
+    Ok(arguments)
 }
 
 /// The words after the program's name.
-fn words<R: Env + AllocGlobal>(rt: &R) -> io::Result<Vec<String>> {
-    let words = env::args(rt)?.skip(1).collect(rt.alloc())?;
-    Ok(words)
+fn words_of(arguments: &[String]) -> &[String]
+    ensures { result.now ≡ drop 1 arguments.now }
+{
+    match arguments {
+        [] => arguments,
+        [_, words @ ..] => words,
+    }
+}
+
+/// What the program ends with.
+fn exit_code(status: Status) -> ExitCode
+    ensures { exit_status result ≡ code_of status }
+{
+    ExitCode::from(status.code())
+}
+
+/// What the program ends with where the arguments can't be had.
+fn exit_code_without_arguments(error: &io::Error) -> ExitCode
+    ensures no_memory { error_kind error.now ≡ ErrorKind.OutOfMemory → exit_status result ≡ NO_MEMORY }
+    ensures refused { error_kind error.now ≢ ErrorKind.OutOfMemory → exit_status result ≡ NO_ARGUMENTS }
+{
+    match error.kind() {
+        ErrorKind::OutOfMemory => ExitCode::from(NO_MEMORY),
+        _ => ExitCode::from(NO_ARGUMENTS),
+    }
 }
 
 #[cfg(test)]

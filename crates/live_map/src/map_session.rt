@@ -42,10 +42,10 @@ impl Model for Session {
 }
 
 impl Session {
-    ghost use Rattle.std.specs.Prelude.{◌≡◌, ◌↔◌, ◌+◌, ◌<◌, ◌≤◌, ◌^◌, IfOk, OnErr, Ok, None};
+    ghost use Rattle.std.specs.Prelude.{◌≡◌, ◌↔◌, ◌+◌, ◌<◌, ◌≤◌, ◌^◌, IfOk, OnOk, OnErr, Ok, None};
     ghost use Rattle.std.specs.Io.KnownBytes.{Appends};
     ghost use Rattle.map_io.specs.Faults.{Rose};
-    ghost use Rattle.map_io.specs.Parts.{AppendsPart};
+    ghost use Rattle.map_io.specs.ProperPrefix.{AppendsProperPrefix};
     ghost use Rattle.map_model.specs.Grammar.{parse};
     ghost use Rattle.map_model.specs.Reply.{written_for};
     ghost use Rattle.map_model.specs.Output.{Answer};
@@ -78,8 +78,8 @@ impl Session {
 
     /// Executes a line that comes without its line feed, and writes its answer.
     ///
-    /// `WriteFault` comes only where the sink failed in this call. The line was executed then, and counts; a part of
-    /// its answer is written, not all of it, and the session can be used again.
+    /// `WriteFault` comes only where the sink failed in this call. The line was executed then, and counts; a proper
+    /// prefix of its answer is written, and the session can be used again.
     ///
     /// Looks at every point of the layer that the line names.
     pub fn line<K: Sink>(&mut self, line: &[u8], sink: &mut K) -> Result<Done, WriteFault>
@@ -88,7 +88,7 @@ impl Session {
         ensures done { IfOk result (λ done. (given : Answer) × Executes self.old self.new line.now given
             × (done ≡ done_of given.reply) × Appends (K.written sink.old) (K.written sink.new) (written_for given.reply)) }
         ensures fault { OnErr result ((given : Answer) × Executes self.old self.new line.now given
-            × AppendsPart (K.written sink.old) (K.written sink.new) (written_for given.reply)) }
+            × AppendsProperPrefix (K.written sink.old) (K.written sink.new) (written_for given.reply)) }
 
         ensures counted { self.new.lines ≡ self.old.lines + 1 }
 
@@ -97,6 +97,7 @@ impl Session {
 
         ensures kept { K.faults sink.old ≤ K.faults sink.new }
         ensures failed { OnErr result (Rose (K.faults sink.old) (K.faults sink.new)) }
+        ensures succeeded { OnOk result (K.faults sink.new ≡ K.faults sink.old) }
     {
         let Some(reply) = self.answer(line) else {
             return Ok(Done::Silent);

@@ -1,8 +1,9 @@
 // The program, over any source and sink.
 ghost use Rattle.std.specs.Prelude.{◌≡◌, ◌≢◌, ◌⊎◌, ◌+◌, ◌<◌, ◌≤◌, ℕ, List, [], length, take, Some};
 ghost use Rattle.map_io.specs.Faults.{Rose};
+ghost use Rattle.map_io.specs.ProperPrefix.{IsProperPrefix};
 ghost use Rattle.map_model.specs.Text.{lines, whole_lines, refusals};
-ghost use Rattle.live_map.specs.Run.{script_limit, usage_line, code_of, Told, IsOutput, IsInterrupted, IsPart, AnswersText, WritesUsage};
+ghost use Rattle.live_map.specs.Run.{script_limit, usage_line, code_of, Told, ToldTaken, IsOutput, IsInterrupted, AnswersText, WritesUsage};
 
 use crate::answering::{answer_lines, answer_whole_lines};
 use crate::intake::{Ending, take_in};
@@ -73,7 +74,7 @@ pub fn run<S: Source, K: Sink>(
     ensures write_fault { result ≡ Status.WriteFault → words.now ≡ [] → Told (S.rest source.old) (S.rest source.new) (K.written sink.old) (K.written sink.new)
         (λ left taken written. IsInterrupted (lines taken) written) }
     ensures usage_fault { result ≡ Status.WriteFault → words.now ≢ [] → Told (S.rest source.old) (S.rest source.new) (K.written sink.old) (K.written sink.new)
-        (λ left taken written. (taken ≡ []) × IsPart usage_line written) }
+        (λ left taken written. (taken ≡ []) × IsProperPrefix usage_line written) }
     ensures too_long { result ≡ Status.TooLong → Told (S.rest source.old) (S.rest source.new) (K.written sink.old) (K.written sink.new)
         (λ left taken written. (length taken ≡ script_limit + 1) × IsOutput (whole_lines (take script_limit taken)) written) }
     ensures no_memory { result ≡ Status.NoMemory → Told (S.rest source.old) (S.rest source.new) (K.written sink.old) (K.written sink.new)
@@ -86,6 +87,16 @@ pub fn run<S: Source, K: Sink>(
     // A fault comes only from the outside.
     ensures read_fault_cause { result ≡ Status.ReadFault → Rose (S.faults source.old) (S.faults source.new) }
     ensures write_fault_cause { result ≡ Status.WriteFault → Rose (K.faults sink.old) (K.faults sink.new) }
+
+    // No call is tried again: where the run doesn't end at a fault, none came.
+    ensures no_read_fault { result ≢ Status.ReadFault → result ≢ Status.WriteFault → S.faults source.new ≡ S.faults source.old }
+    ensures no_write_fault { result ≢ Status.WriteFault → K.faults sink.new ≡ K.faults sink.old }
+
+    // Where the source tells its bytes, no run takes more than the longest script and one byte, and one that takes so
+    // many ends by it.
+    ensures taken_within { ToldTaken (S.rest source.old) (S.rest source.new) (λ taken. length taken ≤ script_limit + 1) }
+    ensures past_limit { ToldTaken (S.rest source.old) (S.rest source.new) (λ taken. length taken ≡ script_limit + 1 →
+        (result ≡ Status.TooLong) ⊎ ((result ≡ Status.WriteFault) ⊎ (result ≡ Status.NoMemory))) }
 
     // Where nothing failed, a script within the limit is answered whole, and no longer one is, but for want of memory.
     ensures complete { (left : List ℕ) → S.rest source.old ≡ Some left → length left ≤ script_limit → words.now ≡ [] →
@@ -109,6 +120,7 @@ pub fn run<S: Source, K: Sink>(
 fn refuse_words<K: Sink>(sink: &mut K) -> Status
     ensures written { WritesUsage (K.written sink.old) (K.written sink.new) result }
     ensures cause { result ≡ Status.WriteFault → Rose (K.faults sink.old) (K.faults sink.new) }
+    ensures succeeded { result ≢ Status.WriteFault → K.faults sink.new ≡ K.faults sink.old }
 {
     match write_all(sink, USAGE) {
         Ok(()) => Status::Usage,
@@ -121,6 +133,7 @@ fn answer<K: Sink>(alloc: Global, text: &[u8], ending: Ending, sink: &mut K) -> 
     requires { length text.now ≤ script_limit }
     ensures answered { AnswersText ending text.now (K.written sink.old) (K.written sink.new) result }
     ensures cause { result ≡ Status.WriteFault → Rose (K.faults sink.old) (K.faults sink.new) }
+    ensures succeeded { result ≢ Status.WriteFault → K.faults sink.new ≡ K.faults sink.old }
 {
     let mut session = Session::new(alloc);
     match ending {

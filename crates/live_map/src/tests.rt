@@ -142,6 +142,27 @@ fn answered_with_a_word(
 }
 
 #[test]
+fn main_hands_on_words_and_statuses(rt: HostRuntime) -> Result<(), Fail> {
+    let alloc = rt.alloc();
+    let arguments = [
+        String::from_str(alloc, "livemap")?,
+        String::from_str(alloc, "x")?,
+    ];
+    let words = words_of(&arguments);
+    assert_eq!(rt; words.len(), 1);
+    assert_eq!(rt; words[0].as_str(), "x");
+    assert_eq!(rt; words_of(&[]).len(), 0);
+
+    assert_eq!(rt; exit_code(Status::Clean), ExitCode::SUCCESS);
+    assert_eq!(rt; exit_code(Status::WriteFault), ExitCode::from(4));
+    let no_memory = io::Error::from(ErrorKind::OutOfMemory);
+    assert_eq!(rt; exit_code_without_arguments(&no_memory), ExitCode::from(6));
+    let no_text = io::Error::from(ErrorKind::InvalidData);
+    assert_eq!(rt; exit_code_without_arguments(&no_text), ExitCode::from(7));
+    Ok(())
+}
+
+#[test]
 fn words_are_refused(rt: HostRuntime) -> Result<(), Fail> {
     let alloc = rt.alloc();
     let usage: &[u8] = b"usage: livemap [--ledger] [--make SEED] [--size N]\n";
@@ -153,7 +174,7 @@ fn words_are_refused(rt: HostRuntime) -> Result<(), Fail> {
     assert_eq!(rt; status, Status::Usage);
     assert_eq!(rt; written.as_slice(), usage);
 
-    // No place for the line: a part of it is written.
+    // No room for the line: a proper prefix of it is written.
     let (status, written) = answered_with_a_word(alloc, 5, 4096)?;
     assert_eq!(rt; status, Status::WriteFault);
     assert_eq!(rt; written.as_slice(), b"usage".as_slice());
@@ -228,9 +249,9 @@ fn answers_by_calls(alloc: Global, piece: usize, calls: u64) -> Result<Vec<u8>, 
     let mut written = Vec::new(alloc);
     let mut left = calls;
     for (_, answer) in TEN {
-        for part in answer.chunks(piece) {
+        for chunk in answer.chunks(piece) {
             if left > 0 {
-                written.extend_from_slice(part)?;
+                written.extend_from_slice(chunk)?;
                 left -= 1;
             }
         }

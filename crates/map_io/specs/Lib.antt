@@ -1,5 +1,5 @@
 pub mod Calls
 pub mod Faults
-pub mod Feed
-pub mod Parts
-pub mod Store
+pub mod MemSink
+pub mod MemSource
+pub mod ProperPrefix

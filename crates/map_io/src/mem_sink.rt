@@ -1,9 +1,9 @@
 // A sink over memory.
-ghost use Rattle.std.specs.Prelude.{◌≡◌, ◌↔◌, ◌⊎◌, ℕ, ◌+◌, ◌-◌, ◌^◌, ◌<◌, ◌≤◌, List, [], min, take, length, vec_len, All, Contains, Some, IfOk, IsErr, OnErr};
+ghost use Rattle.std.specs.Prelude.{◌≡◌, ◌↔◌, ◌⊎◌, ℕ, ◌+◌, ◌-◌, ◌^◌, ◌<◌, ◌≤◌, List, [], min, take, length, vec_len, All, Contains, Some, IfOk, IsErr, OnOk, OnErr};
 ghost use Rattle.std.specs.List.Sorted.{IsStrictlyIncreasing};
 ghost use Rattle.std.specs.Io.KnownBytes.{WriteAppends};
 ghost use Rattle.map_io.specs.Faults.{Rose};
-ghost use Rattle.map_io.specs.Store.{store_after_failing, store_after_taking};
+ghost use Rattle.map_io.specs.MemSink.{sink_after_failing, sink_after_taking};
 
 use super::plan::Plan;
 use super::sink::Sink;
@@ -13,7 +13,7 @@ use std::marker::Model;
 /// A sink over memory that it is given, for tests: it takes pieces, and fails where it is told to
 /// or has no place left.
 ///
-/// Contracts see it as a `Store`: the bytes taken, the places left, the piece, the numbers of the
+/// Contracts see it as a `MemSinkState`: the bytes taken, the places left, the piece, the numbers of the
 /// failing calls that are still to come, the calls so far and the failed calls so far.
 #[derive(Drop)]
 pub struct MemSink {
@@ -26,9 +26,9 @@ pub struct MemSink {
 
 impl Model for MemSink {
     ghost use Rattle.std.specs.Prelude.{◌-◌, ◌≤◌, take, vec_len};
-    ghost use Rattle.map_io.specs.Store.{Store};
+    ghost use Rattle.map_io.specs.MemSink.{MemSinkState};
 
-    ghost Value = { Store };
+    ghost Value = { MemSinkState };
 
     ghost view = { λ s. record {
       written = take s.filled s.space.items;
@@ -90,11 +90,12 @@ impl Sink for MemSink {
         ensures kept { self.old.faults ≤ self.new.faults }
         ensures bounded { self.new.faults ≤ 2 ^ 64 - 1 }
         ensures failed { OnErr result (Rose self.old.faults self.new.faults) }
+        ensures succeeded { OnOk result (self.new.faults ≡ self.old.faults) }
 
         ensures fails { IsErr result ↔ (Contains self.old.failing (self.old.calls + 1) ⊎ (self.old.room ≡ 0)) }
-        ensures refused { OnErr result (self.new ≡ store_after_failing self.old) }
+        ensures refused { OnErr result (self.new ≡ sink_after_failing self.old) }
 
-        ensures given { IfOk result (λ n. self.new ≡ store_after_taking (take n piece.now) self.old) }
+        ensures given { IfOk result (λ n. self.new ≡ sink_after_taking (take n piece.now) self.old) }
         ensures count { IfOk result (λ n. n ≡ min (length piece.now) (min self.old.piece self.old.room)) }
     {
         let fails = self.plan.count();

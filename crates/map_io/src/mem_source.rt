@@ -1,9 +1,9 @@
 // A source over memory.
-ghost use Rattle.std.specs.Prelude.{◌≡◌, ◌↔◌, ℕ, ◌+◌, ◌-◌, ◌^◌, ◌<◌, ◌≤◌, List, [], min, ◌++◌, take, drop, length, All, Contains, Some, IfOk, IsErr, OnErr};
+ghost use Rattle.std.specs.Prelude.{◌≡◌, ◌↔◌, ℕ, ◌+◌, ◌-◌, ◌^◌, ◌<◌, ◌≤◌, List, [], min, ◌++◌, take, drop, length, All, Contains, Some, IfOk, IsErr, OnOk, OnErr};
 ghost use Rattle.std.specs.List.Sorted.{IsStrictlyIncreasing};
 ghost use Rattle.std.specs.Io.KnownBytes.{ReadConsumes};
 ghost use Rattle.map_io.specs.Faults.{Rose};
-ghost use Rattle.map_io.specs.Feed.{feed_after_failing, feed_after_taking};
+ghost use Rattle.map_io.specs.MemSource.{source_after_failing, source_after_taking};
 
 use super::plan::Plan;
 use super::source::{Failed, Source, count_fault};
@@ -11,7 +11,7 @@ use std::marker::Model;
 
 /// A source over bytes in memory, for tests: it gives them in pieces, and fails where it is told to.
 ///
-/// Contracts see it as a `Feed`: the bytes that are left, the piece, the numbers of the failing
+/// Contracts see it as a `MemSourceState`: the bytes that are left, the piece, the numbers of the failing
 /// calls that are still to come, the calls so far and the failing calls so far.
 #[derive(Drop)]
 pub struct MemSource {
@@ -24,9 +24,9 @@ pub struct MemSource {
 
 impl Model for MemSource {
     ghost use Rattle.std.specs.Prelude.{◌≤◌, drop, vec_len};
-    ghost use Rattle.map_io.specs.Feed.{Feed};
+    ghost use Rattle.map_io.specs.MemSource.{MemSourceState};
 
-    ghost Value = { Feed };
+    ghost Value = { MemSourceState };
 
     ghost view = { λ s. record {
       rest = drop s.taken s.bytes.items;
@@ -79,12 +79,13 @@ impl Source for MemSource {
         ensures kept { self.old.faults ≤ self.new.faults }
         ensures bounded { self.new.faults ≤ 2 ^ 64 - 1 }
         ensures failed { OnErr result (Rose self.old.faults self.new.faults) }
+        ensures succeeded { OnOk result (self.new.faults ≡ self.old.faults) }
 
         ensures fails { IsErr result ↔ Contains self.old.failing (self.old.calls + 1) }
-        ensures refused { OnErr result (self.new ≡ feed_after_failing self.old) }
+        ensures refused { OnErr result (self.new ≡ source_after_failing self.old) }
         ensures untouched { OnErr result (into.new ≡ into.old) }
 
-        ensures given { IfOk result (λ n. self.new ≡ feed_after_taking n self.old) }
+        ensures given { IfOk result (λ n. self.new ≡ source_after_taking n self.old) }
         ensures count { IfOk result (λ n. n ≡ min (length into.old) (min self.old.piece (length self.old.rest))) }
         ensures filled { IfOk result (λ n. into.new ≡ take n self.old.rest ++ drop n into.old) }
     {

@@ -1,13 +1,15 @@
 // What takes bytes.
-ghost use Rattle.std.specs.Prelude.{ℕ, Option, ◌-◌, ◌^◌, ◌<◌, ◌≤◌, List, length, IfOk, OnOk, OnErr};
+ghost use Rattle.std.specs.Prelude.{◌≡◌, ℕ, Option, ◌-◌, ◌^◌, ◌<◌, ◌≤◌, List, length, IfOk, OnOk, OnErr};
 ghost use Rattle.std.specs.Io.KnownBytes.{Appends, WriteAppends};
 ghost use Rattle.map_io.specs.Faults.{Rose};
-ghost use Rattle.map_io.specs.Parts.{AppendsPart};
+ghost use Rattle.map_io.specs.ProperPrefix.{AppendsProperPrefix};
 
 use super::source::Failed;
+use thiserror::Error;
 
-/// A line that could not be written whole.
-#[derive(Clone, Copy, Debug, PartialEq, Eq)]
+/// Bytes that could not be written whole.
+#[derive(Clone, Copy, Debug, Error, PartialEq, Eq)]
+#[error("the bytes could not be written whole")]
 pub struct WriteFault;
 
 /// A writer that counts how often the outside failed.
@@ -28,7 +30,8 @@ pub trait Sink {
 
         ensures kept { faults self.old ≤ faults self.new }
         ensures bounded { faults self.new ≤ 2 ^ 64 - 1 }
-        ensures failed { OnErr result (Rose (faults self.old) (faults self.new)) };
+        ensures failed { OnErr result (Rose (faults self.old) (faults self.new)) }
+        ensures succeeded { OnOk result (faults self.new ≡ faults self.old) };
 }
 
 /// Hands all bytes to the sink, in as many calls as it asks for.
@@ -37,11 +40,11 @@ pub trait Sink {
 pub fn write_all<K: Sink>(sink: &mut K, bytes: &[u8]) -> Result<(), WriteFault>
     ensures all { OnOk result (Appends (K.written sink.old) (K.written sink.new) bytes.now) }
 
-    // A part of the bytes, not all of them.
-    ensures part { OnErr result (AppendsPart (K.written sink.old) (K.written sink.new) bytes.now) }
+    ensures prefix { OnErr result (AppendsProperPrefix (K.written sink.old) (K.written sink.new) bytes.now) }
 
     ensures kept { K.faults sink.old ≤ K.faults sink.new }
     ensures failed { OnErr result (Rose (K.faults sink.old) (K.faults sink.new)) }
+    ensures succeeded { OnOk result (K.faults sink.new ≡ K.faults sink.old) }
 {
     let mut done = 0;
     while done < bytes.len() {

@@ -1,14 +1,17 @@
 // What gives bytes.
-ghost use Rattle.std.specs.Prelude.{◌≡◌, ℕ, Option, ◌-◌, ◌^◌, ◌<◌, ◌≤◌, List, length, IfOk, OnErr};
+ghost use Rattle.std.specs.Prelude.{◌≡◌, ℕ, Option, ◌-◌, ◌^◌, ◌<◌, ◌≤◌, List, length, IfOk, OnOk, OnErr};
 ghost use Rattle.std.specs.Io.KnownBytes.{ReadConsumes};
 ghost use Rattle.map_io.specs.Calls.{counted};
 ghost use Rattle.map_io.specs.Faults.{Rose};
+
+use thiserror::Error;
 
 /// A read or a write that the outside refused.
 ///
 /// It carries no cause: what a caller can know of it is that the count of faults of the source or
 /// the sink rose.
-#[derive(Clone, Copy, Debug, PartialEq, Eq)]
+#[derive(Clone, Copy, Debug, Error, PartialEq, Eq)]
+#[error("the read or the write failed")]
 pub struct Failed;
 
 // Counts a fault, up to the last value of the count.
@@ -39,5 +42,6 @@ pub trait Source {
 
         ensures kept { faults self.old ≤ faults self.new }
         ensures bounded { faults self.new ≤ 2 ^ 64 - 1 }
-        ensures failed { OnErr result (Rose (faults self.old) (faults self.new)) };
+        ensures failed { OnErr result (Rose (faults self.old) (faults self.new)) }
+        ensures succeeded { OnOk result (faults self.new ≡ faults self.old) };
 }

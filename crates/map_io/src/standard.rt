@@ -53,7 +53,7 @@ impl<R: Read> Source for StdSource<R> {
         ensures bounded { self.new ≤ 2 ^ 64 - 1 }
         ensures failed { OnErr result (Rose self.old self.new) }
 
-        ensures given { OnOk result (self.new ≡ self.old) }
+        ensures succeeded { OnOk result (self.new ≡ self.old) }
         ensures refused { OnErr result (self.new ≡ counted self.old) }
     {
         match self.reader.read(into) {
@@ -109,7 +109,7 @@ impl<W: Write> Sink for StdSink<W> {
         ensures bounded { self.new ≤ 2 ^ 64 - 1 }
         ensures failed { OnErr result (Rose self.old self.new) }
 
-        ensures given { OnOk result (self.new ≡ self.old) }
+        ensures succeeded { OnOk result (self.new ≡ self.old) }
         ensures refused { OnErr result (self.new ≡ counted self.old) }
     {
         match write_and_flush(&mut self.writer, piece) {

@@ -1,3 +1,4 @@
+pub mod DistinctKeys
 pub mod TextLemmas
 pub mod OutputLemmas
 pub mod WordLemmas

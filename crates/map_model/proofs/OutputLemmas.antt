@@ -127,8 +127,8 @@ refusals-push start end script written reply p =
     ∙ ap (λ n. refusals written + n) (sym (ap refusals (append-nil (written_for reply))) ∙ refusals-append reply [] ∙ add-zero (refusal_count reply))
 
 -- Lines that are answered, and then one that writing stopped in.
-pub Interrupted-from : (start before : State) (answered more script : List (List ℕ)) (line full : List ℕ) (given : Answer) (part : ℕ) → script ≡ answered ++ line ∷ more → Output start answered full before → Answers before line given → part < length (written_for given.reply) → Interrupted start script (full ++ take part (written_for given.reply)) given.state
-Interrupted-from start before answered more script line full given part e p a small = record {
+pub Interrupted-from : (start before : State) (answered more script : List (List ℕ)) (line full : List ℕ) (given : Answer) (taken : ℕ) → script ≡ answered ++ line ∷ more → Output start answered full before → Answers before line given → taken < length (written_for given.reply) → Interrupted start script (full ++ take taken (written_for given.reply)) given.state
+Interrupted-from start before answered more script line full given taken e p a small = record {
   answered = length answered;
   has_next = subst (λ (ls : List (List ℕ)). length answered < length ls) (sym e) (omega (arith, length-append answered (line ∷ more)));
   full = full;
@@ -137,8 +137,8 @@ Interrupted-from start before answered more script line full given part e p a sm
   given = given;
   answers_next = subst (λ (l : List ℕ). Answers before l given) (sym (ap (λ (ls : List (List ℕ)). get_or ls (length answered) []) e ∙ get_or_at answered line more [] (length answered) refl)) a;
   executed = refl;
-  part = part;
-  is_part = small;
+  taken = taken;
+  is_proper = small;
   is_written = refl;
 }
 
@@ -153,7 +153,7 @@ Interrupted-append start end script more written h = record {
   given = h.given;
   answers_next = subst (λ (l : List ℕ). Answers h.before l h.given) (sym (get_or_append_left script more [] h.answered h.has_next)) h.answers_next;
   executed = h.executed;
-  part = h.part;
-  is_part = h.is_part;
+  taken = h.taken;
+  is_proper = h.is_proper;
   is_written = h.is_written;
 }

@@ -44,7 +44,7 @@ Output start (line ∷ lines) written end =
     (given : Answer) × Answers start line given × (rest : List ℕ) × (written ≡ written_for given.reply ++ rest) × Output given.state lines rest end
 
 -- Writing stopped inside the answer to a line: the lines before it are answered in full, it was executed, and a
--- part of its answer, not all of it, is written.
+-- proper prefix of its answer is written.
 pub record Interrupted (start : State) (lines : List (List ℕ)) (written : List ℕ) (end : State) : Type 0 where
   pub answered : ℕ
   pub has_next : answered < length lines
@@ -54,9 +54,9 @@ pub record Interrupted (start : State) (lines : List (List ℕ)) (written : List
   pub given : Answer
   pub answers_next : Answers before (slice_index_or lines answered []) given
   pub executed : end ≡ given.state
-  pub part : ℕ
-  pub is_part : part < length (written_for given.reply)
-  pub is_written : written ≡ full ++ take part (written_for given.reply)
+  pub taken : ℕ
+  pub is_proper : taken < length (written_for given.reply)
+  pub is_written : written ≡ full ++ take taken (written_for given.reply)
 
 -- the machine's own run over lines, memory always being found: what it writes, and the map at the end
 abbrev pub machine_text : State → List (List ℕ) → List ℕ

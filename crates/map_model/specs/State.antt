@@ -1,6 +1,6 @@
 -- What a map holds: layers in order of creation, and of each its items in order of add.
-use Rattle.std.specs.Prelude.{◌==◌, ℕ, Bool, List, [], ◌∷◌, ◌++◌, Option, Some, None, bytes_eq, count_by, map, if◌then◌else◌}
-use Rattle.std.specs.List.{list_any}
+use Rattle.std.specs.Prelude.{◌==◌, ◌≢◌, ℕ, All, Bool, List, [], ◌∷◌, ◌++◌, Option, Some, None, bytes_eq, count_by, map, if◌then◌else◌}
+use Rattle.std.specs.List.{list_any, AllPairs}
 use Rattle.map_model.specs.Shapes.{Shape, Rect, is_inside}
 
 -- a live identifier with its shape
@@ -19,6 +19,11 @@ State = List Layer
 
 abbrev pub empty_map : State
 empty_map = []
+
+-- no two layers have the same name, and no two items of a layer the same identifier
+pub record HasDistinctKeys (state : State) : Type 0 where
+  pub names : AllPairs (λ a b. a.name ≢ b.name) state
+  pub ids : All (λ layer. AllPairs (λ a b. a.id ≢ b.id) layer.items) state
 
 abbrev pub is_live : ℕ → List Item → Bool
 is_live id items = list_any (λ item. item.id == id) items

@@ -6,7 +6,9 @@
 #![tactic(auto)]
 
 ghost use Rattle.std.specs.Prelude.{◌≡◌, ℕ, ◌+◌, List, [], ◌∷◌, ◌++◌, Contains, codes, IsTrue};
-ghost use Rattle.map_model.specs.State.{State, empty_map};
+ghost use Rattle.map_model.specs.State.{State, HasDistinctKeys, empty_map};
+ghost use Rattle.map_model.specs.Command.{Command};
+ghost use Rattle.map_model.specs.Machine.{step};
 ghost use Rattle.map_model.specs.Text.{lines, whole_lines, refusals};
 ghost use Rattle.map_model.specs.Output.{Output, machine_text, machine_end, never_lacks_memory};
 
@@ -48,6 +50,15 @@ pub fn without_refused_memory()
     ensures { (start end : State) (script : List (List ℕ)) (written : List ℕ) →
         (Contains (lines written) (codes "no memory") → ⊥) → Output start script written end →
         (written ≡ machine_text start script) × (end ≡ machine_end start script) }
+{}
+
+/// In every map that a script leads to, no two layers have the same name, and no two items of a layer the same
+/// identifier.
+pub fn keys_are_distinct()
+    ensures empty { HasDistinctKeys empty_map }
+    ensures step { (state : State) (command : Command) → HasDistinctKeys state → HasDistinctKeys (step state command).state }
+    ensures output { (start end : State) (script : List (List ℕ)) (written : List ℕ) →
+        Output start script written end → HasDistinctKeys start → HasDistinctKeys end }
 {}
 
 /// The worked rows: what these scripts are answered. They say that the definitions mean what they are meant to.

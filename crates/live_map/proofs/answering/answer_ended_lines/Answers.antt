@@ -1,4 +1,4 @@
-use Rattle.std.proofs.Common.{arith}
+use Rattle.std.proofs.Common.{◌∙◌}
 use Rattle.std.proofs.lemmas.Result.{err_from_is_err_and}
 use Rattle.live_map.proofs.Lines.{more_progress, stopped_whole}
 use Rattle.live_map.proofs.answering.answer_ended_lines.Goals as goal
@@ -15,5 +15,5 @@ loop-line-preserved g c =
     let done = c.in_ok-line.ensures.done in record {
       progress = more_progress c.args.session.now c.loop-line.session c.line.new.self (g.K.Sink.written c.args.sink.now) (g.K.Sink.written c.loop-line.sink) (g.K.Sink.written c.line.new.sink)
           c.args.text.now c.loop-line.rest.now c.in-Some.line.now c.in-Some.after.now done.0 c.loop-line.invariant.progress c.in-Some.ensures.0 c.in-Some.ensures.1 done.1 done.3;
-      kept = omega (arith, c.loop-line.invariant.kept, c.in_ok-line.ensures.kept);
+      succeeded = c.in_ok-line.ensures.succeeded ∙ c.loop-line.invariant.succeeded;
     }

@@ -1,12 +1,12 @@
-use Rattle.std.proofs.Common.{◌≤◌, length}
+use Rattle.std.proofs.Common.{◌≡◌, length}
 use Rattle.live_map.specs.Run.{Progress}
 use Rattle.live_map.proofs.answering.answer_ended_lines.Given as goal
 
--- the lines so far are answered, and the rest of the text is left
+-- the lines so far are answered, the rest of the text is left, and no call failed
 abbrev pub invariant-loop-line : goal.invariant-loop-line
 invariant-loop-line g l = record {
   progress : Progress l.initial.session (g.K.Sink.written l.initial.sink) l.text l.rest l.session (g.K.Sink.written l.sink);
-  kept : g.K.Sink.faults l.initial.sink ≤ g.K.Sink.faults l.sink;
+  succeeded : g.K.Sink.faults l.sink ≡ g.K.Sink.faults l.initial.sink;
 }
 
 abbrev pub decreases-loop-line : goal.decreases-loop-line

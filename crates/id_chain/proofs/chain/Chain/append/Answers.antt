@@ -1,4 +1,6 @@
-use Rattle.std.proofs.Common.{ap}
+use Rattle.std.proofs.Common.{ap, ◌∙◌}
+use Rattle.id_chain.specs.Chain.{before}
+use Rattle.id_chain.proofs.Cursors.{before-append}
 use Rattle.id_chain.proofs.Chains.{opened, present_last, appended_at, appended_new, Refines-walked, list_of-chain}
 use Rattle.id_chain.proofs.chain.Chain.append.Goals as goal
 
@@ -21,3 +23,6 @@ pub returns-clause-entries : goal.returns-clause-entries
 returns-clause-entries g c =
     let chain = opened _ _ _ _ c.self.invariant (ap (λ v. v.entries) c.self.view_is) in
     list_of-chain _ _ _ _ (appended_at _ _ _ _ _ _ _ _ _ c.args.item chain c.insert_reserved-place.ensures.was_vacant c.insert_reserved-place.ensures.updates c.insert_reserved-place.ensures.len c.at-handle.ensures c.link_next.ensures.nodes c.link_next.ensures.first)
+
+pub returns-clause-before : goal.returns-clause-before
+returns-clause-before g c = λ other linked. ap (before other) (returns-clause-entries g c) ∙ before-append other c.args.self.now.entries _ linked

@@ -1,5 +1,5 @@
 use Rattle.std.proofs.Common.{ap, ◌∙◌}
-use Rattle.id_chain.specs.Chained.{is_linked}
+use Rattle.id_chain.specs.Chain.{is_linked}
 use Rattle.id_chain.proofs.Chains.{opened, has_is}
 use Rattle.id_chain.proofs.chain.Chain.has.Goals as goal
 

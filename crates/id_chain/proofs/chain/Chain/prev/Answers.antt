@@ -1,16 +1,5 @@
-use Rattle.std.proofs.Common.{ap, sym, ◌∙◌}
-use Rattle.slab.specs.Slab.{get}
-use Rattle.id_chain.specs.Chained.{is_linked}
-use Rattle.id_chain.proofs.Chains.{opened, linked_present, reads}
+use Rattle.id_chain.proofs.Cursors.{IfSome-prev_linked}
 use Rattle.id_chain.proofs.chain.Chain.prev.Goals as goal
 
-pub index-requires : goal.index-requires
-index-requires g c =
-    let chain = opened _ _ _ _ c.self.invariant (ap (λ v. v.entries) c.self.view_is) in
-    linked_present _ _ _ _ c.handle.inside.place chain (ap (λ h. is_linked h c.args.self.now.entries) c.handle.view_is ∙ c.requires)
-
-pub returns : goal.returns
-returns g c =
-    let chain = opened _ _ _ _ c.self.invariant (ap (λ v. v.entries) c.self.view_is) in
-    let read = reads _ _ _ _ c.args.handle c.index.result.now chain c.requires (ap (get c.self.inside.nodes) (sym c.handle.view_is) ∙ c.index.ensures) in
-    read.prev
+pub returns-clause-linked : goal.returns-clause-linked
+returns-clause-linked g c = IfSome-prev_linked c.args.handle c.args.self.now.entries c.node.result.now.prev c.node.ensures.node.prev

@@ -7,16 +7,6 @@ invariant_of-self g c =
     let chain = opened _ _ _ _ c.self.invariant (ap (λ v. v.entries) c.self.view_is) in
     Refines-walked _ _ _ _ (IsChainOf-room _ _ _ _ _ c.reserve.ensures.rest_kept chain)
 
-pub returns-in_err-reserve-clause-entries : goal.returns-in_err-reserve-clause-entries
-returns-in_err-reserve-clause-entries g c =
-    let chain = opened _ _ _ _ c.self.invariant (ap (λ v. v.entries) c.self.view_is) in
-    list_of-chain _ _ _ _ (IsChainOf-room _ _ _ _ _ c.reserve.ensures.rest_kept chain)
-
-pub invariant_of-self-2 : goal.invariant_of-self-2
-invariant_of-self-2 g c =
-    let chain = opened _ _ _ _ c.self.invariant (ap (λ v. v.entries) c.self.view_is) in
-    Refines-walked _ _ _ _ (IsChainOf-room _ _ _ _ _ c.reserve.ensures.rest_kept chain)
-
 pub returns-clause-entries : goal.returns-clause-entries
 returns-clause-entries g c =
     let chain = opened _ _ _ _ c.self.invariant (ap (λ v. v.entries) c.self.view_is) in

@@ -1,7 +1,8 @@
 use Rattle.std.proofs.Common.{◌++◌, ap, sym, ◌∙◌}
 use Rattle.slab.specs.Slab.{get}
-use Rattle.id_chain.specs.Chained.{is_linked, before, after}
-use Rattle.id_chain.proofs.Chains.{opened, linked_present, reads, neighbours_stay, unlinked_at, Refines-walked, list_of-chain}
+use Rattle.id_chain.specs.Chain.{is_linked, before, after}
+use Rattle.id_chain.proofs.Cursors.{before-without, without_handle-other, before-next_unlinked}
+use Rattle.id_chain.proofs.Chains.{opened, linked_present, IsNodeOf-linked, neighbours_stay, unlinked_at, Refines-walked, list_of-chain}
 use Rattle.id_chain.proofs.chain.Chain.unlink.Goals as goal
 
 pub remove-node-requires : goal.remove-node-requires
@@ -30,7 +31,7 @@ invariant_of-self g c =
 pub returns-clause-item : goal.returns-clause-item
 returns-clause-item g c =
     let chain = opened _ _ _ _ c.self.invariant (ap (λ v. v.entries) c.self.view_is) in
-    (reads _ _ _ _ c.args.handle c.remove-node.result chain c.requires (ap (get c.self.inside.nodes) (sym c.handle.view_is) ∙ c.remove-node.ensures.value)).item
+    (IsNodeOf-linked _ _ _ _ c.args.handle c.remove-node.result chain c.requires (ap (get c.self.inside.nodes) (sym c.handle.view_is) ∙ c.remove-node.ensures.value)).item
 
 pub returns-clause-entries : goal.returns-clause-entries
 returns-clause-entries g c =
@@ -38,3 +39,14 @@ returns-clause-entries g c =
     let linked = ap (λ h. is_linked h c.args.self.now.entries) c.handle.view_is ∙ c.requires in
     list_of-chain _ _ _ _ (unlinked_at _ _ _ _ _ _ _ _ _ c.handle.inside.place _ chain linked c.remove-node.ensures.value c.remove-node.ensures.updates c.remove-node.ensures.len c.link_next.ensures.nodes c.link_prev.ensures.nodes c.link_next.ensures.first c.link_prev.ensures.last)
     ∙ ap (λ h. before h c.args.self.now.entries ++ after h c.args.self.now.entries) c.handle.view_is
+
+pub returns-clause-before : goal.returns-clause-before
+returns-clause-before g c = λ other apart. ap (before other) (returns-clause-entries g c) ∙ before-without c.args.handle other c.args.self.now.entries apart
+
+pub returns-clause-before_kept : goal.returns-clause-before_kept
+returns-clause-before_kept g c = λ other apart none. returns-clause-before g c other apart ∙ without_handle-other c.args.handle (before other c.args.self.now.entries) none
+
+pub returns-clause-before_next : goal.returns-clause-before_next
+returns-clause-before_next g c = λ next is.
+    let chain = opened _ _ _ _ c.self.invariant (ap (λ v. v.entries) c.self.view_is) in
+    ap (before next) (returns-clause-entries g c) ∙ before-next_unlinked c.args.handle next c.args.self.now.entries chain.differ is

@@ -1,5 +1,5 @@
 use Rattle.std.proofs.Common.{sym, ap, ◌∙◌, Some}
-use Rattle.id_directory.specs.Registered.{item_of, without}
+use Rattle.id_directory.specs.Directory.{item_of, without}
 use Rattle.id_directory.proofs.Identifiers.{handle_of-linked, same_by_handle}
 use Rattle.id_directory.proofs.Agreements.{handle_of-slot, Agrees-removed_at, same_registered}
 use Rattle.id_directory.proofs.directory.Directory.remove.Goals as goal

@@ -2,7 +2,7 @@
 use Rattle.std.specs.Prelude.{ℕ, ◌+◌, List, drop}
 use Rattle.map_io.specs.Calls.{counted, numbers_after}
 
-pub record Feed : Type 0 where
+pub record MemSourceState : Type 0 where
   -- the bytes not yet taken
   pub rest : List ℕ
   -- how many a call gives at most
@@ -15,13 +15,13 @@ pub record Feed : Type 0 where
   pub faults : ℕ
 
 -- after a call
-abbrev pub feed_after_call : Feed → Feed
-feed_after_call f = record f { failing = numbers_after (f.calls + 1) f.failing; calls = counted f.calls }
+abbrev pub source_after_call : MemSourceState → MemSourceState
+source_after_call f = record f { failing = numbers_after (f.calls + 1) f.failing; calls = counted f.calls }
 
 -- after a call that failed
-abbrev pub feed_after_failing : Feed → Feed
-feed_after_failing f = record (feed_after_call f) { faults = counted f.faults }
+abbrev pub source_after_failing : MemSourceState → MemSourceState
+source_after_failing f = record (source_after_call f) { faults = counted f.faults }
 
 -- after a call that gave n bytes
-abbrev pub feed_after_taking : ℕ → Feed → Feed
-feed_after_taking n f = record (feed_after_call f) { rest = drop n f.rest }
+abbrev pub source_after_taking : ℕ → MemSourceState → MemSourceState
+source_after_taking n f = record (source_after_call f) { rest = drop n f.rest }

@@ -2,7 +2,7 @@
 use Rattle.std.specs.Prelude.{ℕ, ◌+◌, ◌-◌, List, ◌++◌, length}
 use Rattle.map_io.specs.Calls.{counted, numbers_after}
 
-pub record Store : Type 0 where
+pub record MemSinkState : Type 0 where
   -- the bytes taken
   pub written : List ℕ
   -- the places left
@@ -17,13 +17,13 @@ pub record Store : Type 0 where
   pub faults : ℕ
 
 -- after a call
-abbrev pub store_after_call : Store → Store
-store_after_call s = record s { failing = numbers_after (s.calls + 1) s.failing; calls = counted s.calls }
+abbrev pub sink_after_call : MemSinkState → MemSinkState
+sink_after_call s = record s { failing = numbers_after (s.calls + 1) s.failing; calls = counted s.calls }
 
 -- after a call that failed
-abbrev pub store_after_failing : Store → Store
-store_after_failing s = record (store_after_call s) { faults = counted s.faults }
+abbrev pub sink_after_failing : MemSinkState → MemSinkState
+sink_after_failing s = record (sink_after_call s) { faults = counted s.faults }
 
 -- after a call that took bs
-abbrev pub store_after_taking : List ℕ → Store → Store
-store_after_taking bs s = record (store_after_call s) { written = s.written ++ bs; room = s.room - length bs }
+abbrev pub sink_after_taking : List ℕ → MemSinkState → MemSinkState
+sink_after_taking bs s = record (sink_after_call s) { written = s.written ++ bs; room = s.room - length bs }

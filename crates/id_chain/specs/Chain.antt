@@ -1,5 +1,5 @@
 -- What a contract sees of a chain.
-use Rattle.std.specs.Prelude.{◌≡◌, ℕ, ◌==◌, ◌||◌, Bool, false, if◌then◌else◌, List, [], ◌∷◌, Option, Some, None, refl}
+use Rattle.std.specs.Prelude.{◌≡◌, ℕ, ◌==◌, ◌||◌, ◌++◌, Bool, false, if◌then◌else◌, List, [], ◌∷◌, Option, Some, None, refl}
 use Rattle.std.specs.Coded.{Coded, code_by, coded×, coded_ℕ, coded_list}
 
 -- an item, and the handle under which it is linked
@@ -8,7 +8,7 @@ pub record Entry (I : Type 0) : Type 0 where
   pub item : I
 
 -- the entries in order of append, and how many appends need no further memory
-pub record Chained (I : Type 0) : Type 0 where
+pub record ChainState (I : Type 0) : Type 0 where
   pub entries : List (Entry I)
   pub spare : ℕ
 
@@ -16,8 +16,8 @@ abbrev pub entry_code : {I : Type 0} → Coded I → Coded (Entry I)
 entry_code {I} code =
     code_by (ℕ × I) (coded× coded_ℕ code) (λ e. (e.handle, e.item)) (λ p. record { handle = p.0; item = p.1 }) (λ _. refl)
 
-abbrev pub chained_code : {I : Type 0} → Coded I → Coded (Chained I)
-chained_code {I} code =
+abbrev pub chain_code : {I : Type 0} → Coded I → Coded (ChainState I)
+chain_code {I} code =
     code_by
     (List (Entry I) × ℕ)
     (coded× (coded_list (entry_code code)) coded_ℕ)
@@ -49,6 +49,15 @@ module _ {I : Type 0} where
   abbrev pub after : ℕ → List (Entry I) → List (Entry I)
   after handle [] = []
   after handle (e ∷ es) = if e.handle == handle then es else after handle es
+
+  -- the entries up to a handle, its own among them
+  abbrev pub up_to : ℕ → List (Entry I) → List (Entry I)
+  up_to handle [] = []
+  up_to handle (e ∷ es) = e ∷ (if e.handle == handle then [] else up_to handle es)
+
+  -- the entries without that of a handle, all others in their order
+  abbrev pub without_handle : ℕ → List (Entry I) → List (Entry I)
+  without_handle handle es = before handle es ++ after handle es
 
   -- the first handle of these entries, or else the one that follows them
   abbrev pub first_or : List (Entry I) → Option ℕ → Option ℕ

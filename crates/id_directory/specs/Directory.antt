@@ -1,16 +1,16 @@
 -- What a contract sees of a directory.
 use Rattle.std.specs.Prelude.{◌≡◌, ℕ, ◌==◌, if◌then◌else◌, List, [], ◌∷◌, Option, Some, None, map, refl}
 use Rattle.std.specs.Coded.{Coded, code_by, coded×, coded_ℕ, coded_list, coded_option}
-use Rattle.id_chain.specs.Chained.{Entry, entry_code}
+use Rattle.id_chain.specs.Chain.{Entry, entry_code}
 
 -- the entries in order of append, how many adds there were, and the identifier that an add is prepared for
-pub record Registered (I : Type 0) : Type 0 where
+pub record DirectoryState (I : Type 0) : Type 0 where
   pub entries : List (Entry I)
   pub adds : ℕ
   pub pending : Option ℕ
 
-abbrev pub registered_code : {I : Type 0} → Coded I → Coded (Registered I)
-registered_code {I} code =
+abbrev pub directory_code : {I : Type 0} → Coded I → Coded (DirectoryState I)
+directory_code {I} code =
     code_by
     (List (Entry I) × (ℕ × Option ℕ))
     (coded× (coded_list (entry_code code)) (coded× coded_ℕ (coded_option coded_ℕ)))

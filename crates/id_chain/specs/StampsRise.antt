@@ -1,6 +1,6 @@
 -- Stamps along a chain.
-use Rattle.std.specs.Prelude.{ℕ, ◌+◌, ◌<◌, ◌≤◌, List, [], ◌∷◌}
-use Rattle.id_chain.specs.Chained.{Entry}
+use Rattle.std.specs.Prelude.{ℕ, ◌+◌, ◌≤◌, List, [], ◌∷◌}
+use Rattle.id_chain.specs.Chain.{Entry}
 
 module _ {I : Type 0} (stamp : I → ℕ) where
   -- the stamps rise along the list, from at least `low` on, and stay below `high`
