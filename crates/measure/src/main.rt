@@ -62,3 +62,6 @@ fn run<R: Print + Clock + AllocGlobal, L: Ledger>(
         Job::Check => checking::check_parts(rt, plan.seed, plan.size, &mut steps),
     }
 }
+
+#[cfg(test)]
+mod tests;

@@ -76,8 +76,7 @@ pub fn answer_of<P: Answers<Q>, Q: Question<Item = P::Item>, L: Ledger>(
     part: &P,
     steps: &mut Steps<L>,
 ) -> Result<Q::Answer, NoMemory>
-    ensures value { IfOk result (λ answer. answer
-        ≡ Q.join question.now (Q.unit question.now) (Q.value question.now (P.Part.live_items part.now))) }
+    ensures value { IfOk result (λ answer. answer ≡ Q.value question.now (P.Part.live_items part.now)) }
     ensures refused { IsErr result → IsTrue Q.refusable }
 {
     let mut asking = Asking::new(alloc, question);

@@ -27,10 +27,12 @@ pub struct Trial {
 
 impl Trial {
     ghost use Rattle.std.specs.Prelude.{◌≡◌};
+    ghost use Rattle.measure.specs.Trial.{live_points, AgreeIn, AgreeOn};
 
     /// Nothing is compared yet.
     pub fn new(part: RangePart, list: PlainList) -> Trial
-        ensures { result.part ≡ part }
+        ensures part { result.part ≡ part }
+        ensures list { result.list ≡ list }
     {
         Trial {
             part,
@@ -51,7 +53,8 @@ impl Trial {
         rect: Rect,
         steps: &mut Steps<L>,
     ) -> Result<(), Failure>
-        ensures { self.new.part ≡ self.old.part }
+        ensures agree { OnOk result (AgreeIn rect (live_points self.old.part) self.old.list.points.items) }
+        ensures same { (self.new.part ≡ self.old.part) × (self.new.list ≡ self.old.list) }
     {
         let count = answer_of(alloc, &CountIn(rect), &self.part, steps)?;
         expect_same(alloc, "count", &rect, &count, &self.list.count(&rect))?;
@@ -75,7 +78,9 @@ impl Trial {
         steps: &mut Steps<L>,
     ) -> Result<(), Failure>
         requires { OwnsStamp (λ p. p.stamp) point.now self.old.part.items }
-        ensures { self.new.part.items ≡ self.old.part.items }
+        ensures agree { OnOk result (AgreeOn point.now.stamp (live_points self.old.part) self.old.list.points.items
+            (live_points self.new.part) self.new.list.points.items) }
+        ensures same { self.new.part.items ≡ self.old.part.items }
     {
         let marked = self.part.mark(point, steps);
         expect_same(alloc, "mark", point, &marked, &self.list.mark(point.stamp))?;
