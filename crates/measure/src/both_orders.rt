@@ -1,5 +1,5 @@
 //! Items in both orders, as builders take them, and the part of them.
-ghost use Rattle.std.specs.Prelude.{◌≡◌, ◌+◌, ◌-◌, ◌*◌, ◌<◌, ◌≤◌, ◌^◌, ℕ, IsTrue, IfOk, OnOk, OnErr, All, length, map, vec_len, Some, slice_get};
+ghost use Rattle.std.specs.Prelude.{◌≡◌, ◌==◌, ◌+◌, ◌-◌, ◌*◌, ◌<◌, ◌≤◌, ◌^◌, ℕ, IsTrue, IfOk, OnOk, OnErr, All, length, map, vec_len, Some, slice_get};
 ghost use Rattle.std.specs.Ordering.{is_lt};
 ghost use Rattle.std.specs.List.Sorted.{IsPermutation};
 ghost use Rattle.query_laws.specs.StepLedger.{Spends};
@@ -43,6 +43,12 @@ impl<I: Item> BothOrders<I> {
         ensures few { result ≤ 2 ^ 31 }
     {
         self.items.len()
+    }
+
+    pub fn is_empty(&self) -> bool
+        ensures { result ≡ (length self.now.items == 0) }
+    {
+        self.items.is_empty()
     }
 
     /// The item at a place of order 0. No other has its stamp.
@@ -94,6 +100,9 @@ pub fn sorted(alloc: Global, points: Vec<Point>) -> Result<BothOrders<Point>, Al
     Ok(BothOrders { items, reordered })
 }
 
+/// The highest level of a builder.
+const TOP_LEVEL: u32 = 31;
+
 /// The least level of a builder with room for so many items.
 pub fn level_for(n: usize) -> u32
     requires { n ≤ 2 ^ 31 }
@@ -101,12 +110,12 @@ pub fn level_for(n: usize) -> u32
     ensures least { (level : ℕ) → n ≤ 2 ^ level → result ≤ level }
     ensures small { result < 32 }
 {
-    for level in 0..31 {
+    for level in 0..TOP_LEVEL {
         if n <= 1 << level {
             return level;
         }
     }
-    31
+    TOP_LEVEL
 }
 
 /// Puts all items in order 0: a turn for each.

@@ -151,10 +151,10 @@ fn mark_some<R: Print + Clock + AllocGlobal, L: Ledger>(
 ) -> Result<(), Failure>
     requires { part.old.items ≡ orders.now.items }
 {
-    let size = orders.len();
-    if size == 0 {
+    if orders.is_empty() {
         return Ok(());
     }
+    let size = orders.len();
     let mut times = Samples::new(watch.rt.alloc());
     let mut marked = 0u64;
     steps.start_lap();

@@ -24,7 +24,8 @@ impl PlainList {
         })
     }
 
-    pub fn len(&self) -> usize
+    /// How many points are left.
+    pub fn live(&self) -> usize
         ensures { result ≡ vec_len self.now.points }
     {
         self.points.len()

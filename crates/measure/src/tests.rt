@@ -87,7 +87,7 @@ fn scans_a_list(rt: HostRuntime) -> Result<(), Fail> {
     assert_eq!(rt; [list.count(&rect()), list.sum(&rect())], [2, 7]);
     assert_eq!(rt; list.list(rt.alloc(), &rect())?.as_slice(), [3, 7].as_slice());
     assert_eq!(rt; [list.mark(7), list.mark(7)], [true, false]);
-    assert_eq!(rt; [list.count(&rect()), list.len() as u64], [1, 3]);
+    assert_eq!(rt; [list.count(&rect()), list.live() as u64], [1, 3]);
     Ok(())
 }
 

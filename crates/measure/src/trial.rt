@@ -84,7 +84,7 @@ impl Trial {
     {
         let marked = self.part.mark(point, steps);
         expect_same(alloc, "mark", point, &marked, &self.list.mark(point.stamp))?;
-        expect_same(alloc, "live", point, &self.part.live(), &self.list.len())?;
+        expect_same(alloc, "live", point, &self.part.live(), &self.list.live())?;
         self.marked = self.marked.wrapping_add(u64::from(marked));
         Ok(())
     }
