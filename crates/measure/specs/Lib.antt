@@ -1,0 +1,4 @@
+pub mod Generator
+pub mod BothOrders
+pub mod Samples
+pub mod Trial
