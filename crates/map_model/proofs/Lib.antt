@@ -1,3 +1,6 @@
 pub mod TextLemmas
 pub mod OutputLemmas
 pub mod WordLemmas
+pub mod ScriptReplies
+pub mod ScriptOutputs
+pub mod Levels
