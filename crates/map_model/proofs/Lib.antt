@@ -4,3 +4,5 @@ pub mod WordLemmas
 pub mod ScriptReplies
 pub mod ScriptOutputs
 pub mod Levels
+pub mod WordLists
+pub mod RoundTrip

@@ -5,6 +5,9 @@ ghost use Rattle.map_model.specs.Text.{lines, one_line};
 ghost use Rattle.map_model.specs.Script.State.{State, empty_map};
 ghost use Rattle.map_model.specs.Script.Cost.{Cost, greatest_level, bounds_at};
 ghost use Rattle.map_model.specs.Script.Reply.{Reply, reply_text, reply_line, is_refusal};
+ghost use Rattle.map_model.specs.Script.Command.{Command};
+ghost use Rattle.map_model.specs.Script.Grammar.{parse};
+ghost use Rattle.map_model.specs.Script.Line.{IsCommand, command_line};
 ghost use Rattle.map_model.specs.Script.Output.{Output, machine_text, machine_end, never_lacks_memory};
 
 /// The lines and the bytes written for them fix the map at the end, whatever the replies say that they cost. So they
@@ -54,6 +57,11 @@ pub fn replies_are_lines()
     ensures one_line { (ledger : Bool) (reply : Reply) (cost : Cost) →
         (text : List ℕ) × (reply_line ledger reply cost ≡ text ++ 10 ∷ []) × (one_line text ≡ true) }
     ensures refusals { (reply : Reply) → starts_with nat_eq (reply_text reply) (codes "no ") ≡ is_refusal reply }
+{}
+
+/// A command is read from its own line, whatever its numbers within their limits. Made scripts stand on it.
+pub fn commands_are_read()
+    ensures { (command : Command) → IsCommand command → parse (command_line command) ≡ Ok (Some command) }
 {}
 
 /// The greatest level is the greatest one whose power of two is at most twice the live items and ten more.

@@ -26,7 +26,7 @@ has s Stab = s.stab
 -- at least one, and none that the kind doesn't take
 abbrev pub fits : Kind → IndexSet → Bool
 fits Points s = (s.range || s.near || s.top) && not s.stab
-fits Segments s = s.stab && not (s.range || s.near || s.top)
+fits Segments s = not (s.range || s.near || s.top) && s.stab
 
 abbrev pub one_if : Bool → ℕ
 one_if b = if b then 1 else 0
