@@ -10,13 +10,13 @@ use Rattle.std.proofs.lemmas.Str.Parse.{IsNumeralModel, numerals_by_value, tells
 use Rattle.map_model.specs.Grammar.{is_filled, words, is_name, is_name_byte, greatest_id, greatest_coordinate, longest_line}
 use Rattle.map_model.specs.Shapes.{Rect}
 use Rattle.map_model.specs.Script.Shape.{Kind, Points, Segments, Point, Segment}
-use Rattle.map_model.specs.Script.Index.{IndexSet, no_indexes, fits}
+use Rattle.map_model.specs.Script.Index.{IndexSet, fits}
 use Rattle.map_model.specs.Script.Answer as questions
 use Rattle.map_model.specs.Script.Command.{Command, MakeLayer, Add, Drop, Ask, Get, Size, Recent}
-use Rattle.map_model.specs.Script.Form.{Field, Name, Id, Coordinate, Amount, Limits, limits_of, Form, form, is_ordered, verbs, verb_of, greatest_amount}
+use Rattle.map_model.specs.Script.Form.{Field, Id, Coordinate, Amount, limits_of, Form, form, is_ordered, verbs, verb_of, greatest_amount}
 use Rattle.map_model.specs.Script.Form as forms
 use Rattle.map_model.specs.Script.LineFault as faults
-use Rattle.map_model.specs.Script.Grammar.{without_return, is_printable, is_digits, is_name_in, is_number_in, is_in_range, all_fields, has_words, Values, no_values, values_of, command_of, parse_indexes, parse_fields, parse_verb, parse_words, parse_text, parse}
+use Rattle.map_model.specs.Script.Grammar.{without_return, is_printable, is_digits, is_within, is_in_range, all_fields, has_words, Values, named, with_values, command_of, parse_indexes, parse_fields, parse_verb, parse_words, parse_text, parse}
 use Rattle.map_model.specs.Script.Line.{kind_word, index_words, word_if, rect_words, spaced_words, command_line, IsCoordinate, IsAmount, IsRect, IsQuestion, IsCommand}
 use Rattle.map_model.proofs.WordLists.{is_plain, name_plain, digit_plain, list_all-weaker, IsPlainWord, ArePlainWords, words-spaced, spaced_printable, length-spaced, last_of_spaced}
 
@@ -48,8 +48,8 @@ number_word n h = record {
   short = length-decimal-le 20 n (omega arith) (omega arith) h;
 }
 
-number_digits : (n : ℕ) → Is64 n → is_digits (decimal n) ≡ true
-number_digits n h = and_from (is_filled (decimal n)) (all_ascii_digits (decimal n)) (filled_word (decimal n) (decimal_nonempty n h)) (digits_decimal own n h)
+number_digits : (field : Field) (n : ℕ) → Is64 n → is_digits field (decimal n) ≡ true
+number_digits field n h = and_from (is_filled (decimal n)) (all_ascii_digits (decimal n)) (filled_word (decimal n) (decimal_nonempty n h)) (digits_decimal own n h)
 
 name_word : (name : List ℕ) → is_name name ≡ true → IsPlainWord name
 name_word name h =
@@ -69,8 +69,7 @@ known_word word filled plain short = record { filled = filled; plain = plain; sh
 -- a plain word that says what its field takes
 record Writes (field : Field) (word : List ℕ) : Type 0 where
   plain : IsPlainWord word
-  named : is_name_in field word ≡ true
-  written : is_number_in field word ≡ true
+  written : is_digits field word ≡ true
   within : is_in_range field word ≡ true
 
 abbrev AllWrite : List Field → List (List ℕ) → Type 0
@@ -88,27 +87,17 @@ fits_amount n h = omega (arith, h.1)
 fits_id : (n : ℕ) → n ≤ greatest_id → Is64 n
 fits_id n h = omega arith
 
-in_limits : (least greatest n : ℕ) → least ≤ n → n ≤ greatest → Is64 n → (nat_le least (digits_value 10 (decimal n)) && nat_le (digits_value 10 (decimal n)) greatest) ≡ true
-in_limits least greatest n low high fits =
-    ap (λ v. nat_le least v && nat_le v greatest) (value n fits) ∙ and_from (nat_le least n) (nat_le n greatest) (le-leb least n low) (le-leb n greatest high)
-
-a_name : (name : List ℕ) → is_name name ≡ true → Writes Name name
-a_name name h = record { plain = name_word name h; named = h; written = refl; within = refl }
+writes_number : (field : Field) (n : ℕ) → Is64 n → is_within field n ≡ true → Writes field (decimal n)
+writes_number field n fits within = record { plain = number_word n fits; written = number_digits field n fits; within = ap (is_within field) (value n fits) ∙ within }
 
 an_id : (n : ℕ) → n ≤ greatest_id → Writes Id (decimal n)
-an_id n h =
-    let fits = fits_id n h in
-    record { plain = number_word n fits; named = refl; written = number_digits n fits; within = in_limits 0 greatest_id n (omega arith) h fits }
+an_id n h = writes_number Id n (fits_id n h) (and_from (nat_le 0 n) (nat_le n greatest_id) (le-leb 0 n (omega arith)) (le-leb n greatest_id h))
 
 a_coordinate : (n : ℕ) → IsCoordinate n → Writes Coordinate (decimal n)
-a_coordinate n h =
-    let fits = fits_coordinate n h in
-    record { plain = number_word n fits; named = refl; written = number_digits n fits; within = in_limits 0 greatest_coordinate n (omega arith) h fits }
+a_coordinate n h = writes_number Coordinate n (fits_coordinate n h) (and_from (nat_le 0 n) (nat_le n greatest_coordinate) (le-leb 0 n (omega arith)) (le-leb n greatest_coordinate h))
 
 an_amount : (n : ℕ) → IsAmount n → Writes Amount (decimal n)
-an_amount n h =
-    let fits = fits_amount n h in
-    record { plain = number_word n fits; named = refl; written = number_digits n fits; within = in_limits 1 greatest_amount n h.0 h.1 fits }
+an_amount n h = writes_number Amount n (fits_amount n h) (and_from (nat_le 1 n) (nat_le n greatest_amount) (le-leb 1 n h.0) (le-leb n greatest_amount h.1))
 
 all_plain : (fields : List Field) (words : List (List ℕ)) → AllWrite fields words → ArePlainWords words
 all_plain [] [] h = tt
@@ -156,16 +145,16 @@ begins : (verb : forms.Verb) (word : List ℕ) → is_filled word ≡ true → l
 begins verb word filled plain short no_comment known = record { plain = record { filled = filled; plain = plain; short = short }; no_comment = no_comment; known = known }
 
 -- The words of a form without indexes are read as its command.
-says : (verb : forms.Verb) (word : List ℕ) (more : List (List ℕ)) (command : Command) → Begins verb word → AllWrite (form verb).fields more → length more ≤ 10
-    → has_words (form verb) more ≡ true → is_ordered (form verb).order (values_of (form verb).fields more).places ≡ true → (form verb).has_indexes ≡ false
-    → command_of verb (values_of (form verb).fields more) ≡ command
-    → parse (spaced_words (word ∷ more)) ≡ Ok (Some command)
-says verb word more command front write few many ordered free is =
+says : (verb : forms.Verb) (word name : List ℕ) (more : List (List ℕ)) (command : Command) → Begins verb word → is_name name ≡ true → AllWrite (form verb).fields more → length more ≤ 9
+    → has_words (form verb) more ≡ true → is_ordered (form verb).order (with_values (form verb).fields more (named name)).places ≡ true → (form verb).has_indexes ≡ false
+    → command_of verb (with_values (form verb).fields more (named name)) ≡ command
+    → parse (spaced_words (word ∷ name ∷ more)) ≡ Ok (Some command)
+says verb word name more command front h write few many ordered free is =
     let f = form verb in
-    let read : parse_fields verb f more ≡ Ok (Some (command_of verb (values_of f.fields more))) =
-    rw (many, all_pass is_name_in (λ _ _ h. h.named) f.fields more write, all_pass is_number_in (λ _ _ h. h.written) f.fields more write, all_pass is_in_range (λ _ _ h. h.within) f.fields more write, ordered, free) refl in
-    parse-spaced word more (front.plain, all_plain f.fields more write) few front.no_comment
-    ∙ ap (λ v. parse_verb v more) front.known
+    let read : parse_fields verb f name more ≡ Ok (Some (command_of verb (with_values f.fields more (named name)))) =
+    rw (many, h, all_pass is_digits (λ _ _ w. w.written) f.fields more write, all_pass is_in_range (λ _ _ w. w.within) f.fields more write, ordered, free) refl in
+    parse-spaced word (name ∷ more) (front.plain, (name_word name h, all_plain f.fields more write)) (omega arith) front.no_comment
+    ∙ ap (λ v. parse_verb v (name ∷ more)) front.known
     ∙ read
     ∙ ap (λ c. Ok (Some c)) is
 
@@ -177,96 +166,96 @@ Says command = parse (command_line command) ≡ Ok (Some command)
 says_point : (name : List ℕ) (id x y w : ℕ) → is_name name ≡ true → id ≤ greatest_id → IsCoordinate x → IsCoordinate y → IsCoordinate w → Says (Add name id (Point x y w))
 unfolding form verbs command_of
 says_point name id x y w named hid hx hy hw =
-    says forms.Add (codes "add") (name ∷ decimal id ∷ decimal x ∷ decimal y ∷ decimal w ∷ []) (Add name id (Point x y w)) (begins forms.Add (codes "add") refl refl (omega arith) refl refl)
-    (a_name name named, (an_id id hid, (a_coordinate x hx, (a_coordinate y hy, (a_coordinate w hw, tt))))) (omega arith) refl refl refl (λ i. Add name (value id (fits_id id hid) i) (Point (value x (fits_coordinate x hx) i) (value y (fits_coordinate y hy) i) (value w (fits_coordinate w hw) i)))
+    says forms.Add (codes "add") name (decimal id ∷ decimal x ∷ decimal y ∷ decimal w ∷ []) (Add name id (Point x y w)) (begins forms.Add (codes "add") refl refl (omega arith) refl refl)
+    named (an_id id hid, (a_coordinate x hx, (a_coordinate y hy, (a_coordinate w hw, tt)))) (omega arith) refl refl refl (λ i. Add name (value id (fits_id id hid) i) (Point (value x (fits_coordinate x hx) i) (value y (fits_coordinate y hy) i) (value w (fits_coordinate w hw) i)))
 
 says_segment : (name : List ℕ) (id lo hi y : ℕ) → is_name name ≡ true → lo ≤ hi → id ≤ greatest_id → IsCoordinate hi → IsCoordinate y → Says (Add name id (Segment lo hi y))
 unfolding form verbs command_of
 says_segment name id lo hi y named ordered hid hhi hy =
     let hlo : IsCoordinate lo = omega arith in
-    says forms.Seg (codes "seg") (name ∷ decimal id ∷ decimal lo ∷ decimal hi ∷ decimal y ∷ []) (Add name id (Segment lo hi y)) (begins forms.Seg (codes "seg") refl refl (omega arith) refl refl)
-    (a_name name named, (an_id id hid, (a_coordinate lo hlo, (a_coordinate hi hhi, (a_coordinate y hy, tt))))) (omega arith) refl (ordered_values lo hi ordered (fits_coordinate hi hhi)) refl (λ i. Add name (value id (fits_id id hid) i) (Segment (value lo (fits_coordinate lo hlo) i) (value hi (fits_coordinate hi hhi) i) (value y (fits_coordinate y hy) i)))
+    says forms.Seg (codes "seg") name (decimal id ∷ decimal lo ∷ decimal hi ∷ decimal y ∷ []) (Add name id (Segment lo hi y)) (begins forms.Seg (codes "seg") refl refl (omega arith) refl refl)
+    named (an_id id hid, (a_coordinate lo hlo, (a_coordinate hi hhi, (a_coordinate y hy, tt)))) (omega arith) refl (ordered_values lo hi ordered (fits_coordinate hi hhi)) refl (λ i. Add name (value id (fits_id id hid) i) (Segment (value lo (fits_coordinate lo hlo) i) (value hi (fits_coordinate hi hhi) i) (value y (fits_coordinate y hy) i)))
 
 says_drop : (name : List ℕ) (id : ℕ) → is_name name ≡ true → id ≤ greatest_id → Says (Drop name id)
 unfolding form verbs command_of
 says_drop name id named hid =
-    says forms.Drop (codes "drop") (name ∷ decimal id ∷ []) (Drop name id) (begins forms.Drop (codes "drop") refl refl (omega arith) refl refl)
-    (a_name name named, (an_id id hid, tt)) (omega arith) refl refl refl (λ i. Drop name (value id (fits_id id hid) i))
+    says forms.Drop (codes "drop") name (decimal id ∷ []) (Drop name id) (begins forms.Drop (codes "drop") refl refl (omega arith) refl refl)
+    named (an_id id hid, tt) (omega arith) refl refl refl (λ i. Drop name (value id (fits_id id hid) i))
 
 says_near : (name : List ℕ) (x y : ℕ) → is_name name ≡ true → IsCoordinate x → IsCoordinate y → Says (Ask name (questions.Near x y))
 unfolding form verbs command_of
 says_near name x y named hx hy =
-    says forms.Near (codes "near") (name ∷ decimal x ∷ decimal y ∷ []) (Ask name (questions.Near x y)) (begins forms.Near (codes "near") refl refl (omega arith) refl refl)
-    (a_name name named, (a_coordinate x hx, (a_coordinate y hy, tt))) (omega arith) refl refl refl (λ i. Ask name (questions.Near (value x (fits_coordinate x hx) i) (value y (fits_coordinate y hy) i)))
+    says forms.Near (codes "near") name (decimal x ∷ decimal y ∷ []) (Ask name (questions.Near x y)) (begins forms.Near (codes "near") refl refl (omega arith) refl refl)
+    named (a_coordinate x hx, (a_coordinate y hy, tt)) (omega arith) refl refl refl (λ i. Ask name (questions.Near (value x (fits_coordinate x hx) i) (value y (fits_coordinate y hy) i)))
 
 says_nearest : (name : List ℕ) (k x y : ℕ) → is_name name ≡ true → IsAmount k → IsCoordinate x → IsCoordinate y → Says (Ask name (questions.Nearest k x y))
 unfolding form verbs command_of
 says_nearest name k x y named hk hx hy =
-    says forms.Nearest (codes "nearest") (name ∷ decimal k ∷ decimal x ∷ decimal y ∷ []) (Ask name (questions.Nearest k x y)) (begins forms.Nearest (codes "nearest") refl refl (omega arith) refl refl)
-    (a_name name named, (an_amount k hk, (a_coordinate x hx, (a_coordinate y hy, tt)))) (omega arith) refl refl refl (λ i. Ask name (questions.Nearest (value k (fits_amount k hk) i) (value x (fits_coordinate x hx) i) (value y (fits_coordinate y hy) i)))
+    says forms.Nearest (codes "nearest") name (decimal k ∷ decimal x ∷ decimal y ∷ []) (Ask name (questions.Nearest k x y)) (begins forms.Nearest (codes "nearest") refl refl (omega arith) refl refl)
+    named (an_amount k hk, (a_coordinate x hx, (a_coordinate y hy, tt))) (omega arith) refl refl refl (λ i. Ask name (questions.Nearest (value k (fits_amount k hk) i) (value x (fits_coordinate x hx) i) (value y (fits_coordinate y hy) i)))
 
 says_above : (name : List ℕ) (x1 x2 y : ℕ) → is_name name ≡ true → x1 ≤ x2 → IsCoordinate x2 → IsCoordinate y → Says (Ask name (questions.Above x1 x2 y))
 unfolding form verbs command_of
 says_above name x1 x2 y named ordered hx2 hy =
     let hx1 : IsCoordinate x1 = omega arith in
-    says forms.Above (codes "above") (name ∷ decimal x1 ∷ decimal x2 ∷ decimal y ∷ []) (Ask name (questions.Above x1 x2 y)) (begins forms.Above (codes "above") refl refl (omega arith) refl refl)
-    (a_name name named, (a_coordinate x1 hx1, (a_coordinate x2 hx2, (a_coordinate y hy, tt)))) (omega arith) refl (ordered_values x1 x2 ordered (fits_coordinate x2 hx2)) refl (λ i. Ask name (questions.Above (value x1 (fits_coordinate x1 hx1) i) (value x2 (fits_coordinate x2 hx2) i) (value y (fits_coordinate y hy) i)))
+    says forms.Above (codes "above") name (decimal x1 ∷ decimal x2 ∷ decimal y ∷ []) (Ask name (questions.Above x1 x2 y)) (begins forms.Above (codes "above") refl refl (omega arith) refl refl)
+    named (a_coordinate x1 hx1, (a_coordinate x2 hx2, (a_coordinate y hy, tt))) (omega arith) refl (ordered_values x1 x2 ordered (fits_coordinate x2 hx2)) refl (λ i. Ask name (questions.Above (value x1 (fits_coordinate x1 hx1) i) (value x2 (fits_coordinate x2 hx2) i) (value y (fits_coordinate y hy) i)))
 
 says_top : (name : List ℕ) (x1 x2 : ℕ) → is_name name ≡ true → x1 ≤ x2 → IsCoordinate x2 → Says (Ask name (questions.Top x1 x2))
 unfolding form verbs command_of
 says_top name x1 x2 named ordered hx2 =
     let hx1 : IsCoordinate x1 = omega arith in
-    says forms.Top (codes "top") (name ∷ decimal x1 ∷ decimal x2 ∷ []) (Ask name (questions.Top x1 x2)) (begins forms.Top (codes "top") refl refl (omega arith) refl refl)
-    (a_name name named, (a_coordinate x1 hx1, (a_coordinate x2 hx2, tt))) (omega arith) refl (ordered_values x1 x2 ordered (fits_coordinate x2 hx2)) refl (λ i. Ask name (questions.Top (value x1 (fits_coordinate x1 hx1) i) (value x2 (fits_coordinate x2 hx2) i)))
+    says forms.Top (codes "top") name (decimal x1 ∷ decimal x2 ∷ []) (Ask name (questions.Top x1 x2)) (begins forms.Top (codes "top") refl refl (omega arith) refl refl)
+    named (a_coordinate x1 hx1, (a_coordinate x2 hx2, tt)) (omega arith) refl (ordered_values x1 x2 ordered (fits_coordinate x2 hx2)) refl (λ i. Ask name (questions.Top (value x1 (fits_coordinate x1 hx1) i) (value x2 (fits_coordinate x2 hx2) i)))
 
 says_stab : (name : List ℕ) (x : ℕ) → is_name name ≡ true → IsCoordinate x → Says (Ask name (questions.Stab x))
 unfolding form verbs command_of
 says_stab name x named hx =
-    says forms.Stab (codes "stab") (name ∷ decimal x ∷ []) (Ask name (questions.Stab x)) (begins forms.Stab (codes "stab") refl refl (omega arith) refl refl)
-    (a_name name named, (a_coordinate x hx, tt)) (omega arith) refl refl refl (λ i. Ask name (questions.Stab (value x (fits_coordinate x hx) i)))
+    says forms.Stab (codes "stab") name (decimal x ∷ []) (Ask name (questions.Stab x)) (begins forms.Stab (codes "stab") refl refl (omega arith) refl refl)
+    named (a_coordinate x hx, tt) (omega arith) refl refl refl (λ i. Ask name (questions.Stab (value x (fits_coordinate x hx) i)))
 
 says_stabcount : (name : List ℕ) (x : ℕ) → is_name name ≡ true → IsCoordinate x → Says (Ask name (questions.StabCount x))
 unfolding form verbs command_of
 says_stabcount name x named hx =
-    says forms.StabCount (codes "stabcount") (name ∷ decimal x ∷ []) (Ask name (questions.StabCount x)) (begins forms.StabCount (codes "stabcount") refl refl (omega arith) refl refl)
-    (a_name name named, (a_coordinate x hx, tt)) (omega arith) refl refl refl (λ i. Ask name (questions.StabCount (value x (fits_coordinate x hx) i)))
+    says forms.StabCount (codes "stabcount") name (decimal x ∷ []) (Ask name (questions.StabCount x)) (begins forms.StabCount (codes "stabcount") refl refl (omega arith) refl refl)
+    named (a_coordinate x hx, tt) (omega arith) refl refl refl (λ i. Ask name (questions.StabCount (value x (fits_coordinate x hx) i)))
 
 says_get : (name : List ℕ) (id : ℕ) → is_name name ≡ true → id ≤ greatest_id → Says (Get name id)
 unfolding form verbs command_of
 says_get name id named hid =
-    says forms.Get (codes "get") (name ∷ decimal id ∷ []) (Get name id) (begins forms.Get (codes "get") refl refl (omega arith) refl refl)
-    (a_name name named, (an_id id hid, tt)) (omega arith) refl refl refl (λ i. Get name (value id (fits_id id hid) i))
+    says forms.Get (codes "get") name (decimal id ∷ []) (Get name id) (begins forms.Get (codes "get") refl refl (omega arith) refl refl)
+    named (an_id id hid, tt) (omega arith) refl refl refl (λ i. Get name (value id (fits_id id hid) i))
 
 says_size : (name : List ℕ) → is_name name ≡ true → Says (Size name)
 unfolding form verbs command_of
 says_size name named =
-    says forms.Size (codes "size") (name ∷ []) (Size name) (begins forms.Size (codes "size") refl refl (omega arith) refl refl)
-    (a_name name named, tt) (omega arith) refl refl refl refl
+    says forms.Size (codes "size") name ([]) (Size name) (begins forms.Size (codes "size") refl refl (omega arith) refl refl)
+    named tt (omega arith) refl refl refl refl
 
 says_recent : (name : List ℕ) (k : ℕ) → is_name name ≡ true → IsAmount k → Says (Recent name k)
 unfolding form verbs command_of
 says_recent name k named hk =
-    says forms.Recent (codes "recent") (name ∷ decimal k ∷ []) (Recent name k) (begins forms.Recent (codes "recent") refl refl (omega arith) refl refl)
-    (a_name name named, (an_amount k hk, tt)) (omega arith) refl refl refl (λ i. Recent name (value k (fits_amount k hk) i))
+    says forms.Recent (codes "recent") name (decimal k ∷ []) (Recent name k) (begins forms.Recent (codes "recent") refl refl (omega arith) refl refl)
+    named (an_amount k hk, tt) (omega arith) refl refl refl (λ i. Recent name (value k (fits_amount k hk) i))
 
 -- the three forms with a rectangle
-says_rect : (verb : forms.Verb) (word name : List ℕ) (rect : Rect) (command : Command) → Begins verb word → is_name name ≡ true → IsRect rect → form verb ≡ forms.row word forms.rect_fields forms.Corners
-    → command_of verb (record { name = name; id = 0; places = rect.x1 ∷ rect.y1 ∷ rect.x2 ∷ rect.y2 ∷ []; amount = 0; kind = Points; indexes = no_indexes }) ≡ command
+says_rect : (verb : forms.Verb) (word name : List ℕ) (rect : Rect) (command : Command) → Begins verb word → is_name name ≡ true → IsRect rect → form verb ≡ forms.row word forms.corner_fields forms.Corners
+    → command_of verb (record (named name) { places = rect.x1 ∷ rect.y1 ∷ rect.x2 ∷ rect.y2 ∷ [] }) ≡ command
     → parse (spaced_words (word ∷ name ∷ rect_words rect)) ≡ Ok (Some command)
-says_rect verb word name rect command front named inside row is =
+says_rect verb word name rect command front h inside row is =
     let h1 : IsCoordinate rect.x1 = omega (arith, inside.0, inside.2) in
     let h2 : IsCoordinate rect.y1 = omega (arith, inside.1, inside.3) in
-    let more = name ∷ rect_words rect in
-    let write : AllWrite forms.rect_fields more = (a_name name named, (a_coordinate rect.x1 h1, (a_coordinate rect.y1 h2, (a_coordinate rect.x2 inside.2, (a_coordinate rect.y2 inside.3, tt))))) in
-    let corners : is_ordered forms.Corners (values_of forms.rect_fields more).places ≡ true =
+    let more = rect_words rect in
+    let write : AllWrite forms.corner_fields more = (a_coordinate rect.x1 h1, (a_coordinate rect.y1 h2, (a_coordinate rect.x2 inside.2, (a_coordinate rect.y2 inside.3, tt)))) in
+    let corners : is_ordered forms.Corners (with_values forms.corner_fields more (named name)).places ≡ true =
     and_from _ _ (ordered_values rect.x1 rect.x2 inside.0 (fits_coordinate rect.x2 inside.2)) (ordered_values rect.y1 rect.y2 inside.1 (fits_coordinate rect.y2 inside.3)) in
-    says verb word more command front
+    says verb word name more command front h
     (subst (λ f. AllWrite f.fields more) (sym row) write) (omega arith)
     (ap (λ f. has_words f more) row)
-    (ap (λ f. is_ordered f.order (values_of f.fields more).places) row ∙ corners)
+    (ap (λ f. is_ordered f.order (with_values f.fields more (named name)).places) row ∙ corners)
     (ap (λ f. f.has_indexes) row)
-    (ap (λ f. command_of verb (values_of f.fields more)) row
-    ∙ (λ i. command_of verb (record { name = name; id = 0; places = value rect.x1 (fits_coordinate rect.x1 h1) i ∷ value rect.y1 (fits_coordinate rect.y1 h2) i ∷ value rect.x2 (fits_coordinate rect.x2 inside.2) i ∷ value rect.y2 (fits_coordinate rect.y2 inside.3) i ∷ []; amount = 0; kind = Points; indexes = no_indexes }))
+    (ap (λ f. command_of verb (with_values f.fields more (named name))) row
+    ∙ (λ i. command_of verb (record (named name) { places = value rect.x1 (fits_coordinate rect.x1 h1) i ∷ value rect.y1 (fits_coordinate rect.y1 h2) i ∷ value rect.x2 (fits_coordinate rect.x2 inside.2) i ∷ value rect.y2 (fits_coordinate rect.y2 inside.3) i ∷ [] }))
     ∙ is)
 
 says_count : (name : List ℕ) (rect : Rect) → is_name name ≡ true → IsRect rect → Says (Ask name (questions.CountIn rect))
@@ -346,19 +335,19 @@ few_indexes s =
 
 -- a kind and some words behind the name of a layer
 layer_fields : (name : List ℕ) (kind : Kind) (words : List (List ℕ)) → is_name name ≡ true → 1 ≤ length words
-    → parse_fields forms.Layer (form forms.Layer) (name ∷ kind_word kind ∷ words) ≡ parse_indexes forms.Layer (record no_values { name = name }) kind words
+    → parse_fields forms.Layer (form forms.Layer) name (kind_word kind ∷ words) ≡ parse_indexes forms.Layer (named name) kind words
 unfolding form
-layer_fields name Points words named some = rw (named, le-leb 3 (suc (suc (length words))) (omega arith)) refl
-layer_fields name Segments words named some = rw (named, le-leb 3 (suc (suc (length words))) (omega arith)) refl
+layer_fields name Points words h some = rw (le-leb 2 (suc (length words)) (omega arith), h) refl
+layer_fields name Segments words h some = rw (le-leb 2 (suc (length words)) (omega arith), h) refl
 
 says_layer : (name : List ℕ) (kind : Kind) (s : IndexSet) → is_name name ≡ true → fits kind s ≡ true → Says (MakeLayer name kind s)
 unfolding form verbs
-says_layer name kind s named fitting =
-    let read = indexes_read kind s (record no_values { name = name }) fitting in
+says_layer name kind s h fitting =
+    let read = indexes_read kind s (named name) fitting in
     parse-spaced (codes "layer") (name ∷ kind_word kind ∷ index_words s)
-    (known_word (codes "layer") refl refl (omega arith), (name_word name named, layer_words_plain kind s))
+    (known_word (codes "layer") refl refl (omega arith), (name_word name h, layer_words_plain kind s))
     (omega (arith, few_indexes s)) refl
-    ∙ layer_fields name kind (index_words s) named read.some
+    ∙ layer_fields name kind (index_words s) h read.some
     ∙ read.read
 
 -- ---- every command

@@ -1,11 +1,11 @@
--- The forms of a line, as a table: a command word, the fields behind it, and what is in order.
-use Rattle.std.specs.Prelude.{ℕ, Bool, true, false, ◌&&◌, List, [], ◌∷◌, Option, Some, None, codes, bytes_eq, nat_le, slice_index}
+-- The forms of a line, as a table: a command word, the numbers behind it and the name of a layer, and which of them are
+-- in order.
+use Rattle.std.specs.Prelude.{ℕ, Bool, true, false, ◌&&◌, List, [], ◌∷◌, Option, codes, bytes_eq, nat_le, slice_index}
 use Rattle.std.specs.List.{find}
 use Rattle.map_model.specs.Grammar.{greatest_id, greatest_coordinate}
 
--- what stands in a word
+-- what number stands in a word
 pub data Field : Type 0 where
-  Name : Field
   -- an identifier
   Id : Field
   -- a coordinate or a weight
@@ -20,12 +20,10 @@ pub record Limits : Type 0 where
 abbrev pub greatest_amount : ℕ
 greatest_amount = 64
 
--- the limits of a number
-abbrev pub limits_of : Field → Option Limits
-limits_of Name = None
-limits_of Id = Some (record { least = 0; greatest = greatest_id })
-limits_of Coordinate = Some (record { least = 0; greatest = greatest_coordinate })
-limits_of Amount = Some (record { least = 1; greatest = greatest_amount })
+abbrev pub limits_of : Field → Limits
+limits_of Id = record { least = 0; greatest = greatest_id }
+limits_of Coordinate = record { least = 0; greatest = greatest_coordinate }
+limits_of Amount = record { least = 1; greatest = greatest_amount }
 
 -- which coordinates are in order
 pub data Order : Type 0 where
@@ -42,8 +40,9 @@ is_ordered Corners places = nat_le (slice_index places 0) (slice_index places 2)
 
 pub record Form : Type 0 where
   pub word : List ℕ
+  -- the numbers behind the name
   pub fields : List Field
-  -- whether a kind and one or more indexes follow the fields
+  -- whether a kind and one or more indexes follow
   pub has_indexes : Bool
   pub order : Order
 
@@ -68,26 +67,26 @@ pub data Verb : Type 0 where
 abbrev pub row : List ℕ → List Field → Order → Form
 row word fields order = record { word = word; fields = fields; has_indexes = false; order = order }
 
-abbrev pub rect_fields : List Field
-rect_fields = Name ∷ Coordinate ∷ Coordinate ∷ Coordinate ∷ Coordinate ∷ []
+abbrev pub corner_fields : List Field
+corner_fields = Coordinate ∷ Coordinate ∷ Coordinate ∷ Coordinate ∷ []
 
 unfoldable pub form : Verb → Form
-form Layer = record { word = codes "layer"; fields = Name ∷ []; has_indexes = true; order = Free }
-form Add = row (codes "add") (Name ∷ Id ∷ Coordinate ∷ Coordinate ∷ Coordinate ∷ []) Free
-form Seg = row (codes "seg") (Name ∷ Id ∷ Coordinate ∷ Coordinate ∷ Coordinate ∷ []) Ends
-form Drop = row (codes "drop") (Name ∷ Id ∷ []) Free
-form Count = row (codes "count") rect_fields Corners
-form Sum = row (codes "sum") rect_fields Corners
-form ListIds = row (codes "list") rect_fields Corners
-form Near = row (codes "near") (Name ∷ Coordinate ∷ Coordinate ∷ []) Free
-form Nearest = row (codes "nearest") (Name ∷ Amount ∷ Coordinate ∷ Coordinate ∷ []) Free
-form Above = row (codes "above") (Name ∷ Coordinate ∷ Coordinate ∷ Coordinate ∷ []) Ends
-form Top = row (codes "top") (Name ∷ Coordinate ∷ Coordinate ∷ []) Ends
-form Stab = row (codes "stab") (Name ∷ Coordinate ∷ []) Free
-form StabCount = row (codes "stabcount") (Name ∷ Coordinate ∷ []) Free
-form Get = row (codes "get") (Name ∷ Id ∷ []) Free
-form Size = row (codes "size") (Name ∷ []) Free
-form Recent = row (codes "recent") (Name ∷ Amount ∷ []) Free
+form Layer = record { word = codes "layer"; fields = []; has_indexes = true; order = Free }
+form Add = row (codes "add") (Id ∷ Coordinate ∷ Coordinate ∷ Coordinate ∷ []) Free
+form Seg = row (codes "seg") (Id ∷ Coordinate ∷ Coordinate ∷ Coordinate ∷ []) Ends
+form Drop = row (codes "drop") (Id ∷ []) Free
+form Count = row (codes "count") corner_fields Corners
+form Sum = row (codes "sum") corner_fields Corners
+form ListIds = row (codes "list") corner_fields Corners
+form Near = row (codes "near") (Coordinate ∷ Coordinate ∷ []) Free
+form Nearest = row (codes "nearest") (Amount ∷ Coordinate ∷ Coordinate ∷ []) Free
+form Above = row (codes "above") (Coordinate ∷ Coordinate ∷ Coordinate ∷ []) Ends
+form Top = row (codes "top") (Coordinate ∷ Coordinate ∷ []) Ends
+form Stab = row (codes "stab") (Coordinate ∷ []) Free
+form StabCount = row (codes "stabcount") (Coordinate ∷ []) Free
+form Get = row (codes "get") (Id ∷ []) Free
+form Size = row (codes "size") [] Free
+form Recent = row (codes "recent") (Amount ∷ []) Free
 
 unfoldable pub verbs : List Verb
 verbs = Layer ∷ Add ∷ Seg ∷ Drop ∷ Count ∷ Sum ∷ ListIds ∷ Near ∷ Nearest ∷ Above ∷ Top ∷ Stab ∷ StabCount ∷ Get ∷ Size ∷ Recent ∷ []

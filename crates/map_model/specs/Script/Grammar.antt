@@ -11,7 +11,7 @@ use Rattle.map_model.specs.Script.Answer as questions
 use Rattle.map_model.specs.Script.Command.{Command, MakeLayer, Add, Drop, Ask, Get, Size, Recent}
 use Rattle.map_model.specs.Script.LineFault.{LineFault}
 use Rattle.map_model.specs.Script.LineFault as faults
-use Rattle.map_model.specs.Script.Form.{Field, Name, Id, Coordinate, Amount, Limits, limits_of, Form, form, is_ordered, verb_of}
+use Rattle.map_model.specs.Script.Form.{Field, Id, Coordinate, Amount, limits_of, Form, form, is_ordered, verb_of}
 use Rattle.map_model.specs.Script.Form as verbs
 
 -- ---- bytes
@@ -27,33 +27,15 @@ is_printable byte = (byte == 9) || (nat_le 32 byte && nat_le byte 126)
 -- ---- fields
 
 -- one or more ASCII digits
-abbrev pub is_digits : List ℕ → Bool
-is_digits word = is_filled word && all_ascii_digits word
+abbrev pub is_digits : Field → List ℕ → Bool
+is_digits field word = is_filled word && all_ascii_digits word
 
-abbrev pub is_within : Limits → ℕ → Bool
-is_within limits n = nat_le limits.least n && nat_le n limits.greatest
-
--- a number field has digits
-abbrev pub has_digits : Option Limits → List ℕ → Bool
-has_digits None word = true
-has_digits (Some limits) word = is_digits word
-
--- the number of a number field is within its limits
-abbrev pub has_limits : Option Limits → List ℕ → Bool
-has_limits None word = true
-has_limits (Some limits) word = is_within limits (digits_value 10 word)
-
-abbrev pub is_name_in : Field → List ℕ → Bool
-is_name_in Name word = is_name word
-is_name_in Id word = true
-is_name_in Coordinate word = true
-is_name_in Amount word = true
-
-abbrev pub is_number_in : Field → List ℕ → Bool
-is_number_in field word = has_digits (limits_of field) word
+-- a number within the limits of its field
+abbrev pub is_within : Field → ℕ → Bool
+is_within field n = nat_le (limits_of field).least n && nat_le n (limits_of field).greatest
 
 abbrev pub is_in_range : Field → List ℕ → Bool
-is_in_range field word = has_limits (limits_of field) word
+is_in_range field word = is_within field (digits_value 10 word)
 
 -- a test passes for each field and the word that stands in it
 abbrev pub all_fields : (Field → List ℕ → Bool) → List Field → List (List ℕ) → Bool
@@ -63,7 +45,7 @@ all_fields test (field ∷ fields) (word ∷ words) = test field word && all_fie
 
 -- one word a field, and behind them, where they follow, a kind and one or more indexes
 abbrev pub has_words : Form → List (List ℕ) → Bool
-has_words form words = if form.has_indexes then nat_le (length form.fields + 2) (length words) else length words == length form.fields
+has_words f words = if f.has_indexes then nat_le (length f.fields + 2) (length words) else length words == length f.fields
 
 -- ---- what the fields say
 
@@ -76,23 +58,21 @@ pub record Values : Type 0 where
   pub kind : Kind
   pub indexes : IndexSet
 
-abbrev pub no_values : Values
-no_values = record { name = []; id = 0; places = []; amount = 0; kind = Points; indexes = no_indexes }
+-- a name and nothing else
+abbrev pub named : List ℕ → Values
+named name = record { name = name; id = 0; places = []; amount = 0; kind = Points; indexes = no_indexes }
 
-abbrev pub with_value : Field → List ℕ → Values → Values
-with_value Name word v = record v { name = word }
-with_value Id word v = record v { id = digits_value 10 word }
-with_value Coordinate word v = record v { places = v.places ++ digits_value 10 word ∷ [] }
-with_value Amount word v = record v { amount = digits_value 10 word }
+-- the values, and a number in its field
+abbrev pub with_value : Field → ℕ → Values → Values
+with_value Id n v = record v { id = n }
+with_value Coordinate n v = record v { places = v.places ++ n ∷ [] }
+with_value Amount n v = record v { amount = n }
 
 -- the values, and those of the words in these fields
 abbrev pub with_values : List Field → List (List ℕ) → Values → Values
 with_values [] words v = v
 with_values (field ∷ fields) [] v = v
-with_values (field ∷ fields) (word ∷ words) v = with_values fields words (with_value field word v)
-
-abbrev pub values_of : List Field → List (List ℕ) → Values
-values_of fields words = with_values fields words no_values
+with_values (field ∷ fields) (word ∷ words) v = with_values fields words (with_value field (digits_value 10 word) v)
 
 -- the place of a number in the order of the line
 abbrev pub place : Values → ℕ → ℕ
@@ -156,20 +136,24 @@ parse_kind verb v (word ∷ words) =
 
 -- ---- lines
 
--- the words behind a command word, whose form is this one: the first fault that holds
-abbrev pub parse_fields : verbs.Verb → Form → List (List ℕ) → Parsed
-parse_fields verb f words =
+-- the name and the words behind it, in the form of a verb: the first fault that holds
+abbrev pub parse_fields : verbs.Verb → Form → List ℕ → List (List ℕ) → Parsed
+parse_fields verb f name words =
     if not (has_words f words) then Err faults.Fields
-    else (if not (all_fields is_name_in f.fields words) then Err faults.Name
-    else (if not (all_fields is_number_in f.fields words) then Err faults.Number
+    else (if not (is_name name) then Err faults.Name
+    else (if not (all_fields is_digits f.fields words) then Err faults.Number
     else (if not (all_fields is_in_range f.fields words) then Err faults.Range
-    else (if not (is_ordered f.order (values_of f.fields words).places) then Err faults.Order
-    else (if f.has_indexes then parse_kind verb (values_of f.fields words) (drop (length f.fields) words)
-    else Ok (Some (command_of verb (values_of f.fields words))))))))
+    else (if not (is_ordered f.order (with_values f.fields words (named name)).places) then Err faults.Order
+    else (if f.has_indexes then parse_kind verb (with_values f.fields words (named name)) (drop (length f.fields) words)
+    else Ok (Some (command_of verb (with_values f.fields words (named name)))))))))
+
+abbrev pub parse_form : verbs.Verb → Form → List (List ℕ) → Parsed
+parse_form verb f [] = Err faults.Fields
+parse_form verb f (name ∷ words) = parse_fields verb f name words
 
 abbrev pub parse_verb : Option verbs.Verb → List (List ℕ) → Parsed
 parse_verb None words = Err faults.Command
-parse_verb (Some verb) words = parse_fields verb (form verb) words
+parse_verb (Some verb) words = parse_form verb (form verb) words
 
 -- a line with no word, or whose first word begins with `#`, says nothing, whatever other bytes it has
 abbrev pub parse_words : List ℕ → List (List ℕ) → Parsed
