@@ -75,15 +75,11 @@ out_of_one_line a b = one_line-append (spaced a) (47 ∷ decimal b) (decimal_one
 cost_one_line : (cost : Cost) → one_line (cost_text cost) ≡ true
 cost_one_line Untold = refl
 cost_one_line (Updating s) =
-    let turns = codes " turns" ++ out_of s.turns s.turn_bound in
-    one_line-append (turns ++ codes " marks") (out_of s.marks s.mark_bound)
-    (one_line-append turns (codes " marks") (out_of_one_line s.turns s.turn_bound) refl)
-    (out_of_one_line s.marks s.mark_bound)
+    one_line-append (codes " turns" ++ out_of s.turns s.turn_bound) (codes " marks" ++ out_of s.marks s.mark_bound)
+    (out_of_one_line s.turns s.turn_bound) (out_of_one_line s.marks s.mark_bound)
 cost_one_line (Asking a) =
-    let parts = codes " parts" ++ out_of a.parts a.part_bound in
-    one_line-append (parts ++ codes " touches ") (decimal a.touches)
-    (one_line-append parts (codes " touches ") (out_of_one_line a.parts a.part_bound) refl)
-    (decimal_one_line a.touches)
+    one_line-append (codes " parts" ++ out_of a.parts a.part_bound) (codes " touches " ++ decimal a.touches)
+    (out_of_one_line a.parts a.part_bound) (decimal_one_line a.touches)
 
 -- the line without its line feed
 abbrev pub told_text : Bool → Reply → Cost → List ℕ

@@ -63,4 +63,11 @@ impl FoundList {
     {
         self.found[k]
     }
+
+    /// All of them.
+    pub fn as_slice(&self) -> &[Found]
+        ensures { result.now ≡ self.now }
+    {
+        self.found.as_slice()
+    }
 }

@@ -28,8 +28,8 @@ out_of a b = 32 ∷ decimal a ++ 47 ∷ decimal b
 -- what a line of the ledger ends in
 abbrev pub cost_text : Cost → List ℕ
 cost_text Untold = []
-cost_text (Updating s) = codes " turns" ++ out_of s.turns s.turn_bound ++ codes " marks" ++ out_of s.marks s.mark_bound
-cost_text (Asking a) = codes " parts" ++ out_of a.parts a.part_bound ++ codes " touches " ++ decimal a.touches
+cost_text (Updating s) = (codes " turns" ++ out_of s.turns s.turn_bound) ++ (codes " marks" ++ out_of s.marks s.mark_bound)
+cost_text (Asking a) = (codes " parts" ++ out_of a.parts a.part_bound) ++ (codes " touches " ++ decimal a.touches)
 
 -- ---- the bounds, for a layer of n live items
 
