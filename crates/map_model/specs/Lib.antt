@@ -7,3 +7,4 @@ pub mod Machine
 pub mod Grammar
 pub mod Text
 pub mod Output
+pub mod Script

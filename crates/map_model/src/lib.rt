@@ -12,6 +12,8 @@ ghost use Rattle.map_model.specs.Machine.{step};
 ghost use Rattle.map_model.specs.Text.{lines, whole_lines, refusals};
 ghost use Rattle.map_model.specs.Output.{Output, machine_text, machine_end, never_lacks_memory};
 
+pub mod script;
+
 /// The lines and the bytes written for them fix the map at the end. So they tell which commands memory refused.
 pub fn end_is_fixed()
     ensures { (start first second : State) (script : List (List ℕ)) (written : List ℕ) →

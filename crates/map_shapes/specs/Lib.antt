@@ -6,3 +6,9 @@ pub mod Ascending
 pub mod AscendingLaws
 pub mod Questions
 pub mod QuestionLaws
+pub mod Kind
+pub mod IndexSet
+pub mod Segment
+pub mod Shape
+pub mod Found
+pub mod Cost

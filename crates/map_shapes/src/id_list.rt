@@ -42,6 +42,13 @@ impl IdList {
         self.ids[k]
     }
 
+    /// All of them.
+    pub fn as_slice(&self) -> &[u64]
+        ensures { result.now ≡ self.now }
+    {
+        self.ids.as_slice()
+    }
+
     /// The vector that holds them.
     pub fn into_vec(self) -> Vec<u64>
         ensures { result.items ≡ self }

@@ -1,26 +1,45 @@
-//! The shapes of a map, the names of its layers, and the questions about points in a rectangle.
+//! The shapes of a map, the names of its layers, the questions about points in a rectangle, and what replies tell.
 #![tactic(auto)]
 
+mod asked;
 mod count_in;
+mod found;
+mod found_list;
 mod id_list;
 mod id_tally;
+mod index_set;
+mod kind;
 mod list_in;
 mod name;
+mod peak;
 mod point;
 mod point_item;
 mod recent;
 mod rect;
+mod segment;
+mod segment_item;
+mod shape;
+mod spent;
 mod sum_in;
 
+pub use asked::Asked;
 pub use count_in::CountIn;
+pub use found::Found;
+pub use found_list::FoundList;
 pub use id_list::IdList;
 pub use id_tally::IdTally;
+pub use index_set::IndexSet;
+pub use kind::Kind;
 pub use list_in::ListIn;
 pub use name::Name;
+pub use peak::Peak;
 pub use point::Point;
 pub use query_laws::Total;
 pub use recent::Recent;
 pub use rect::Rect;
+pub use segment::Segment;
+pub use shape::Shape;
+pub use spent::Spent;
 pub use sum_in::SumIn;
 
 #[cfg(test)]

@@ -54,4 +54,11 @@ impl Recent {
     {
         self.ids[k]
     }
+
+    /// All of them.
+    pub fn as_slice(&self) -> &[u64]
+        ensures { result.now ≡ self.now }
+    {
+        self.ids.as_slice()
+    }
 }

@@ -2,6 +2,7 @@
 ghost use Rattle.std.specs.Prelude.{◌<◌, ◌^◌};
 
 mod one_by_one;
+mod segments;
 
 use crate::{CountIn, IdList, IdTally, ListIn, Point, Rect, SumIn};
 use one_by_one::answer_over;

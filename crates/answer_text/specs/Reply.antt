@@ -1,0 +1,65 @@
+-- A reply and what it cost as the definitions have them.
+use Rattle.std.specs.Prelude.{map, option_map}
+use Rattle.map_model.specs.Script.Answer as answers
+use Rattle.map_model.specs.Script.Refusal as refusals
+use Rattle.map_model.specs.Script.Reply as replies
+use Rattle.map_model.specs.Script.Cost as costs
+use Rattle.map_shapes.specs.Shape.{model_shape}
+use Rattle.map_shapes.specs.Found.{found_of, peak_of}
+use Rattle.map_shapes.specs.Cost.{spent_of, asked_of}
+use Rattle.answer_text.specs.declared.refusal.Refusal.{Refusal}
+use Rattle.answer_text.specs.declared.refusal.Refusal.TheVariants as causes
+use Rattle.answer_text.specs.declared.reply.Reply.{Reply}
+use Rattle.answer_text.specs.declared.reply.Reply.TheVariants as variants
+
+abbrev pub refusal_of : Refusal → refusals.Refusal
+refusal_of causes.Line = refusals.Line
+refusal_of causes.Command = refusals.Command
+refusal_of causes.Fields = refusals.Fields
+refusal_of causes.Name = refusals.Name
+refusal_of causes.Number = refusals.Number
+refusal_of causes.Range = refusals.Range
+refusal_of causes.Order = refusals.Order
+refusal_of causes.NoLayer = refusals.NoLayer
+refusal_of causes.Kind = refusals.Kind
+refusal_of causes.Index = refusals.Index
+refusal_of causes.Taken = refusals.Taken
+refusal_of causes.NoRoom = refusals.NoRoom
+refusal_of (causes.Duplicate id) = refusals.Duplicate id
+refusal_of (causes.Unknown id) = refusals.Unknown id
+refusal_of causes.Full = refusals.Full
+refusal_of causes.NoMemory = refusals.NoMemory
+
+abbrev pub reply_of : Reply → replies.Reply
+reply_of variants.Made = replies.Made
+reply_of (variants.Updated spent) = replies.Updated
+reply_of (variants.Count n asked) = replies.Answered (answers.Counted n)
+reply_of (variants.Sum n asked) = replies.Answered (answers.Summed n)
+reply_of (variants.List ids asked) = replies.Answered (answers.Listed ids)
+reply_of (variants.Near found asked) = replies.Answered (answers.NearestOne (option_map found_of found))
+reply_of (variants.Nearest found asked) = replies.Answered (answers.NearestOnes (map found_of found))
+reply_of (variants.Above ids asked) = replies.Answered (answers.ListedAbove ids)
+reply_of (variants.Top peak asked) = replies.Answered (answers.Highest (option_map peak_of peak))
+reply_of (variants.Stab ids asked) = replies.Answered (answers.Stabbed ids)
+reply_of (variants.StabCount n asked) = replies.Answered (answers.StabCounted n)
+reply_of (variants.Got shape) = replies.Got (model_shape shape)
+reply_of (variants.Size n) = replies.Sized n
+reply_of (variants.Recent ids) = replies.Latest ids
+reply_of (variants.Refused cause) = replies.Refused (refusal_of cause)
+
+abbrev pub cost_of : Reply → costs.Cost
+cost_of variants.Made = costs.Untold
+cost_of (variants.Updated spent) = costs.Updating (spent_of spent)
+cost_of (variants.Count n asked) = costs.Asking (asked_of asked)
+cost_of (variants.Sum n asked) = costs.Asking (asked_of asked)
+cost_of (variants.List ids asked) = costs.Asking (asked_of asked)
+cost_of (variants.Near found asked) = costs.Asking (asked_of asked)
+cost_of (variants.Nearest found asked) = costs.Asking (asked_of asked)
+cost_of (variants.Above ids asked) = costs.Asking (asked_of asked)
+cost_of (variants.Top peak asked) = costs.Asking (asked_of asked)
+cost_of (variants.Stab ids asked) = costs.Asking (asked_of asked)
+cost_of (variants.StabCount n asked) = costs.Asking (asked_of asked)
+cost_of (variants.Got shape) = costs.Untold
+cost_of (variants.Size n) = costs.Untold
+cost_of (variants.Recent ids) = costs.Untold
+cost_of (variants.Refused cause) = costs.Untold

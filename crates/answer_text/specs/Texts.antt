@@ -1,0 +1,85 @@
+-- A reply's line by its parts: a word or two, the numbers behind it, and what it cost.
+use Rattle.std.specs.Prelude.{ℕ, List, [], ◌∷◌, ◌++◌, Bool, Option, Some, None, codes, map, flat_map, if◌then◌else◌}
+use Rattle.map_model.specs.Script.Reply.{spaced, numbers_or_none, found_or_none, peak_or_none, shape_numbers}
+use Rattle.map_model.specs.Script.Cost.{cost_text}
+use Rattle.map_shapes.specs.declared.found.Found as shapes
+use Rattle.map_shapes.specs.Shape.{model_shape}
+use Rattle.map_shapes.specs.Found.{found_of, peak_of}
+use Rattle.answer_text.specs.declared.refusal.Refusal.{Refusal}
+use Rattle.answer_text.specs.declared.refusal.Refusal.TheVariants as causes
+use Rattle.answer_text.specs.declared.reply.Reply.{Reply}
+use Rattle.answer_text.specs.declared.reply.Reply.TheVariants as variants
+use Rattle.answer_text.specs.Reply.{cost_of}
+
+abbrev pub refusal_word : Refusal → List ℕ
+refusal_word causes.Line = codes "no line"
+refusal_word causes.Command = codes "no command"
+refusal_word causes.Fields = codes "no fields"
+refusal_word causes.Name = codes "no name"
+refusal_word causes.Number = codes "no number"
+refusal_word causes.Range = codes "no range"
+refusal_word causes.Order = codes "no order"
+refusal_word causes.NoLayer = codes "no layer"
+refusal_word causes.Kind = codes "no kind"
+refusal_word causes.Index = codes "no index"
+refusal_word causes.Taken = codes "no taken"
+refusal_word causes.NoRoom = codes "no room"
+refusal_word (causes.Duplicate id) = codes "no duplicate"
+refusal_word (causes.Unknown id) = codes "no unknown"
+refusal_word causes.Full = codes "no full"
+refusal_word causes.NoMemory = codes "no memory"
+
+abbrev pub reply_word : Reply → List ℕ
+reply_word variants.Made = codes "ok"
+reply_word (variants.Updated spent) = codes "ok"
+reply_word (variants.Count n asked) = codes "count"
+reply_word (variants.Sum n asked) = codes "sum"
+reply_word (variants.List ids asked) = codes "list"
+reply_word (variants.Near found asked) = codes "near"
+reply_word (variants.Nearest found asked) = codes "nearest"
+reply_word (variants.Above ids asked) = codes "above"
+reply_word (variants.Top peak asked) = codes "top"
+reply_word (variants.Stab ids asked) = codes "stab"
+reply_word (variants.StabCount n asked) = codes "stabcount"
+reply_word (variants.Got shape) = codes "get"
+reply_word (variants.Size n) = codes "size"
+reply_word (variants.Recent ids) = codes "recent"
+reply_word (variants.Refused cause) = refusal_word cause
+
+-- numbers, each behind a space
+abbrev pub spaced_all : List ℕ → List ℕ
+spaced_all ns = flat_map spaced ns
+
+abbrev pub found_text : shapes.Found → List ℕ
+found_text f = spaced_all (f.id ∷ f.dist ∷ [])
+
+abbrev pub founds_text : List shapes.Found → List ℕ
+founds_text [] = codes " none"
+founds_text (f ∷ fs) = flat_map found_text (f ∷ fs)
+
+abbrev pub refusal_numbers : Refusal → List ℕ
+refusal_numbers (causes.Duplicate id) = spaced_all (id ∷ [])
+refusal_numbers (causes.Unknown id) = spaced_all (id ∷ [])
+refusal_numbers _ = []
+
+abbrev pub reply_numbers : Reply → List ℕ
+reply_numbers variants.Made = []
+reply_numbers (variants.Updated spent) = []
+reply_numbers (variants.Count n asked) = spaced_all (n ∷ [])
+reply_numbers (variants.Sum n asked) = spaced_all (n ∷ [])
+reply_numbers (variants.List ids asked) = numbers_or_none ids
+reply_numbers (variants.Near None asked) = codes " none"
+reply_numbers (variants.Near (Some found) asked) = found_text found
+reply_numbers (variants.Nearest found asked) = founds_text found
+reply_numbers (variants.Above ids asked) = numbers_or_none ids
+reply_numbers (variants.Top None asked) = codes " none"
+reply_numbers (variants.Top (Some peak) asked) = spaced_all (peak.id ∷ peak.y ∷ [])
+reply_numbers (variants.Stab ids asked) = numbers_or_none ids
+reply_numbers (variants.StabCount n asked) = spaced_all (n ∷ [])
+reply_numbers (variants.Got shape) = spaced_all (shape_numbers (model_shape shape))
+reply_numbers (variants.Size n) = spaced_all (n ∷ [])
+reply_numbers (variants.Recent ids) = numbers_or_none ids
+reply_numbers (variants.Refused cause) = refusal_numbers cause
+
+abbrev pub tail_text : Bool → Reply → List ℕ
+tail_text ledger reply = if ledger then cost_text (cost_of reply) else []

@@ -1,0 +1,17 @@
+//! The replies to a script's lines, and the bytes that say them.
+//!
+//! [`write_reply`] writes a line to a sink in pieces of at most 64 bytes, so that a short line is one write.
+#![tactic(auto)]
+
+mod piece;
+mod refusal;
+mod reply;
+mod texts;
+mod writing;
+
+pub use refusal::Refusal;
+pub use reply::Reply;
+pub use writing::write_reply;
+
+#[cfg(test)]
+mod tests;

@@ -1,0 +1,55 @@
+// A piece of a line, which is filled before a sink is given it.
+ghost use Rattle.std.specs.Prelude.{◌≡◌, ◌+◌, ◌<◌, ◌≤◌, ◌++◌, length, OnOk, OnErr};
+ghost use Rattle.std.specs.Io.KnownBytes.{Appends};
+ghost use Rattle.map_io.specs.Faults.{Rose};
+ghost use Rattle.map_io.specs.Parts.{AppendsPart};
+ghost use Rattle.answer_text.specs.Pieces.{Gathers};
+
+use arrayvec::ArrayVec;
+use map_io::{Sink, WriteFault, write_all};
+
+/// The most bytes that a sink is handed at once.
+pub const LONGEST_PIECE: usize = 64;
+
+/// Bytes of a line that a sink wasn't given yet.
+pub type Piece = ArrayVec<u8, LONGEST_PIECE>;
+
+/// Puts at most 64 bytes behind those of the piece, which is written as soon as it is full.
+pub fn put<K: Sink>(piece: &mut Piece, bytes: &[u8], sink: &mut K) -> Result<(), WriteFault>
+    requires some_room { length piece.old.items < 64 }
+    requires small { length bytes.now ≤ 64 }
+    ensures all { OnOk result (Gathers (K.written sink.old) (K.written sink.new) piece.old.items piece.new.items bytes.now) }
+    ensures part { OnErr result (AppendsPart (K.written sink.old) (K.written sink.new) (piece.old.items ++ bytes.now)) }
+    ensures kept { K.faults sink.old ≤ K.faults sink.new }
+    ensures failed { OnErr result (Rose (K.faults sink.old) (K.faults sink.new)) }
+{
+    let room = LONGEST_PIECE - piece.len();
+    if bytes.len() < room {
+        append(piece, bytes);
+        return Ok(());
+    }
+    let (front, back) = bytes.split_at(room);
+    append(piece, front);
+    write_all(sink, piece.as_slice())?;
+    piece.clear();
+    append(piece, back);
+    Ok(())
+}
+
+/// Writes what is left in the piece.
+pub fn finish<K: Sink>(piece: &Piece, sink: &mut K) -> Result<(), WriteFault>
+    ensures all { OnOk result (Appends (K.written sink.old) (K.written sink.new) piece.now.items) }
+    ensures part { OnErr result (AppendsPart (K.written sink.old) (K.written sink.new) piece.now.items) }
+    ensures kept { K.faults sink.old ≤ K.faults sink.new }
+    ensures failed { OnErr result (Rose (K.faults sink.old) (K.faults sink.new)) }
+{
+    write_all(sink, piece.as_slice())
+}
+
+fn append(piece: &mut Piece, bytes: &[u8])
+    requires { length piece.old.items + length bytes.now ≤ 64 }
+    ensures { piece.new.items ≡ piece.old.items ++ bytes.now }
+{
+    let appended = piece.try_extend_from_slice(bytes);
+    prove!(appended.is_ok());
+}

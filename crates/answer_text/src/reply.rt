@@ -1,0 +1,43 @@
+// What a command is answered.
+use crate::Refusal;
+use map_shapes::{Asked, Found, FoundList, IdList, Peak, Recent, Shape, Spent};
+
+/// What a command is answered, with what it cost.
+#[derive(Drop)]
+pub enum Reply {
+    /// A layer was made.
+    Made,
+    /// An item was added or dropped.
+    Updated { spent: Spent },
+    Count { n: u64, asked: Asked },
+    Sum { n: u64, asked: Asked },
+    /// Identifiers in ascending order.
+    List { ids: IdList, asked: Asked },
+    Near { found: Option<Found>, asked: Asked },
+    /// The nearest first.
+    Nearest { found: FoundList, asked: Asked },
+    /// Identifiers in ascending order.
+    Above { ids: IdList, asked: Asked },
+    Top { peak: Option<Peak>, asked: Asked },
+    /// Identifiers in ascending order.
+    Stab { ids: IdList, asked: Asked },
+    StabCount { n: u64, asked: Asked },
+    Got { shape: Shape },
+    Size { n: u64 },
+    /// The newest first.
+    Recent { ids: Recent },
+    Refused { cause: Refusal },
+}
+
+impl Reply {
+    ghost use Rattle.std.specs.Prelude.{◌≡◌};
+    ghost use Rattle.map_model.specs.Script.Reply.{is_refusal};
+    ghost use Rattle.answer_text.specs.Reply.{reply_of};
+
+    /// Whether it is a refusal: exactly where its line begins with `no `.
+    pub fn refused(&self) -> bool
+        ensures { result ≡ is_refusal (reply_of self.now) }
+    {
+        matches!(self, Reply::Refused { .. })
+    }
+}

@@ -1,0 +1,110 @@
+// The texts that replies are made of.
+ghost use Rattle.std.specs.Prelude.{◌≡◌, ◌+◌, ◌≤◌, ◌∷◌, ◌++◌, length, decimal};
+ghost use Rattle.map_model.specs.Script.Cost.{out_of};
+ghost use Rattle.map_model.specs.Script.Reply.{spaced};
+ghost use Rattle.answer_text.specs.Texts.{refusal_word, reply_word};
+
+use crate::{Refusal, Reply};
+use arrayvec::ArrayVec;
+use itoa::Buffer;
+
+/// A short text in place.
+pub type Text = ArrayVec<u8, 64>;
+
+/// The word or two that a reply's line begins with.
+pub fn reply_word(reply: &Reply) -> &'static [u8]
+    ensures word { result.now ≡ reply_word reply.now }
+    ensures short { length result.now ≤ 64 }
+{
+    match reply {
+        Reply::Made | Reply::Updated { .. } => b"ok",
+        Reply::Count { .. } => b"count",
+        Reply::Sum { .. } => b"sum",
+        Reply::List { .. } => b"list",
+        Reply::Near { .. } => b"near",
+        Reply::Nearest { .. } => b"nearest",
+        Reply::Above { .. } => b"above",
+        Reply::Top { .. } => b"top",
+        Reply::Stab { .. } => b"stab",
+        Reply::StabCount { .. } => b"stabcount",
+        Reply::Got { .. } => b"get",
+        Reply::Size { .. } => b"size",
+        Reply::Recent { .. } => b"recent",
+        Reply::Refused { cause } => refusal_word(*cause),
+    }
+}
+
+fn refusal_word(cause: Refusal) -> &'static [u8]
+    ensures word { result.now ≡ refusal_word cause }
+    ensures short { length result.now ≤ 64 }
+{
+    match cause {
+        Refusal::Line => b"no line",
+        Refusal::Command => b"no command",
+        Refusal::Fields => b"no fields",
+        Refusal::Name => b"no name",
+        Refusal::Number => b"no number",
+        Refusal::Range => b"no range",
+        Refusal::Order => b"no order",
+        Refusal::NoLayer => b"no layer",
+        Refusal::Kind => b"no kind",
+        Refusal::Index => b"no index",
+        Refusal::Taken => b"no taken",
+        Refusal::NoRoom => b"no room",
+        Refusal::Duplicate { .. } => b"no duplicate",
+        Refusal::Unknown { .. } => b"no unknown",
+        Refusal::Full => b"no full",
+        Refusal::NoMemory => b"no memory",
+    }
+}
+
+/// A space and a number.
+pub fn spaced(n: u64) -> Text
+    ensures { result.items ≡ spaced n }
+{
+    let mut text = Text::new();
+    append_number(&mut text, b" ", n);
+    text
+}
+
+/// A label of at most 8 bytes, and ` A/B`.
+pub fn out_of(label: &[u8], a: u64, b: u64) -> Text
+    requires { length label.now ≤ 8 }
+    ensures { result.items ≡ label.now ++ out_of a b }
+{
+    let mut text = Text::new();
+    append(&mut text, label);
+    append_number(&mut text, b" ", a);
+    append_number(&mut text, b"/", b);
+    text
+}
+
+/// A label of at most 16 bytes, and a number.
+pub fn labelled(label: &[u8], n: u64) -> Text
+    requires { length label.now ≤ 16 }
+    ensures { result.items ≡ label.now ++ decimal n }
+{
+    let mut text = Text::new();
+    append_number(&mut text, label, n);
+    text
+}
+
+/// Appends a label of at most 16 bytes, and a number.
+fn append_number(text: &mut Text, label: &[u8], n: u64)
+    requires small { length label.now ≤ 16 }
+    requires room { length text.old.items + length label.now + 20 ≤ 64 }
+    ensures text { text.new.items ≡ text.old.items ++ (label.now ++ decimal n) }
+    ensures room { length text.new.items ≤ length text.old.items + length label.now + 20 }
+{
+    let mut digits = Buffer::new();
+    append(text, label);
+    append(text, digits.format(n).as_bytes());
+}
+
+fn append(text: &mut Text, bytes: &[u8])
+    requires { length text.old.items + length bytes.now ≤ 64 }
+    ensures { text.new.items ≡ text.old.items ++ bytes.now }
+{
+    let appended = text.try_extend_from_slice(bytes);
+    prove!(appended.is_ok());
+}

@@ -1,0 +1,267 @@
+// A reply's line, to a sink.
+ghost use Rattle.std.specs.Prelude.{◌≡◌, ◌<◌, ◌≤◌, ◌++◌, length, decimal, flat_map, OnOk, OnErr};
+ghost use Rattle.std.specs.Io.KnownBytes.{Appends};
+ghost use Rattle.map_io.specs.Faults.{Rose};
+ghost use Rattle.map_io.specs.Parts.{AppendsPart};
+ghost use Rattle.map_model.specs.Script.Reply.{spaced, numbers_or_none, shape_numbers, reply_line};
+ghost use Rattle.map_model.specs.Script.Cost as costs;
+ghost use Rattle.map_shapes.specs.Shape.{model_shape};
+ghost use Rattle.map_shapes.specs.Cost.{spent_of, asked_of};
+ghost use Rattle.answer_text.specs.Reply.{reply_of, cost_of};
+ghost use Rattle.answer_text.specs.Pieces.{Gathers};
+ghost use Rattle.answer_text.specs.Texts.{reply_numbers, refusal_numbers, spaced_all, found_text, founds_text, tail_text};
+
+use crate::piece::{Piece, finish, put};
+use crate::texts::{labelled, out_of, reply_word, spaced};
+use crate::{Refusal, Reply};
+use map_io::{Sink, WriteFault};
+use map_shapes::{Asked, Found, Shape, Spent};
+
+/// What stands for an empty list.
+const NONE: &[u8] = b" none";
+
+/// Writes a reply's line with its line feed; with the ledger, what it cost stands at its end.
+///
+/// The sink is handed pieces of 64 bytes, and at last what is left: a line of at most 64 bytes is one write. It takes no
+/// memory. `WriteFault` comes only where the sink failed in this call; a part of the line, not all of it, is written then.
+pub fn write_reply<K: Sink>(reply: &Reply, ledger: bool, sink: &mut K) -> Result<(), WriteFault>
+    ensures all { OnOk result (Appends (K.written sink.old) (K.written sink.new) (reply_line ledger (reply_of reply.now) (cost_of reply.now))) }
+    ensures part { OnErr result (AppendsPart (K.written sink.old) (K.written sink.new) (reply_line ledger (reply_of reply.now) (cost_of reply.now))) }
+    ensures kept { K.faults sink.old ≤ K.faults sink.new }
+    ensures failed { OnErr result (Rose (K.faults sink.old) (K.faults sink.new)) }
+{
+    let mut piece = Piece::new();
+    put(&mut piece, reply_word(reply), sink)?;
+    put_reply_numbers(&mut piece, reply, sink)?;
+    put_tail(&mut piece, reply, ledger, sink)?;
+    put(&mut piece, b"\n", sink)?;
+    finish(&piece, sink)
+}
+
+fn put_reply_numbers<K: Sink>(
+    piece: &mut Piece,
+    reply: &Reply,
+    sink: &mut K,
+) -> Result<(), WriteFault>
+    requires { length piece.old.items < 64 }
+    ensures all { OnOk result (Gathers (K.written sink.old) (K.written sink.new) piece.old.items piece.new.items (reply_numbers reply.now)) }
+    ensures part { OnErr result (AppendsPart (K.written sink.old) (K.written sink.new) (piece.old.items ++ reply_numbers reply.now)) }
+    ensures kept { K.faults sink.old ≤ K.faults sink.new }
+    ensures failed { OnErr result (Rose (K.faults sink.old) (K.faults sink.new)) }
+{
+    match reply {
+        Reply::Made | Reply::Updated { .. } => Ok(()),
+        Reply::Count { n, .. }
+        | Reply::Sum { n, .. }
+        | Reply::StabCount { n, .. }
+        | Reply::Size { n } => put_numbers(piece, &[*n], sink),
+        Reply::List { ids, .. } | Reply::Above { ids, .. } | Reply::Stab { ids, .. } => {
+            put_ids(piece, ids.as_slice(), sink)
+        }
+        Reply::Recent { ids } => put_ids(piece, ids.as_slice(), sink),
+        Reply::Near { found: None, .. } | Reply::Top { peak: None, .. } => put(piece, NONE, sink),
+        Reply::Near {
+            found: Some(found),
+            ..
+        } => put_numbers(piece, &[found.id, found.dist], sink),
+        Reply::Top {
+            peak: Some(peak),
+            ..
+        } => put_numbers(piece, &[peak.id, u64::from(peak.y)], sink),
+        Reply::Nearest { found, .. } => put_founds(piece, found.as_slice(), sink),
+        Reply::Got { shape } => put_numbers(piece, &shape_numbers(*shape), sink),
+        Reply::Refused { cause } => put_refusal_numbers(piece, *cause, sink),
+    }
+}
+
+fn shape_numbers(shape: Shape) -> [u64; 3]
+    ensures { result ≡ shape_numbers (model_shape shape) }
+{
+    match shape {
+        Shape::Point { x, y, w } => [u64::from(x), u64::from(y), u64::from(w)],
+        Shape::Segment { lo, hi, y } => [u64::from(lo), u64::from(hi), u64::from(y)],
+    }
+}
+
+fn put_refusal_numbers<K: Sink>(
+    piece: &mut Piece,
+    cause: Refusal,
+    sink: &mut K,
+) -> Result<(), WriteFault>
+    requires { length piece.old.items < 64 }
+    ensures all { OnOk result (Gathers (K.written sink.old) (K.written sink.new) piece.old.items piece.new.items (refusal_numbers cause)) }
+    ensures part { OnErr result (AppendsPart (K.written sink.old) (K.written sink.new) (piece.old.items ++ refusal_numbers cause)) }
+    ensures kept { K.faults sink.old ≤ K.faults sink.new }
+    ensures failed { OnErr result (Rose (K.faults sink.old) (K.faults sink.new)) }
+{
+    match cause {
+        Refusal::Duplicate { id } | Refusal::Unknown { id } => put_numbers(piece, &[id], sink),
+        _ => Ok(()),
+    }
+}
+
+/// The identifiers, or ` none`.
+fn put_ids<K: Sink>(piece: &mut Piece, ids: &[u64], sink: &mut K) -> Result<(), WriteFault>
+    requires { length piece.old.items < 64 }
+    ensures all { OnOk result (Gathers (K.written sink.old) (K.written sink.new) piece.old.items piece.new.items (numbers_or_none ids.now)) }
+    ensures part { OnErr result (AppendsPart (K.written sink.old) (K.written sink.new) (piece.old.items ++ numbers_or_none ids.now)) }
+    ensures kept { K.faults sink.old ≤ K.faults sink.new }
+    ensures failed { OnErr result (Rose (K.faults sink.old) (K.faults sink.new)) }
+{
+    if ids.is_empty() {
+        put(piece, NONE, sink)
+    } else {
+        put_numbers(piece, ids, sink)
+    }
+}
+
+/// Numbers, each behind a space.
+fn put_numbers<K: Sink>(piece: &mut Piece, numbers: &[u64], sink: &mut K) -> Result<(), WriteFault>
+    requires { length piece.old.items < 64 }
+    ensures all { OnOk result (Gathers (K.written sink.old) (K.written sink.new) piece.old.items piece.new.items (spaced_all numbers.now)) }
+    ensures part { OnErr result (AppendsPart (K.written sink.old) (K.written sink.new) (piece.old.items ++ spaced_all numbers.now)) }
+    ensures kept { K.faults sink.old ≤ K.faults sink.new }
+    ensures failed { OnErr result (Rose (K.faults sink.old) (K.faults sink.new)) }
+{
+    for number in numbers {
+        put_number(piece, *number, sink)?;
+    }
+    Ok(())
+}
+
+/// Identifiers with their distances, or ` none`.
+fn put_founds<K: Sink>(piece: &mut Piece, found: &[Found], sink: &mut K) -> Result<(), WriteFault>
+    requires { length piece.old.items < 64 }
+    ensures all { OnOk result (Gathers (K.written sink.old) (K.written sink.new) piece.old.items piece.new.items (founds_text found.now)) }
+    ensures part { OnErr result (AppendsPart (K.written sink.old) (K.written sink.new) (piece.old.items ++ founds_text found.now)) }
+    ensures kept { K.faults sink.old ≤ K.faults sink.new }
+    ensures failed { OnErr result (Rose (K.faults sink.old) (K.faults sink.new)) }
+{
+    if found.is_empty() {
+        put(piece, NONE, sink)
+    } else {
+        put_pairs(piece, found, sink)
+    }
+}
+
+fn put_pairs<K: Sink>(piece: &mut Piece, found: &[Found], sink: &mut K) -> Result<(), WriteFault>
+    requires { length piece.old.items < 64 }
+    ensures all { OnOk result (Gathers (K.written sink.old) (K.written sink.new) piece.old.items piece.new.items (flat_map found_text found.now)) }
+    ensures part { OnErr result (AppendsPart (K.written sink.old) (K.written sink.new) (piece.old.items ++ flat_map found_text found.now)) }
+    ensures kept { K.faults sink.old ≤ K.faults sink.new }
+    ensures failed { OnErr result (Rose (K.faults sink.old) (K.faults sink.new)) }
+{
+    for point in found {
+        put_numbers(piece, &[point.id, point.dist], sink)?;
+    }
+    Ok(())
+}
+
+/// With the ledger, what the reply cost.
+fn put_tail<K: Sink>(
+    piece: &mut Piece,
+    reply: &Reply,
+    ledger: bool,
+    sink: &mut K,
+) -> Result<(), WriteFault>
+    requires { length piece.old.items < 64 }
+    ensures all { OnOk result (Gathers (K.written sink.old) (K.written sink.new) piece.old.items piece.new.items (tail_text ledger reply.now)) }
+    ensures part { OnErr result (AppendsPart (K.written sink.old) (K.written sink.new) (piece.old.items ++ tail_text ledger reply.now)) }
+    ensures kept { K.faults sink.old ≤ K.faults sink.new }
+    ensures failed { OnErr result (Rose (K.faults sink.old) (K.faults sink.new)) }
+{
+    if !ledger {
+        return Ok(());
+    }
+    match reply {
+        Reply::Updated { spent } => put_spent(piece, *spent, sink),
+        Reply::Count { asked, .. }
+        | Reply::Sum { asked, .. }
+        | Reply::List { asked, .. }
+        | Reply::Near { asked, .. }
+        | Reply::Nearest { asked, .. }
+        | Reply::Above { asked, .. }
+        | Reply::Top { asked, .. }
+        | Reply::Stab { asked, .. }
+        | Reply::StabCount { asked, .. } => put_asked(piece, *asked, sink),
+        Reply::Made
+        | Reply::Got { .. }
+        | Reply::Size { .. }
+        | Reply::Recent { .. }
+        | Reply::Refused { .. } => Ok(()),
+    }
+}
+
+fn put_spent<K: Sink>(piece: &mut Piece, spent: Spent, sink: &mut K) -> Result<(), WriteFault>
+    requires { length piece.old.items < 64 }
+    ensures all { OnOk result (Gathers (K.written sink.old) (K.written sink.new) piece.old.items piece.new.items (costs.cost_text (costs.Updating (spent_of spent)))) }
+    ensures part { OnErr result (AppendsPart (K.written sink.old) (K.written sink.new) (piece.old.items ++ costs.cost_text (costs.Updating (spent_of spent)))) }
+    ensures kept { K.faults sink.old ≤ K.faults sink.new }
+    ensures failed { OnErr result (Rose (K.faults sink.old) (K.faults sink.new)) }
+{
+    put_out_of(piece, b" turns", spent.turns, spent.turn_bound, sink)?;
+    put_out_of(piece, b" marks", spent.marks, spent.mark_bound, sink)
+}
+
+fn put_asked<K: Sink>(piece: &mut Piece, asked: Asked, sink: &mut K) -> Result<(), WriteFault>
+    requires { length piece.old.items < 64 }
+    ensures all { OnOk result (Gathers (K.written sink.old) (K.written sink.new) piece.old.items piece.new.items (costs.cost_text (costs.Asking (asked_of asked)))) }
+    ensures part { OnErr result (AppendsPart (K.written sink.old) (K.written sink.new) (piece.old.items ++ costs.cost_text (costs.Asking (asked_of asked)))) }
+    ensures kept { K.faults sink.old ≤ K.faults sink.new }
+    ensures failed { OnErr result (Rose (K.faults sink.old) (K.faults sink.new)) }
+{
+    put_out_of(
+        piece,
+        b" parts",
+        u64::from(asked.parts),
+        u64::from(asked.part_bound),
+        sink,
+    )?;
+    put_labelled(piece, b" touches ", asked.touches, sink)
+}
+
+/// A space and a number.
+fn put_number<K: Sink>(piece: &mut Piece, n: u64, sink: &mut K) -> Result<(), WriteFault>
+    requires some_room { length piece.old.items < 64 }
+    ensures all { OnOk result (Gathers (K.written sink.old) (K.written sink.new) piece.old.items piece.new.items (spaced n)) }
+    ensures part { OnErr result (AppendsPart (K.written sink.old) (K.written sink.new) (piece.old.items ++ (spaced n))) }
+    ensures kept { K.faults sink.old ≤ K.faults sink.new }
+    ensures failed { OnErr result (Rose (K.faults sink.old) (K.faults sink.new)) }
+{
+    put(piece, spaced(n).as_slice(), sink)
+}
+
+/// A label of at most 8 bytes, and ` A/B`.
+fn put_out_of<K: Sink>(
+    piece: &mut Piece,
+    label: &[u8],
+    a: u64,
+    b: u64,
+    sink: &mut K,
+) -> Result<(), WriteFault>
+    requires some_room { length piece.old.items < 64 }
+    requires short { length label.now ≤ 8 }
+    ensures all { OnOk result (Gathers (K.written sink.old) (K.written sink.new) piece.old.items piece.new.items (label.now ++ costs.out_of a b)) }
+    ensures part { OnErr result (AppendsPart (K.written sink.old) (K.written sink.new) (piece.old.items ++ (label.now ++ costs.out_of a b))) }
+    ensures kept { K.faults sink.old ≤ K.faults sink.new }
+    ensures failed { OnErr result (Rose (K.faults sink.old) (K.faults sink.new)) }
+{
+    put(piece, out_of(label, a, b).as_slice(), sink)
+}
+
+/// A label of at most 16 bytes, and a number.
+fn put_labelled<K: Sink>(
+    piece: &mut Piece,
+    label: &[u8],
+    n: u64,
+    sink: &mut K,
+) -> Result<(), WriteFault>
+    requires some_room { length piece.old.items < 64 }
+    requires short { length label.now ≤ 16 }
+    ensures all { OnOk result (Gathers (K.written sink.old) (K.written sink.new) piece.old.items piece.new.items (label.now ++ decimal n)) }
+    ensures part { OnErr result (AppendsPart (K.written sink.old) (K.written sink.new) (piece.old.items ++ (label.now ++ decimal n))) }
+    ensures kept { K.faults sink.old ≤ K.faults sink.new }
+    ensures failed { OnErr result (Rose (K.faults sink.old) (K.faults sink.new)) }
+{
+    put(piece, labelled(label, n).as_slice(), sink)
+}

@@ -1,0 +1,138 @@
+-- What may be written for lines over a map of layers, and the map that they lead to.
+use Rattle.std.specs.Prelude.{◌≡◌, ℕ, ◌<◌, Bool, true, false, ◌&&◌, not, ◌⊎◌, IsTrue, List, [], ◌∷◌, ◌++◌, length, take, Option, Some, None, Ok, Err, slice_index_or}
+use Rattle.map_model.specs.Script.State.{Layer, State, layer_named}
+use Rattle.map_model.specs.Script.Refusal.{NoMemory, refusal_of_fault}
+use Rattle.map_model.specs.Script.Command.{Command, MakeLayer, Add, Drop, Ask, Get, Size, Recent, name_of, takes_memory}
+use Rattle.map_model.specs.Script.Cost.{Cost, Untold, Updating, Asking, IsSpent, IsAsked}
+use Rattle.map_model.specs.Script.Reply.{Reply, Made, Updated, Answered, Got, Sized, Latest, Refused, is_refusal, reply_line}
+use Rattle.map_model.specs.Script.Machine.{step}
+use Rattle.map_model.specs.Script.Grammar.{Parsed, parse}
+
+-- ---- costs
+
+abbrev pub adds : Command → Bool
+adds (MakeLayer name kind indexes) = false
+adds (Add name id shape) = true
+adds (Drop name id) = false
+adds (Ask name question) = false
+adds (Get name id) = false
+adds (Size name) = false
+adds (Recent name k) = false
+
+abbrev pub IsSpentIn : Option Layer → Bool → Cost → Type 0
+IsSpentIn (Some layer) adding (Updating spent) = IsSpent layer adding spent
+IsSpentIn _ adding _ = ⊥
+
+abbrev pub IsAskedIn : Option Layer → Cost → Type 0
+IsAskedIn (Some layer) (Asking asked) = IsAsked layer asked
+IsAskedIn _ _ = ⊥
+
+-- What a reply may say that it cost, the layer being the one before the command: an accepted update what it spent, an
+-- answer what it asked, and any other reply nothing.
+abbrev pub IsCost : Option Layer → Bool → Reply → Cost → Type 0
+IsCost layer adding Made cost = cost ≡ Untold
+IsCost layer adding Updated cost = IsSpentIn layer adding cost
+IsCost layer adding (Answered answer) cost = IsAskedIn layer cost
+IsCost layer adding (Got shape) cost = cost ≡ Untold
+IsCost layer adding (Sized n) cost = cost ≡ Untold
+IsCost layer adding (Latest ids) cost = cost ≡ Untold
+IsCost layer adding (Refused cause) cost = cost ≡ Untold
+
+-- ---- one line
+
+-- what a line is answered, and the map after it: nothing, or a reply with what it cost
+pub record Told : Type 0 where
+  pub reply : Reply
+  pub cost : Cost
+
+pub record Given : Type 0 where
+  pub told : Option Told
+  pub state : State
+
+abbrev pub nothing : State → Given
+nothing state = record { told = None; state = state }
+
+abbrev pub refused : State → Reply → Given
+refused state reply = record { told = Some (record { reply = reply; cost = Untold }); state = state }
+
+-- a command is answered by the machine, at some cost that is allowed
+pub record Executes (state : State) (command : Command) (given : Given) : Type 0 where
+  pub cost : Cost
+  pub is_cost : IsCost (layer_named (name_of command) state) (adds command) (step state command).reply cost
+  pub is_given : given ≡ record { told = Some (record { reply = (step state command).reply; cost = cost }); state = (step state command).state }
+
+-- memory may be lacking for a command that takes some and that nothing else refuses
+abbrev pub may_lack_memory : State → Command → Bool
+may_lack_memory state command = takes_memory command && not (is_refusal (step state command).reply)
+
+abbrev pub AnswersTo : State → Parsed → Given → Type 0
+AnswersTo state (Ok None) given = given ≡ nothing state
+AnswersTo state (Err fault) given = given ≡ refused state (Refused (refusal_of_fault fault))
+AnswersTo state (Ok (Some command)) given =
+    Executes state command given ⊎ (IsTrue (may_lack_memory state command) × (given ≡ refused state (Refused NoMemory)))
+
+-- what a line may be answered, and the map after it
+abbrev pub Answers : State → List ℕ → Given → Type 0
+Answers state line given = AnswersTo state (parse line) given
+
+abbrev pub written_for : Bool → Option Told → List ℕ
+written_for ledger None = []
+written_for ledger (Some told) = reply_line ledger told.reply told.cost
+
+-- ---- lines
+
+-- From a map, these lines may be answered by these bytes, with or without the ledger, and lead to that map.
+abbrev pub Output : Bool → State → List (List ℕ) → List ℕ → State → Type 0
+Output ledger start [] written end = (written ≡ []) × (end ≡ start)
+Output ledger start (line ∷ lines) written end =
+    (given : Given) × Answers start line given × (rest : List ℕ) × (written ≡ written_for ledger given.told ++ rest) × Output ledger given.state lines rest end
+
+-- Writing stopped inside the answer to a line: the lines before it are answered in full, it was executed, and a
+-- part of its answer, not all of it, is written.
+pub record Interrupted (ledger : Bool) (start : State) (lines : List (List ℕ)) (written : List ℕ) (end : State) : Type 0 where
+  pub answered : ℕ
+  pub has_next : answered < length lines
+  pub full : List ℕ
+  pub before : State
+  pub answers_before : Output ledger start (take answered lines) full before
+  pub given : Given
+  pub answers_next : Answers before (slice_index_or lines answered []) given
+  pub executed : end ≡ given.state
+  pub part : ℕ
+  pub is_part : part < length (written_for ledger given.told)
+  pub is_written : written ≡ full ++ take part (written_for ledger given.told)
+
+-- ---- the machine's own run, memory always being found, without the ledger
+
+abbrev pub machine_reply : State → Parsed → Option Reply
+machine_reply state (Ok None) = None
+machine_reply state (Ok (Some command)) = Some (step state command).reply
+machine_reply state (Err fault) = Some (Refused (refusal_of_fault fault))
+
+abbrev pub machine_state : State → Parsed → State
+machine_state state (Ok None) = state
+machine_state state (Ok (Some command)) = (step state command).state
+machine_state state (Err fault) = state
+
+abbrev pub line_for : Option Reply → List ℕ
+line_for None = []
+line_for (Some reply) = reply_line false reply Untold
+
+abbrev pub machine_text : State → List (List ℕ) → List ℕ
+machine_text state [] = []
+machine_text state (line ∷ lines) = line_for (machine_reply state (parse line)) ++ machine_text (machine_state state (parse line)) lines
+
+abbrev pub machine_end : State → List (List ℕ) → State
+machine_end state [] = state
+machine_end state (line ∷ lines) = machine_end (machine_state state (parse line)) lines
+
+-- memory may be lacking at a line
+abbrev pub asks_memory : State → Parsed → Bool
+asks_memory state (Ok None) = false
+asks_memory state (Ok (Some command)) = may_lack_memory state command
+asks_memory state (Err fault) = false
+
+-- no line of the machine's run is one that memory may refuse
+abbrev pub never_lacks_memory : State → List (List ℕ) → Bool
+never_lacks_memory state [] = true
+never_lacks_memory state (line ∷ lines) = not (asks_memory state (parse line)) && never_lacks_memory (machine_state state (parse line)) lines

@@ -1,0 +1,8 @@
+-- A kind as the definitions have it.
+use Rattle.map_model.specs.Script.Shape as model
+use Rattle.map_shapes.specs.declared.kind.Kind.{Kind}
+use Rattle.map_shapes.specs.declared.kind.Kind.TheVariants.{Points, Segments}
+
+abbrev pub kind_of : Kind → model.Kind
+kind_of Points = model.Points
+kind_of Segments = model.Segments

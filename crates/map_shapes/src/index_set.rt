@@ -1,0 +1,46 @@
+// The indexes of a layer.
+ghost use Rattle.std.specs.Prelude.{◌≡◌};
+ghost use Rattle.map_model.specs.Script.Index.{fits, no_indexes};
+ghost use Rattle.map_shapes.specs.Kind.{kind_of};
+ghost use Rattle.map_shapes.specs.IndexSet.{index_set_of};
+
+use crate::Kind;
+
+/// The indexes of a layer, by the questions that they answer.
+#[derive(Clone, Copy, Debug, PartialEq, Eq)]
+pub struct IndexSet {
+    /// Counts, sums and lists of the points in a rectangle.
+    pub range: bool,
+    /// The points nearest to a place.
+    pub near: bool,
+    /// The highest points of a span, and those above a height.
+    pub top: bool,
+    /// The segments over a place.
+    pub stab: bool,
+}
+
+impl IndexSet {
+    /// No index.
+    pub fn new() -> IndexSet
+        ensures { index_set_of result ≡ no_indexes }
+    {
+        IndexSet {
+            range: false,
+            near: false,
+            top: false,
+            stab: false,
+        }
+    }
+
+    /// Whether a layer of this kind can have them: at least one is set, points have no `stab`, and segments nothing
+    /// else.
+    pub fn fits(&self, kind: Kind) -> bool
+        ensures { result ≡ fits (kind_of kind) (index_set_of self.now) }
+    {
+        let of_points = self.range || self.near || self.top;
+        match kind {
+            Kind::Points => of_points && !self.stab,
+            Kind::Segments => self.stab && !of_points,
+        }
+    }
+}

@@ -1,0 +1,29 @@
+// A horizontal segment.
+ghost use Rattle.std.specs.Prelude.{◌<◌, ◌≤◌, ◌^◌};
+
+/// A segment of a layer, from (`lo`, `y`) to (`hi`, `y`), its ends included. Coordinates are at most 2,147,483,647;
+/// `stamp` is the number of adds that its layer accepted before it.
+#[derive(Clone, Copy, Debug)]
+pub struct Segment {
+    pub id: u64,
+    pub lo: u32,
+    pub hi: u32,
+    pub y: u32,
+    pub stamp: u64,
+    pub ghost ordered: { lo ≤ hi },
+    pub ghost hi_in_range: { hi < 2 ^ 31 },
+    pub ghost y_in_range: { y < 2 ^ 31 },
+}
+
+impl Segment {
+    ghost use Rattle.std.specs.Prelude.{◌≡◌};
+    ghost use Rattle.map_model.specs.Script.Shape.{is_stabbed};
+    ghost use Rattle.map_shapes.specs.Segment.{shape_of_segment};
+
+    /// Whether it lies over `x`, its ends included.
+    pub fn is_stabbed(&self, x: u32) -> bool
+        ensures { result ≡ is_stabbed x (shape_of_segment self.now) }
+    {
+        self.lo <= x && x <= self.hi
+    }
+}

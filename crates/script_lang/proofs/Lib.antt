@@ -1,0 +1,5 @@
+pub mod Table
+pub mod Digits
+pub mod Reading
+pub mod IndexWords
+pub mod Walk

@@ -1,0 +1,73 @@
+-- Forms as the definitions have them.
+use Rattle.std.specs.Prelude.{◌≡◌, ℕ, ◌-◌, ◌^◌, Bool, true, false, ⊤, List, [], ◌∷◌, map, bytes_eq}
+use Rattle.map_model.specs.Script.Form as model
+use Rattle.script_lang.specs.declared.form.Field.{Field}
+use Rattle.script_lang.specs.declared.form.Field.TheVariants as fields
+use Rattle.script_lang.specs.declared.form.Limits.{Limits}
+use Rattle.script_lang.specs.declared.form.Order.{Order}
+use Rattle.script_lang.specs.declared.form.Order.TheVariants as orders
+use Rattle.script_lang.specs.declared.form.Verb.{Verb}
+use Rattle.script_lang.specs.declared.form.Verb.TheVariants as verbs
+use Rattle.script_lang.specs.declared.form.Question.{Question}
+use Rattle.script_lang.specs.declared.form.Question.TheVariants as questions
+use Rattle.script_lang.specs.declared.form.Form.{Form}
+
+abbrev pub field_of : Field → model.Field
+field_of fields.Id = model.Id
+field_of fields.Coordinate = model.Coordinate
+field_of fields.Amount = model.Amount
+
+abbrev pub limits_of_field : Field → Limits
+limits_of_field field = let limits = model.limits_of (field_of field) in record { least = limits.least; greatest = limits.greatest }
+
+abbrev pub order_of : Order → model.Order
+order_of orders.Free = model.Free
+order_of orders.Ends = model.Ends
+order_of orders.Corners = model.Corners
+
+abbrev pub verb_of_question : Question → model.Verb
+verb_of_question questions.Count = model.Count
+verb_of_question questions.Sum = model.Sum
+verb_of_question questions.List = model.ListIds
+verb_of_question questions.Near = model.Near
+verb_of_question questions.Nearest = model.Nearest
+verb_of_question questions.Above = model.Above
+verb_of_question questions.Top = model.Top
+verb_of_question questions.Stab = model.Stab
+verb_of_question questions.StabCount = model.StabCount
+
+abbrev pub verb_of : Verb → model.Verb
+verb_of verbs.Layer = model.Layer
+verb_of verbs.Add = model.Add
+verb_of verbs.Seg = model.Seg
+verb_of verbs.Drop = model.Drop
+verb_of (verbs.Ask question) = verb_of_question question
+verb_of verbs.Get = model.Get
+verb_of verbs.Size = model.Size
+verb_of verbs.Recent = model.Recent
+
+abbrev pub fields_of : List Field → List model.Field
+fields_of fs = map field_of fs
+
+abbrev pub form_of : Form → model.Form
+form_of f = record { word = f.word.now; fields = fields_of f.fields.now; has_indexes = f.has_indexes; order = order_of f.order }
+
+-- the form is the row of its verb
+abbrev pub IsRow : Form → Type 0
+IsRow f = form_of f ≡ model.form (verb_of f.verb)
+
+abbrev pub verb_of_row : Form → model.Verb
+verb_of_row f = verb_of f.verb
+
+abbrev pub has_word : List ℕ → Form → Bool
+has_word word f = bytes_eq f.word.now word
+
+-- each form is the row of its verb
+abbrev pub AreRows : List Form → Type 0
+AreRows [] = ⊤
+AreRows (f ∷ fs) = IsRow f × AreRows fs
+
+abbrev pub is_coordinate : Field → Bool
+is_coordinate fields.Id = false
+is_coordinate fields.Coordinate = true
+is_coordinate fields.Amount = false

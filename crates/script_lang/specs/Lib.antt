@@ -1,0 +1,7 @@
+pub mod LineFault
+pub mod Form
+pub mod Coordinates
+pub mod Numbers
+pub mod Indexes
+pub mod Command
+pub mod Parsing

@@ -1,0 +1,100 @@
+// What a line asks for.
+use map_shapes::{IndexSet, Kind, Name, Rect};
+
+/// What a line asks for. Coordinates and weights are at most 2,147,483,647; no lower end is past its upper end; `k` is
+/// from 1 to 64; and the indexes of a layer fit its kind.
+#[derive(Clone, Copy, Debug)]
+pub enum Command {
+    /// `layer NAME KIND INDEX` with one or more indexes
+    Layer {
+        name: Name,
+        kind: Kind,
+        indexes: IndexSet,
+    },
+    /// `add NAME ID X Y W`
+    Add {
+        name: Name,
+        id: u64,
+        x: u32,
+        y: u32,
+        w: u32,
+    },
+    /// `seg NAME ID LO HI Y`
+    Seg {
+        name: Name,
+        id: u64,
+        lo: u32,
+        hi: u32,
+        y: u32,
+    },
+    /// `drop NAME ID`
+    Drop {
+        name: Name,
+        id: u64,
+    },
+    /// `count NAME X1 Y1 X2 Y2`
+    Count {
+        name: Name,
+        rect: Rect,
+    },
+    /// `sum NAME X1 Y1 X2 Y2`
+    Sum {
+        name: Name,
+        rect: Rect,
+    },
+    /// `list NAME X1 Y1 X2 Y2`
+    List {
+        name: Name,
+        rect: Rect,
+    },
+    /// `near NAME X Y`
+    Near {
+        name: Name,
+        x: u32,
+        y: u32,
+    },
+    /// `nearest NAME K X Y`
+    Nearest {
+        name: Name,
+        k: u32,
+        x: u32,
+        y: u32,
+    },
+    /// `above NAME X1 X2 Y`
+    Above {
+        name: Name,
+        x1: u32,
+        x2: u32,
+        y: u32,
+    },
+    /// `top NAME X1 X2`
+    Top {
+        name: Name,
+        x1: u32,
+        x2: u32,
+    },
+    /// `stab NAME X`
+    Stab {
+        name: Name,
+        x: u32,
+    },
+    /// `stabcount NAME X`
+    StabCount {
+        name: Name,
+        x: u32,
+    },
+    /// `get NAME ID`
+    Get {
+        name: Name,
+        id: u64,
+    },
+    /// `size NAME`
+    Size {
+        name: Name,
+    },
+    /// `recent NAME K`
+    Recent {
+        name: Name,
+        k: u32,
+    },
+}

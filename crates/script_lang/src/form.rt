@@ -1,0 +1,196 @@
+// The forms of a line: one table.
+ghost use Rattle.std.specs.Prelude.{◌≡◌, IfSome, option_map, map};
+ghost use Rattle.std.specs.List.{find};
+ghost use Rattle.map_model.specs.Script.Form as model;
+ghost use Rattle.script_lang.specs.Form.{verb_of, limits_of_field, IsRow, verb_of_row, has_word, AreRows};
+
+/// What number stands in a word.
+#[derive(Clone, Copy)]
+pub enum Field {
+    /// An identifier.
+    Id,
+    /// A coordinate or a weight.
+    Coordinate,
+    /// How many are asked for.
+    Amount,
+}
+
+/// The numbers that a field takes.
+#[derive(Clone, Copy)]
+pub struct Limits {
+    pub least: u64,
+    pub greatest: u64,
+}
+
+impl Field {
+    /// The numbers that it takes.
+    pub fn limits(self) -> Limits
+        ensures { result ≡ limits_of_field self }
+    {
+        let (least, greatest) = match self {
+            Field::Id => (0, u64::MAX),
+            Field::Coordinate => (0, 2_147_483_647),
+            Field::Amount => (1, 64),
+        };
+        Limits { least, greatest }
+    }
+}
+
+/// Which coordinates of a line are in order.
+#[derive(Clone, Copy)]
+pub enum Order {
+    /// None.
+    Free,
+    /// The first is at most the second.
+    Ends,
+    /// The first is at most the third, and the second at most the fourth.
+    Corners,
+}
+
+/// What a command word stands for.
+#[derive(Clone, Copy)]
+pub enum Verb {
+    Layer,
+    Add,
+    Seg,
+    Drop,
+    Ask(Question),
+    Get,
+    Size,
+    Recent,
+}
+
+/// What is asked of an index.
+#[derive(Clone, Copy)]
+pub enum Question {
+    Count,
+    Sum,
+    List,
+    Near,
+    Nearest,
+    Above,
+    Top,
+    Stab,
+    StabCount,
+}
+
+/// A row of the table: a command word, the numbers behind it and a name, whether a kind and indexes follow, and which
+/// coordinates are in order.
+#[derive(Clone, Copy)]
+pub struct Form {
+    pub word: &'static [u8],
+    pub verb: Verb,
+    pub fields: &'static [Field],
+    pub has_indexes: bool,
+    pub order: Order,
+}
+
+/// A row without indexes.
+macro_rules! row {
+    ($word:expr, $verb:expr, [$($field:ident),*], $order:ident) => {
+        Form {
+            word: $word,
+            verb: $verb,
+            fields: &[$(Field::$field),*],
+            has_indexes: false,
+            order: Order::$order,
+        }
+    };
+}
+
+static FORMS: [Form; 16] = [
+    Form {
+        word: b"layer",
+        verb: Verb::Layer,
+        fields: &[],
+        has_indexes: true,
+        order: Order::Free,
+    },
+    row!(
+        b"add",
+        Verb::Add,
+        [Id, Coordinate, Coordinate, Coordinate],
+        Free
+    ),
+    row!(
+        b"seg",
+        Verb::Seg,
+        [Id, Coordinate, Coordinate, Coordinate],
+        Ends
+    ),
+    row!(b"drop", Verb::Drop, [Id], Free),
+    row!(
+        b"count",
+        Verb::Ask(Question::Count),
+        [Coordinate, Coordinate, Coordinate, Coordinate],
+        Corners
+    ),
+    row!(
+        b"sum",
+        Verb::Ask(Question::Sum),
+        [Coordinate, Coordinate, Coordinate, Coordinate],
+        Corners
+    ),
+    row!(
+        b"list",
+        Verb::Ask(Question::List),
+        [Coordinate, Coordinate, Coordinate, Coordinate],
+        Corners
+    ),
+    row!(
+        b"near",
+        Verb::Ask(Question::Near),
+        [Coordinate, Coordinate],
+        Free
+    ),
+    row!(
+        b"nearest",
+        Verb::Ask(Question::Nearest),
+        [Amount, Coordinate, Coordinate],
+        Free
+    ),
+    row!(
+        b"above",
+        Verb::Ask(Question::Above),
+        [Coordinate, Coordinate, Coordinate],
+        Ends
+    ),
+    row!(
+        b"top",
+        Verb::Ask(Question::Top),
+        [Coordinate, Coordinate],
+        Ends
+    ),
+    row!(b"stab", Verb::Ask(Question::Stab), [Coordinate], Free),
+    row!(
+        b"stabcount",
+        Verb::Ask(Question::StabCount),
+        [Coordinate],
+        Free
+    ),
+    row!(b"get", Verb::Get, [Id], Free),
+    row!(b"size", Verb::Size, [], Free),
+    row!(b"recent", Verb::Recent, [Amount], Free),
+];
+
+/// The form of a command word.
+pub fn find_form(word: &[u8]) -> Option<&'static Form>
+    ensures verb { option_map (λ f. verb_of f.now.verb) result ≡ model.verb_of word.now }
+    ensures row { IfSome result (λ f. IsRow f.now) }
+{
+    find_row(rows(), word)
+}
+
+#[tactic(auto, unfolding(map_model::specs::Script::Form::form, map_model::specs::Script::Form::verbs))]
+fn rows() -> &'static [Form]
+    ensures rows { AreRows result.now }
+    ensures verbs { map verb_of_row result.now ≡ model.verbs }
+{
+    &FORMS
+}
+
+fn find_row<'a>(rows: &'a [Form], word: &[u8]) -> Option<&'a Form>
+    ensures { option_map (λ f. f.now) result ≡ find (has_word word.now) rows.now }
+{
+    rows.iter().find(|row| row.word == word)
+}

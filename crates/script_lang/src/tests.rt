@@ -1,0 +1,170 @@
+//! A line of each form, and lines that are wrong in each way.
+use crate::{Command, LineFault, parse};
+use map_shapes::Kind;
+use std::test::Fail;
+
+/// What is wrong with a line, if anything.
+fn fault(line: &[u8]) -> Option<LineFault> {
+    parse(line).err()
+}
+
+fn is_nothing(line: &[u8]) -> bool {
+    matches!(parse(line), Ok(None))
+}
+
+#[test]
+fn reads_updates(rt: HostRuntime) {
+    assert!(rt;
+        matches!(parse(b"layer shops points top range near"), Ok(Some(Command::Layer { kind: Kind::Points, indexes, .. })) if indexes.range && indexes.near && indexes.top && !indexes.stab)
+    );
+    assert!(rt;
+        matches!(parse(b"layer s segments stab"), Ok(Some(Command::Layer { kind: Kind::Segments, indexes, .. })) if indexes.stab && !indexes.range)
+    );
+    assert!(rt;
+        matches!(
+            parse(b"add a 18446744073709551615 1 2 2147483647"),
+            Ok(Some(Command::Add {
+                id: u64::MAX,
+                x: 1,
+                y: 2,
+                w: 2_147_483_647,
+                ..
+            }))
+        )
+    );
+    assert!(rt;
+        matches!(
+            parse(b"seg a 7 1 2 3"),
+            Ok(Some(Command::Seg {
+                id: 7,
+                lo: 1,
+                hi: 2,
+                y: 3,
+                ..
+            }))
+        )
+    );
+    assert!(rt; matches!(parse(b"drop a 7"), Ok(Some(Command::Drop { id: 7, .. }))));
+}
+
+#[test]
+fn reads_questions(rt: HostRuntime) {
+    assert!(rt;
+        matches!(parse(b"count a 1 2 3 4"), Ok(Some(Command::Count { rect, .. })) if rect.x1 == 1 && rect.y1 == 2 && rect.x2 == 3 && rect.y2 == 4)
+    );
+    assert!(rt;
+        matches!(parse(b"sum a 1 2 3 4"), Ok(Some(Command::Sum { rect, .. })) if rect.y2 == 4)
+    );
+    assert!(rt;
+        matches!(parse(b"list a 1 2 3 4"), Ok(Some(Command::List { rect, .. })) if rect.x2 == 3)
+    );
+    assert!(rt;
+        matches!(
+            parse(b"near a 1 2"),
+            Ok(Some(Command::Near { x: 1, y: 2, .. }))
+        )
+    );
+    assert!(rt;
+        matches!(
+            parse(b"nearest a 64 1 2"),
+            Ok(Some(Command::Nearest {
+                k: 64,
+                x: 1,
+                y: 2,
+                ..
+            }))
+        )
+    );
+    assert!(rt;
+        matches!(
+            parse(b"above a 1 2 3"),
+            Ok(Some(Command::Above {
+                x1: 1,
+                x2: 2,
+                y: 3,
+                ..
+            }))
+        )
+    );
+    assert!(rt;
+        matches!(
+            parse(b"top a 1 2"),
+            Ok(Some(Command::Top { x1: 1, x2: 2, .. }))
+        )
+    );
+    assert!(rt; matches!(parse(b"stab a 1"), Ok(Some(Command::Stab { x: 1, .. }))));
+    assert!(rt;
+        matches!(
+            parse(b"stabcount a 1"),
+            Ok(Some(Command::StabCount { x: 1, .. }))
+        )
+    );
+    assert!(rt;
+        matches!(
+            parse(b"get a 0000000000018446744073709551615"),
+            Ok(Some(Command::Get { id: u64::MAX, .. }))
+        )
+    );
+    assert!(rt; matches!(parse(b"\tsize a-_Z9\t\r"), Ok(Some(Command::Size { .. }))));
+    assert!(rt; matches!(parse(b"recent a 1"), Ok(Some(Command::Recent { k: 1, .. }))));
+}
+
+#[test]
+fn tells_the_first_fault(rt: HostRuntime) {
+    for (line, want) in [
+        (b"\0".as_slice(), LineFault::Line),
+        (b"size a\r\r", LineFault::Line),
+        (b"size a\x7f", LineFault::Line),
+        (b"fly \xff", LineFault::Line),
+        (b"Size a", LineFault::Command),
+        (b"fly a!", LineFault::Command),
+        (b"size", LineFault::Fields),
+        (b"size a! a", LineFault::Fields),
+        (b"layer q points", LineFault::Fields),
+        (b"size abcdefghijklmnopq", LineFault::Name),
+        (b"get a! +1", LineFault::Name),
+        (b"get a +1", LineFault::Number),
+        (b"get a -1", LineFault::Number),
+        (b"add a 1 99999999999999999999999999 x 0", LineFault::Number),
+        (b"get a 18446744073709551616", LineFault::Range),
+        (b"nearest a 65 0 0", LineFault::Range),
+        (b"recent a 0", LineFault::Range),
+        (b"count a 5 9 4 4294967296", LineFault::Range),
+        (b"count a 5 9 4 8", LineFault::Order),
+        (b"seg s 4 9 8 0", LineFault::Order),
+        (b"layer q lines lines", LineFault::Kind),
+        (b"layer q points stab", LineFault::Index),
+        (b"layer b segments range", LineFault::Index),
+        (b"layer q points range range", LineFault::Index),
+    ] {
+        assert_eq!(rt; fault(line), Some(want), "{line:?}");
+    }
+}
+
+#[test]
+fn says_nothing(rt: HostRuntime) {
+    assert!(rt; is_nothing(b""));
+    assert!(rt; is_nothing(b"   "));
+    assert!(rt; is_nothing(b"\r"));
+    assert!(rt; is_nothing(b"\t#\xff add"));
+}
+
+#[test]
+fn measures_lines(rt: HostRuntime) -> Result<(), Fail> {
+    let mut line = b"size a".to_vec(rt.alloc())?;
+    for _ in 0..250 {
+        line.push(b' ')?;
+    }
+    line.push(b'\r')?;
+    assert_eq!(rt; (line.len(), fault(line.as_slice())), (257, None));
+    line.push(b'\r')?;
+    assert_eq!(rt; fault(line.as_slice()), Some(LineFault::Line));
+    let mut comment = b"#".to_vec(rt.alloc())?;
+    for _ in 0..255 {
+        comment.push(b'x')?;
+    }
+    assert!(rt; is_nothing(comment.as_slice()));
+    comment.push(b'x')?;
+    assert_eq!(rt; fault(comment.as_slice()), Some(LineFault::Line));
+    Ok(())
+}
