@@ -196,22 +196,22 @@ impl LiveCounts {
         );
     }
 
-    /// The number of live places below `k`: at most one touch for each level of the tree.
+    /// The number of live places below `k`: at most `h + 1` touches, where there are at most `2^h` places.
     pub fn prefix<L: Ledger>(&self, k: usize, steps: &mut Steps<L>) -> u64
         requires built { IsBuilt self.now }
         requires within { k ≤ length self.now.places }
         ensures count { result ≡ count_by is_live (take k self.now.places) }
-        ensures cost { (h : ℕ) → length self.now.places ≤ 2 ^ h → Spends steps.old steps.new 0 0 (2 * (h + 2)) }
+        ensures cost { (h : ℕ) → length self.now.places ≤ 2 ^ h → Spends steps.old steps.new 0 0 (h + 1) }
     {
         self.below(k, steps).count as u64
     }
 
-    /// The weight of the live places below `k`, which never wraps: at most one touch for each level of the tree.
+    /// The weight of the live places below `k`, which never wraps: at most `h + 1` touches, where there are at most `2^h` places.
     pub fn sum_prefix<L: Ledger>(&self, k: usize, steps: &mut Steps<L>) -> u64
         requires built { IsBuilt self.now }
         requires within { k ≤ length self.now.places }
         ensures sum { result ≡ sum_by live_amount (take k self.now.places) }
-        ensures cost { (h : ℕ) → length self.now.places ≤ 2 ^ h → Spends steps.old steps.new 0 0 (2 * (h + 2)) }
+        ensures cost { (h : ℕ) → length self.now.places ≤ 2 ^ h → Spends steps.old steps.new 0 0 (h + 1) }
     {
         self.below(k, steps).weight
     }
@@ -255,14 +255,14 @@ impl LiveCounts {
         self.nodes.at(end - 1, steps)
     }
 
-    /// The live place with exactly `j` live places below it, or None where at most `j` are live: at most one touch for each
-    /// level of the tree.
+    /// The live place with exactly `j` live places below it, or None where at most `j` are live: at most `h + 1` touches, where
+    /// there are at most `2^h` places.
     pub fn kth_live<L: Ledger>(&self, j: usize, steps: &mut Steps<L>) -> Option<usize>
         requires built { IsBuilt self.now }
         ensures found { IfSome result (λ k. IsLive self.now.places k) }
         ensures rank { IfSome result (λ k. count_by is_live (take k self.now.places) ≡ j) }
         ensures none { IsNone result ↔ (count_by is_live self.now.places ≤ j) }
-        ensures cost { (h : ℕ) → length self.now.places ≤ 2 ^ h → Spends steps.old steps.new 0 0 (2 * (h + 2)) }
+        ensures cost { (h : ℕ) → length self.now.places ≤ 2 ^ h → Spends steps.old steps.new 0 0 (h + 1) }
     {
         let len = self.places.len();
         let mut level = level_above(len);

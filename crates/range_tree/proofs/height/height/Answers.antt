@@ -1,6 +1,7 @@
 use Rattle.std.proofs.Common.{◌≡◌, ◌-◌, ◌^◌, ◌≤◌, ap, subst, sym, ◌∙◌, arith}
 use Rattle.std.specs.Int.Count.{count_leading_zeros}
-use Rattle.range_tree.proofs.HeightLemmas.{height_of-is, height_of-above, height_of-least}
+use Rattle.range_tree.specs.Heights.{height_of-is}
+use Rattle.range_tree.proofs.HeightLemmas.{height_of-above, height_of-least}
 use Rattle.range_tree.proofs.height.height.Goals as goal
 
 pub returns-clause-value : goal.returns-clause-value
