@@ -2,7 +2,8 @@
 use Rattle.std.proofs.Common.{◌≡◌, ℕ, ◌==◌, ◌+◌, ◌^◌, ◌<◌, ◌≤◌, Bool, true, false, cond, arith}
 use Rattle.std.proofs.lemmas.Bool.{cond-false}
 use Rattle.std.proofs.lemmas.Bool.Decides.{nat_tests}
-use Rattle.range_tree.specs.Heights.{height_of, levels_for, IsLeastHeight-height_of}
+use Rattle.row_blocks.specs.Heights.{height_of, IsLeastHeight-height_of}
+use Rattle.range_tree.specs.Heights.{levels_for}
 
 -- n points are at most 2 ^ the height
 pub height_of-above : (n : ℕ) → n < 2 ^ 64 → n ≤ 2 ^ height_of n
