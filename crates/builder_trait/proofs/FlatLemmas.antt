@@ -48,12 +48,14 @@ module _ {Item : Type 0} {stamp : Item → ℕ} {before : ℕ → Item → Item 
       subst (λ r. IsFlatBuilding before items r places' flags n) (sym one)
       (subst (λ p. IsFlatBuilding before items (record reordered { items = reordered.items ++ item ∷ [] }) p flags n) (sym two)
       (record {
-        level_small = kept.level_small;
+        wide = record {
+          level_small = kept.wide.level_small;
+          room = kept.wide.room;
+          room_reordered = kept.wide.room_reordered;
+          room_places = kept.wide.room_places;
+          room_flags = kept.wide.room_flags;
+        };
         few = kept.few;
-        room = kept.room;
-        room_reordered = kept.room_reordered;
-        room_places = kept.room_places;
-        room_flags = kept.room_flags;
         rising = kept.rising;
         rising_reordered = rising-put;
         placed = placed-put;
@@ -88,7 +90,7 @@ module _ {Item : Type 0} where
   pub IsPart-ended : {stamp : Item → ℕ} {before : ℕ → Item → Item → Bool} {items reordered : Entries Item} {places : Entries ℕ} {flags : Entries Bool}
       {n : ℕ} {is_sealed : Bool} {left : ℕ} → IsStrictTotalOrder stamp (before 1) → IsFlatBuilding before items reordered places flags n
       → IsFlagging items.items reordered.items flags.items is_sealed left → is_sealed ≡ true → left ≡ 0
-      → IsPart before (record { items = items.items; flags = flags.items; reordered = reordered.items; places = places.items })
+      → IsPart before (record { items = items.items; flags = flags.items; reordered = reordered.items; places = places.items; at_level = n })
   IsPart-ended order kept flagging closed ended =
       IsPart-from_rising _ order kept.rising kept.rising_reordered kept.placed (flagging.complete closed)
       (omega (arith, flagging.to_go closed))

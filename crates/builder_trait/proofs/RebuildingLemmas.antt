@@ -48,15 +48,19 @@ module _ {Item : Type 0} {before : ℕ → Item → Item → Bool} {part : Conte
       let items : take (length part.items) part.items ≡ part.items = take_all (length part.items) part.items (omega arith) in
       ap (λ l. items_where_true l (take (length part.items) part.items)) flags ∙ ap (items_where_true part.flags) items
 
-  -- as many are read in order 1
-  pub length-live_reordered_before : length (live_reordered_before (length part.items) part) ≡ length (items_where_true part.flags part.items)
-  length-live_reordered_before =
+  -- and in order 1
+  pub live_reordered_before-all : live_reordered_before (length part.items) part ≡ items_where_true (flags_reordered part) part.reordered
+  live_reordered_before-all =
       let flags : take (length part.items) (flags_reordered part) ≡ flags_reordered part =
       take_all (length part.items) (flags_reordered part)
       (omega (arith, length-map part.places (λ p. get_or part.flags p false), length-places)) in
       let items : take (length part.items) part.reordered ≡ part.reordered = take_all (length part.items) part.reordered (omega (arith, length-reordered)) in
-      ap (λ l. length (items_where_true l (take (length part.items) part.reordered))) flags
-      ∙ ap (λ l. length (items_where_true (flags_reordered part) l)) items
+      ap (λ l. items_where_true l (take (length part.items) part.reordered)) flags ∙ ap (items_where_true (flags_reordered part)) items
+
+  -- as many are read in both
+  pub length-live_reordered_before : length (live_reordered_before (length part.items) part) ≡ length (items_where_true part.flags part.items)
+  length-live_reordered_before =
+      ap length live_reordered_before-all
       ∙ length-kept_reordered part.flags part.items part.places part.reordered valid.flagged (length-places ∙ sym length-reordered) valid.each_place
 
   -- a live item fits next in order 0, with the number of those before it as its place

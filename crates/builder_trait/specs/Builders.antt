@@ -54,7 +54,13 @@ module _ {Item : Type 0} where
 
   -- the part of all that was put, each item live
   abbrev pub all_live : Progress Item → Contents Item
-  all_live b = record { items = b.items; flags = replicate (length b.items) true; reordered = b.reordered; places = b.places }
+  all_live b = record {
+    items = b.items;
+    flags = replicate (length b.items) true;
+    reordered = b.reordered;
+    places = b.places;
+    at_level = b.at_level;
+  }
 
 -- the turns that a builder may take for n items at a level, by the slope and the base of its kind
 pub record IsQuota (slope base at_level n left : ℕ) : Type 0 where

@@ -1,7 +1,8 @@
 -- What the flat kind keeps, and what its search for an item has found out.
+use Rattle.std.specs.List.{items_where_true}
 use Rattle.std.specs.Prelude.{◌≡◌, ℕ, ◌+◌, ◌<◌, ◌≤◌, ◌^◌, Bool, true, false, IsTrue, List, length, map, replicate, Some, slice_get, slice_index_or}
 use Rattle.query_laws.specs.StepLedger.{Entries}
-use Rattle.builder_trait.specs.Parts.{IsRising}
+use Rattle.builder_trait.specs.Parts.{IsRising, IsPart}
 
 module _ {Item : Type 0} where
   -- the items below a place stand before the given one, and those from another place on don't
@@ -11,15 +12,19 @@ module _ {Item : Type 0} where
     pub below : (k : ℕ) (d : Item) → k < low → IsTrue (before (slice_index_or xs k d) item)
     pub above : (k : ℕ) (d : Item) → high ≤ k → k < length xs → before (slice_index_or xs k d) item ≡ false
 
-  -- the rows of a builder: both orders rise, the items of order 1 are those at their places, and each row has room for all
-  pub record IsFlatBuilding (before : ℕ → Item → Item → Bool) (items reordered : Entries Item) (places : Entries ℕ)
-      (flags : Entries Bool) (at_level : ℕ) : Type 0 where
+  -- each row has room for all items of a level
+  pub record HasRoom (items reordered : Entries Item) (places : Entries ℕ) (flags : Entries Bool) (at_level : ℕ) : Type 0 where
     pub level_small : at_level < 32
-    pub few : length items.items ≤ 2 ^ at_level
     pub room : 2 ^ at_level ≤ items.capacity
     pub room_reordered : 2 ^ at_level ≤ reordered.capacity
     pub room_places : 2 ^ at_level ≤ places.capacity
     pub room_flags : 2 ^ at_level ≤ flags.capacity
+
+  -- the rows of a builder: both orders rise, the items of order 1 are those at their places, and there is room for all
+  pub record IsFlatBuilding (before : ℕ → Item → Item → Bool) (items reordered : Entries Item) (places : Entries ℕ)
+      (flags : Entries Bool) (at_level : ℕ) : Type 0 where
+    pub wide : HasRoom items reordered places flags at_level
+    pub few : length items.items ≤ 2 ^ at_level
     pub rising : IsRising (before 0) items.items
     pub rising_reordered : IsRising (before 1) reordered.items
     pub placed : map (slice_get items.items) places.items ≡ map Some reordered.items
@@ -30,3 +35,16 @@ module _ {Item : Type 0} where
     pub none_yet : is_sealed ≡ false → (length flags ≡ 0) × (left ≡ 0)
     pub to_go : is_sealed ≡ true → length flags + left ≡ length items
     pub complete : is_sealed ≡ true → length reordered ≡ length items
+
+  -- the rows of a part, which its next builder takes over
+  pub record IsFlatPart (before : ℕ → Item → Item → Bool) (items reordered : Entries Item) (places : Entries ℕ)
+      (flags : Entries Bool) (at_level live : ℕ) : Type 0 where
+    pub wide : HasRoom items reordered places flags at_level
+    pub valid : IsPart before (record {
+      items = items.items;
+      flags = flags.items;
+      reordered = reordered.items;
+      places = places.items;
+      at_level = at_level;
+    })
+    pub live_counted : live ≡ length (items_where_true flags.items items.items)

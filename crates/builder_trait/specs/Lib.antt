@@ -1,5 +1,5 @@
 pub mod Parts
 pub mod Builders
-pub mod Askings
+pub mod Asking
 pub mod Rebuilding
 pub mod Flat

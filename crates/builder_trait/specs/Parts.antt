@@ -3,13 +3,14 @@ use Rattle.std.specs.Prelude.{◌≡◌, ℕ, ◌==◌, Bool, not, ◌&&◌, if�
 use Rattle.std.specs.List.{range_with_len, list_any}
 use Rattle.query_laws.specs.Permuted.{Permuted}
 
--- the items in order 0 with a flag for each, true while it is live; and the same items in order 1, with the place that each
--- has in order 0
+-- the items in order 0 with a flag for each, true while it is live; the same items in order 1, with the place that each has in
+-- order 0; and the level, by which there was room for `2 ^ at_level` items
 pub record Contents (Item : Type 0) : Type 0 where
   pub items : List Item
   pub flags : List Bool
   pub reordered : List Item
   pub places : List ℕ
+  pub at_level : ℕ
 
 module _ {Item : Type 0} where
   -- each item stands before all later ones

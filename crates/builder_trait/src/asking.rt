@@ -22,9 +22,9 @@ pub struct Asking<P: Answers<Q>, Q: Question<Item = P::Item>> {
 }
 
 impl<P: Answers<Q>, Q: Question<Item = P::Item>> Model for Asking<P, Q> {
-    ghost use Rattle.builder_trait.specs.Askings.{Inquiry};
+    ghost use Rattle.builder_trait.specs.Asking.{OpenQuestion};
 
-    ghost Value = { Inquiry Q Q.Answer };
+    ghost Value = { OpenQuestion Q Q.Answer };
 
     ghost view = { λ a. record {
       question = a.question;
@@ -122,9 +122,9 @@ pub struct Given<P: Answers<Q>, Q: Question<Item = P::Item>> {
 }
 
 impl<P: Answers<Q>, Q: Question<Item = P::Item>> Model for Given<P, Q> {
-    ghost use Rattle.builder_trait.specs.Askings.{Finding};
+    ghost use Rattle.builder_trait.specs.Asking.{SealedAnswer};
 
-    ghost Value = { Finding Q Q.Answer };
+    ghost Value = { SealedAnswer Q Q.Answer };
 
     ghost view = { λ g. record { question = g.question; answer = g.answer; parts = g.consulted } };
 }

@@ -2,7 +2,7 @@
 ghost use Rattle.std.specs.Prelude.{◌≡◌, ◌+◌, ◌-◌, ◌*◌, ◌<◌, ◌≤◌, ◌^◌, [], ◌∷◌, IsTrue, IfOk, IsErr, OnOk, OnErr, length, sum_by, replicate, true, false};
 ghost use Rattle.std.specs.List.{flat_map};
 ghost use Rattle.query_laws.specs.StepLedger.{Spends};
-ghost use Rattle.builder_trait.specs.Builders.{begun, sealed_with, all_live, IsQuota};
+ghost use Rattle.builder_trait.specs.Builders.{begun, all_live, IsQuota};
 ghost use Rattle.builder_trait.specs.Parts.{IsPart};
 ghost use Rattle.builder_trait.specs.Rebuilding.{HasRanks, live_before, live_reordered_before};
 
@@ -39,17 +39,6 @@ pub fn ask_all<P: Answers<Q>, Q: Question<Item = P::Item>, L: Ledger>(
     asking.finish()
 }
 
-/// Takes all the turns that a sealed builder has left.
-pub fn take_turns<B: Builder, L: Ledger>(builder: &mut B, steps: &mut Steps<L>)
-    requires { (B.progress builder.old).is_sealed ≡ true }
-    ensures ended { B.progress builder.new ≡ sealed_with 0 (B.progress builder.old) }
-    ensures cost { let left = (B.progress builder.old).left in Spends steps.old steps.new left 0 (16 * left) }
-{
-    while builder.left() > 0 {
-        builder.turn(steps);
-    }
-}
-
 /// Seals a builder, takes all its turns, and gives its part. As many turns are counted as were left after the seal.
 pub fn completed<B: Builder, L: Ledger>(builder: B, steps: &mut Steps<L>) -> B::Part
     requires open { (B.progress builder).is_sealed ≡ false }
@@ -62,30 +51,34 @@ pub fn completed<B: Builder, L: Ledger>(builder: B, steps: &mut Steps<L>) -> B::
 {
     let mut builder = builder;
     builder.seal();
-    take_turns(&mut builder, steps);
+    let left = builder.left();
+    builder.turns(left, steps);
     builder.finish()
 }
 
-/// A part of one live item: two puts, and then as many turns as a builder of level 0 has left after the seal.
-///
-/// `NoMemory` where memory for the part isn't given; nothing is counted then.
+/// A part of one live item, by a builder to which nothing was put: two puts, and then as many turns as the builder has left
+/// after the seal.
 pub fn part_of_one<B: Builder, L: Ledger>(
-    alloc: Global,
+    builder: B,
     item: B::Item,
     steps: &mut Steps<L>,
-) -> Result<B::Part, NoMemory>
-    ensures whole { IfOk result (λ part. B.Part.Part.contents part
-        ≡ record { items = item ∷ []; flags = true ∷ []; reordered = item ∷ []; places = 0 ∷ [] }) }
-    ensures live { IfOk result (λ part. B.Part.Part.live_items part ≡ item ∷ []) }
-    ensures quota { OnOk result (IsQuota B.SLOPE B.BASE 0 1 (steps.new.turns - steps.old.turns - 2)) }
-    ensures cost { OnOk result (let left = steps.new.turns - steps.old.turns - 2 in
-        Spends steps.old steps.new (2 + left) 0 (16 + 16 * left)) }
-    ensures refused { OnErr result (steps.new ≡ steps.old) }
+) -> B::Part
+    requires { B.progress builder ≡ begun (B.progress builder).at_level }
+    ensures whole { B.Part.Part.contents result ≡ record {
+      items = item ∷ [];
+      flags = true ∷ [];
+      reordered = item ∷ [];
+      places = 0 ∷ [];
+      at_level = (B.progress builder).at_level;
+    } }
+    ensures live { B.Part.Part.live_items result ≡ item ∷ [] }
+    ensures quota { IsQuota B.SLOPE B.BASE (B.progress builder).at_level 1 (steps.new.turns - steps.old.turns - 2) }
+    ensures cost { let left = steps.new.turns - steps.old.turns - 2 in Spends steps.old steps.new (2 + left) 0 (16 + 16 * left) }
 {
-    let mut builder = B::room(alloc, 0)?;
+    let mut builder = builder;
     builder.put(0, item, 0, steps);
     builder.put(1, item, 0, steps);
-    Ok(completed(builder, steps))
+    completed(builder, steps)
 }
 
 /// Puts the item at a place in order 0, where it is live, with the number of live items before it as its place; and gives

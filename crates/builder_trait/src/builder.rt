@@ -1,5 +1,5 @@
 //! Builders, which make a part turn by turn.
-ghost use Rattle.std.specs.Prelude.{◌≡◌, ◌<◌, ◌≤◌, ◌-◌, ◌%◌, ℕ, false, true, IfOk, length};
+ghost use Rattle.std.specs.Prelude.{◌≡◌, ◌<◌, ◌≤◌, ◌-◌, ◌*◌, ◌%◌, ℕ, false, true, IfOk, length};
 ghost use Rattle.query_laws.specs.StepLedger.{Spends};
 ghost use Rattle.builder_trait.specs.Builders.{Progress, begun, FitsFirst, FitsSecond, with_put, sealed_with, all_live, IsQuota};
 
@@ -12,7 +12,7 @@ use std::sync::ledger::Ledger;
 /// A part under construction: first the items are put, in order 0 and then in order 1, then the builder is sealed, and then
 /// each turn does one unit of the work that is left (Overmars and van Leeuwen 1981).
 ///
-/// Only `room` takes memory.
+/// Only `room` takes memory. Once a part is of no use, `recycle` makes a builder of its memory.
 pub trait Builder: Drop + Sized {
     type Item: Item;
 
@@ -63,12 +63,29 @@ pub trait Builder: Drop + Sized {
         ensures done { progress self.new ≡ sealed_with ((progress self.old).left - 1) (progress self.old) }
         ensures cost { Spends steps.old steps.new 1 0 16 };
 
+    /// Takes so many turns: sixteen touches at most each.
+    fn turns<L: Ledger>(&mut self, count: u64, steps: &mut Steps<L>)
+        requires closed { (progress self.old).is_sealed ≡ true }
+        requires enough { count ≤ (progress self.old).left }
+        ensures done { progress self.new ≡ sealed_with ((progress self.old).left - count) (progress self.old) }
+        ensures cost { Spends steps.old steps.new count 0 (16 * count) }
+    {
+        for _taken in 0..count {
+            self.turn(steps);
+        }
+    }
+
     /// The part of all that was put, each item live. It counts nothing.
     fn finish(self) -> Self::Part
         requires closed { (progress self).is_sealed ≡ true }
         requires ended { (progress self).left ≡ 0 }
         ensures whole { Self.Part.contents result ≡ all_live (progress self) }
         ensures live { Self.Part.live_items result ≡ (progress self).items };
+
+    /// A builder of the part's level to which nothing was put, on the memory of the part. It takes no memory, frees none, and
+    /// counts nothing.
+    fn recycle(part: Self::Part) -> Self
+        ensures { progress result ≡ begun (Self.Part.contents part).at_level };
 
     /// The base is even, so that its half is a number of turns; and both numbers are small.
     ghost base_even: { BASE % 2 ≡ 0 };

@@ -2,12 +2,12 @@
 //!
 //! It keeps the items in both orders and a flag for each, and answers no question. It stands for any other kind where only
 //! the contract of parts and builders matters.
-ghost use Rattle.std.specs.Prelude.{◌≡◌, ◌+◌, ◌-◌, ◌*◌, ◌<◌, ◌≤◌, ◌^◌, ℕ, IfSome, IsNone, All, ◌≢◌, length, Some, slice_get, slice_set, refl, true, false};
+ghost use Rattle.std.specs.Prelude.{◌≡◌, ◌+◌, ◌-◌, ◌*◌, ◌<◌, ◌≤◌, ◌^◌, ℕ, IfSome, IsNone, IsTrue, ◌↔◌, All, ◌≢◌, length, Some, slice_get, slice_set, refl, true, false};
 ghost use Rattle.std.specs.List.{items_where_true};
 ghost use Rattle.std.specs.Option.{is_some};
 ghost use Rattle.query_laws.specs.StepLedger.{Spends, one_touch};
 ghost use Rattle.builder_trait.specs.Parts.{IsRising, OwnsStamp, has_stamp, without, marked};
-ghost use Rattle.builder_trait.specs.Builders.{IsUnderway, FitsFirst, FitsSecond, with_put};
+ghost use Rattle.builder_trait.specs.Builders.{IsUnderway, IsQuota, FitsFirst, FitsSecond, with_put, sealed_with};
 ghost use Rattle.builder_trait.specs.Flat.{IsBracket};
 
 use crate::builder::Builder;
@@ -25,13 +25,15 @@ pub struct FlatPart<I: Item> {
     second: Row<I>,
     places: Row<usize>,
     flags: Row<bool>,
+    level: u32,
     live: usize,
 }
 
 impl<I: Item> Model for FlatPart<I> {
     ghost use Rattle.std.specs.Prelude.{◌≡◌, length};
     ghost use Rattle.std.specs.List.{items_where_true};
-    ghost use Rattle.builder_trait.specs.Parts.{Contents, IsPart};
+    ghost use Rattle.builder_trait.specs.Parts.{Contents};
+    ghost use Rattle.builder_trait.specs.Flat.{IsFlatPart};
 
     ghost Value = { Contents I };
 
@@ -40,14 +42,10 @@ impl<I: Item> Model for FlatPart<I> {
       flags = p.flags.items;
       reordered = p.second.items;
       places = p.places.items;
+      at_level = p.level;
     } };
 
-    ghost invariant = { λ p. IsPart I.before (record {
-      items = p.first.items;
-      flags = p.flags.items;
-      reordered = p.second.items;
-      places = p.places.items;
-    }) × (p.live ≡ length (items_where_true p.flags.items p.first.items)) };
+    ghost invariant = { λ p. IsFlatPart I.before p.first p.second p.places p.flags p.level p.live };
 }
 
 /// The first place of a rising row whose item doesn't stand before the given one, from a bracket on. The bracket is halved
@@ -212,6 +210,13 @@ impl<I: Item> FlatBuilder<I> {
         self.first.len()
     }
 
+    /// Whether no item was put in order 0. It counts nothing.
+    pub fn is_empty(&self) -> bool
+        ensures { IsTrue result ↔ (length self.now.items ≡ 0) }
+    {
+        self.first.is_empty()
+    }
+
     /// The item at a place of order 0: one touch.
     pub fn at<L: Ledger>(&self, k: usize, steps: &mut Steps<L>) -> I
         requires { k < length self.now.items }
@@ -271,7 +276,14 @@ impl<I: Item> Builder for FlatBuilder<I> {
         }
     }
 
-    fn seal(&mut self) {
+    /// Exactly a turn is left for each item.
+    fn seal(&mut self)
+        requires open { self.old.is_sealed ≡ false }
+        requires complete { length self.old.reordered ≡ length self.old.items }
+        ensures closed { self.new ≡ sealed_with self.new.left self.old }
+        ensures quota { IsQuota 0 2 self.old.at_level (length self.old.items) self.new.left }
+        ensures left { self.new.left ≡ length self.old.items }
+    {
         self.sealed = true;
         self.left = self.first.len() as u64;
     }
@@ -293,7 +305,32 @@ impl<I: Item> Builder for FlatBuilder<I> {
             second: self.second,
             places: self.places,
             flags: self.flags,
+            level: self.level,
             live,
+        }
+    }
+
+    fn recycle(part: FlatPart<I>) -> FlatBuilder<I> {
+        let FlatPart {
+            mut first,
+            mut second,
+            mut places,
+            mut flags,
+            level,
+            live: _,
+        } = part;
+        first.clear();
+        second.clear();
+        places.clear();
+        flags.clear();
+        FlatBuilder {
+            first,
+            second,
+            places,
+            flags,
+            level,
+            sealed: false,
+            left: 0,
         }
     }
 

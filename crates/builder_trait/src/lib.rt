@@ -13,7 +13,7 @@ pub mod flat;
 mod part;
 
 pub use asking::{Asking, Given};
-pub use at_once::{ask_all, completed, part_of_one, rebuilt, take_turns};
+pub use at_once::{ask_all, completed, part_of_one, rebuilt};
 pub use builder::Builder;
 pub use part::{Answers, Part};
 

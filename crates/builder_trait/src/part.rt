@@ -1,5 +1,5 @@
 //! Parts, and the questions that they answer.
-ghost use Rattle.std.specs.Prelude.{◌≡◌, ◌<◌, ◌≤◌, ◌^◌, ℕ, List, IsTrue, IfOk, IsErr, length, Some, slice_get};
+ghost use Rattle.std.specs.Prelude.{◌≡◌, ◌<◌, ◌≤◌, ◌^◌, ◌↔◌, ℕ, List, IsTrue, IfOk, IsErr, length, Some, slice_get};
 ghost use Rattle.std.specs.List.{items_where_true};
 ghost use Rattle.query_laws.specs.StepLedger.{Spends};
 ghost use Rattle.builder_trait.specs.Parts.{Contents, IsPart, in_order, place_of, has_stamp, without, marked, OwnsStamp};
@@ -26,6 +26,13 @@ pub trait Part: Drop {
     fn len(&self) -> usize
         ensures value { result ≡ length (contents self.now).items }
         ensures valid { IsPart Self.Item.before (contents self.now) };
+
+    /// Whether there is no item, dead ones included. It counts nothing.
+    fn is_empty(&self) -> bool
+        ensures { IsTrue result ↔ (length (contents self.now).items ≡ 0) }
+    {
+        self.len() == 0
+    }
 
     /// How many live items there are. It counts nothing.
     fn live(&self) -> usize
@@ -64,7 +71,7 @@ pub trait Part: Drop {
     /// The live items are those whose flag stands.
     ghost live_by_flags: { (part : Self) → live_items part ≡ items_where_true (contents part).flags (contents part).items };
 
-    /// A part with more items doesn't have a lower bound.
+    /// The bound doesn't fall where there may be more items.
     ghost mark_touches_rise: { (g h : ℕ) → g ≤ h → mark_touches g ≤ mark_touches h };
 }
 

@@ -4,7 +4,7 @@ ghost use Rattle.std.specs.Prelude.{◌≡◌, ◌≢◌, IsTrue};
 mod points;
 
 use crate::flat::{FlatBuilder, FlatPart};
-use crate::{Builder, Part, ask_all, part_of_one, rebuilt, take_turns};
+use crate::{Builder, Part, ask_all, part_of_one, rebuilt};
 use points::{Point, SumOfX};
 use query_laws::step_ledger::{SHARES, Steps, blank};
 use query_laws::{Item, NoMemory};
@@ -14,13 +14,14 @@ use std::sync::ledger::{Blank, Ledger};
 use std::test::Fail;
 
 /// A part of two items, the first of which is marked twice: the turns left after the seal, those taken in all, what the marks
-/// answer, how many items are live then, and the marks and the stamps in order 1.
+/// answer, how many items are live then, and the marks and the stamps in order 1. Then a part of the second item alone, on the
+/// same memory: how many items it has.
 fn pair_seen<B: Builder, L: Ledger>(
     alloc: Global,
     first: B::Item,
     second: B::Item,
     blank: Blank,
-) -> Result<([u64; 2], [bool; 4], [u64; 4], [usize; 2]), NoMemory>
+) -> Result<([u64; 2], [bool; 4], [u64; 4], [usize; 3]), NoMemory>
     requires name { blank.name ≡ L.name }
     requires parts { blank.parts ≡ L.parts }
     requires shares { blank.parts ≡ SHARES }
@@ -36,7 +37,7 @@ fn pair_seen<B: Builder, L: Ledger>(
     builder.put(1, first, 0, &mut steps);
     builder.seal();
     let left = builder.left();
-    take_turns(&mut builder, &mut steps);
+    builder.turns(left, &mut steps);
     let turns = steps.lap_turns();
     let mut part = builder.finish();
     let once = part.mark(&first, &mut steps);
@@ -45,16 +46,18 @@ fn pair_seen<B: Builder, L: Ledger>(
     let low = part.item(1, 0, &mut steps);
     let high = part.item(1, 1, &mut steps);
     let places = [part.place(1, 0, &mut steps), part.place(1, 1, &mut steps)];
+    let seen = [
+        part.live() as u64,
+        steps.lap_marks(),
+        low.stamp(),
+        high.stamp(),
+    ];
+    let single = part_of_one(B::recycle(part), second, &mut steps);
     Ok((
         [left, turns],
         [once, again, flags[0], flags[1]],
-        [
-            part.live() as u64,
-            steps.lap_marks(),
-            low.stamp(),
-            high.stamp(),
-        ],
-        places,
+        seen,
+        [places[0], places[1], single.len()],
     ))
 }
 
@@ -74,7 +77,7 @@ fn marks_one_of_two(rt: HostRuntime) -> Result<(), Fail> {
     assert_eq!(rt; seen.0, [2, 6]);
     assert_eq!(rt; seen.1, [true, false, false, true]);
     assert_eq!(rt; seen.2, [1, 2, 41, 40]);
-    assert_eq!(rt; seen.3, [1, 0]);
+    assert_eq!(rt; seen.3, [1, 0, 1]);
     Ok(())
 }
 
@@ -101,14 +104,12 @@ fn sum_seen<L: Ledger>(alloc: Global, blank: Blank) -> Result<[u64; 4], NoMemory
         y: 3,
         stamp: 2,
     };
-    let mut marked: FlatPart<Point> = part_of_one::<FlatBuilder<Point>, L>(
-        alloc, other, &mut steps,
-    )?;
+    let mut marked: FlatPart<Point> = part_of_one(FlatBuilder::room(alloc, 0)?, other, &mut steps);
     marked.mark(&other, &mut steps);
     let parts = [
-        part_of_one::<FlatBuilder<Point>, L>(alloc, one, &mut steps)?,
+        part_of_one(FlatBuilder::room(alloc, 0)?, one, &mut steps),
         marked,
-        part_of_one::<FlatBuilder<Point>, L>(alloc, third, &mut steps)?,
+        part_of_one(FlatBuilder::room(alloc, 0)?, third, &mut steps),
     ];
     let given = ask_all(alloc, &SumOfX, &parts, &mut steps)?;
     let consulted = given.consulted();

@@ -111,6 +111,9 @@ module _ {Item : Type 0} {stamp : Item → ℕ} {before : Item → Item → Bool
         (All-kept P (take j other_flags) (take j ys)
         (All-take P j ys (λ k y below at. front.other_ahead k i y x below (omega arith) at next.here))))
 
+pub IsFront-swap : {Item : Type 0} {before : Item → Item → Bool} {i j : ℕ} {xs ys : List Item} → IsFront before i xs j ys → IsFront before j ys i xs
+IsFront-swap front = record { within = front.within_other; within_other = front.within; ahead = front.other_ahead; other_ahead = front.ahead }
+
 module _ {Item : Type 0} {before : Item → Item → Bool} {merged xs ys : List Item} (h : IsMerged before merged xs ys) where
   -- one item more is put
   pub IsMerged-more : (x : Item) → IsAfter before x merged → IsMerged before (merged ++ x ∷ []) (xs ++ x ∷ []) ys

@@ -1,66 +1,126 @@
-use Rattle.builder_trait.proofs.RebuildingLemmas.{placed-at, place_within, live_reordered-more, live_reordered-same, length-reordered, live_before-all, length-live_reordered_before}
 -- A merge, kept by each turn.
-use Rattle.std.proofs.Common.{◌≡◌, ℕ, zero, suc, ◌+◌, ◌-◌, ◌*◌, ◌<◌, ◌≤◌, ◌^◌, Bool, true, false, if◌then◌else◌, Option, Some, None, List, [], ◌∷◌, ◌++◌, length, map, refl, sym, ap, ◌∙◌, arith, subst, slice_get, slice_index, length-append}
-use Rattle.std.specs.List.{items_where_true, slice_index_or}
+use Rattle.std.proofs.Common.{◌≡◌, ℕ, zero, suc, ◌+◌, ◌-◌, ◌*◌, ◌<◌, ◌≤◌, Bool, true, false, if◌then◌else◌, Option, Some, None, List, [], ◌∷◌, ◌++◌, length, map, refl, sym, ap, ◌∙◌, arith, subst, slice_get, slice_index, length-append}
+use Rattle.std.specs.List.{slice_index_or}
 use Rattle.std.specs.Option.{is_some, option_map}
 use Rattle.std.proofs.lemmas.Option.{slice_get_within, slice_get-map, slice_get-get_or}
-use Rattle.std.proofs.lemmas.List.{length-replicate, length_push, map-append, nil_from_length}
+use Rattle.std.proofs.lemmas.List.{length_push, map-append, nil_from_length}
 use Rattle.query_laws.specs.Orders.{IsStrictTotalOrder}
 use Rattle.query_laws.specs.Permuted.{nothing}
 use Rattle.query_laws.proofs.Permutations.{Permuted-length}
 use Rattle.builder_trait.specs.Parts.{Contents, IsPart, marked}
-use Rattle.builder_trait.specs.Builders.{Progress, all_live, begun, FitsFirst, FitsSecond, with_put}
+use Rattle.builder_trait.specs.Builders.{Progress, begun, FitsFirst, FitsSecond, with_put}
 use Rattle.builder_trait.specs.Rebuilding.{live_before, live_reordered_before, flags_reordered}
+use Rattle.builder_trait.proofs.RebuildingLemmas.{placed-at, place_within, live_reordered-more, live_reordered-same, length-reordered, live_before-all, live_reordered_before-all, length-live_reordered_before}
 use Rattle.builder_trait.proofs.Kept.{length-kept_le}
-use Rattle.builder_trait.proofs.Places.{length-placed, IsPart-from_rising}
-use Rattle.ordered_merge.specs.Merging.{Merging, Merges, IsFront, IsNext, IsMerged, StampsDiffer, PassedBelow, HasNewPlaces, chosen, new_place, unbegun}
-use Rattle.ordered_merge.proofs.Fronts.{IsFront-more, PassedBelow-read, PassedBelow-other, IsAfter-merged, IsMerged-more, IsMerged-swap}
-use Rattle.ordered_merge.proofs.Tables.{live_before-taken, live_before-skipped, HasNewPlaces-longer, HasNewPlaces-skipped, HasNewPlaces-taken, reread_none, IsPart-chosen}
+use Rattle.builder_trait.proofs.Places.{length-placed}
+use Rattle.ordered_merge.specs.Merging.{Merging, Merges, AreSources, HasTaken, HasRetaken, HasRead, IsFront, IsNext, IsMerged, IsWhole, StampsDiffer, PassedBelow, HasNewPlaces, chosen, new_place, unbegun, taken_of, taken_reordered}
+use Rattle.ordered_merge.proofs.Fronts.{IsFront-more, IsFront-swap, PassedBelow-read, PassedBelow-other, IsAfter-merged, IsMerged-more, IsMerged-swap}
+use Rattle.ordered_merge.proofs.Tables.{live_before-taken, live_before-skipped, HasNewPlaces-longer, HasNewPlaces-skipped, HasNewPlaces-taken, reread_none, IsPart-chosen, TakesLive-none, TakesLive-more}
 
--- one more entry
-abbrev pub read_first : {Item : Type 0} → Bool → Item → Merging Item → Merging Item
-read_first live x m = record m {
-  first = record { table = m.first.table ++ new_place live m.taken ∷ []; reread = m.first.reread };
+-- one more entry of a
+abbrev pub read_a : {Item : Type 0} → Bool → Item → Merging Item → Merging Item
+read_a live x m = record m {
+  a = record { table = m.a.table ++ new_place live m.taken ∷ []; reread = m.a.reread };
   taken = if live then m.taken + 1 else m.taken;
   reached = Some x;
   left = m.left - 1;
 }
 
--- one item more in order 1
-abbrev pub reread_first : {Item : Type 0} → Merging Item → Merging Item
-reread_first m = record m { first = record { table = m.first.table; reread = m.first.reread + 1 }; left = m.left - 1 }
+-- one item more of a in order 1
+abbrev pub reread_a : {Item : Type 0} → Merging Item → Merging Item
+reread_a m = record m { a = record { table = m.a.table; reread = m.a.reread + 1 }; left = m.left - 1 }
 
 -- the parts in the other order
 abbrev pub swapped : {Item : Type 0} → Merging Item → Merging Item
-swapped m = record m { first = m.second; second = m.first }
+swapped m = record m { a = m.b; b = m.a }
 
--- only the turns that are left differ
-pub same_left : {Item : Type 0} (m other : Merging Item) (n k : ℕ) → m ≡ other → n ≡ k → record m { left = n } ≡ record other { left = k }
-same_left {Item} m other n k e f = ap (λ (r : Merging Item). record r { left = n }) e ∙ ap (λ l. record other { left = l }) f
+-- one more entry of a, as the fields are written
+abbrev pub written_a : {Item : Type 0} → ℕ → List (Option ℕ) → ℕ → Item → Merging Item → Merging Item
+written_a room table n x m = record m {
+  capacity = room;
+  a = record { table = table; reread = m.a.reread };
+  taken = n;
+  reached = Some x;
+  left = m.left - 1;
+}
+
+-- how much is read, as the fields are
+module _ {Item : Type 0} {m seen : Merging Item} (is : m ≡ seen) where
+  pub all_read : {n : ℕ} → length seen.a.table + length seen.b.table ≡ n → length m.a.table + length m.b.table ≡ n
+  all_read read = ap (λ r. length r.a.table + length r.b.table) is ∙ read
+
+  pub all_read_swapped : (n k : ℕ) → length seen.a.table + length seen.b.table ≡ n + k → length m.b.table + length m.a.table ≡ k + n
+  all_read_swapped n k read = omega (arith, read, all_read refl)
+
+  pub HasRead-of : {n : ℕ} {new : Merging Item} {part other : Contents Item} {b fresh : Progress Item} → HasRead n m new part other b fresh
+      → HasRead n seen new part other b fresh
+  HasRead-of {n} {new} {part} {other} {b} {fresh} h = subst (λ r. HasRead n r new part other b fresh) is h
+
+pub HasRead-none : {Item : Type 0} (m : Merging Item) {part other : Contents Item} (b : Progress Item) → HasRead 0 m m part other b b
+HasRead-none m b = record {
+  left = omega arith;
+  capacity = refl;
+  taken = TakesLive-none m.a.table;
+  other_taken = TakesLive-none m.b.table;
+  level = refl;
+}
+
+-- reading on
+pub HasRead-more : {Item : Type 0} {n k : ℕ} {m new last : Merging Item} {part other : Contents Item} {b fresh final : Progress Item}
+    → HasRead n m new part other b fresh → HasRead k new last part other fresh final → HasRead (n + k) m last part other b final
+HasRead-more h more = record {
+  left = omega (arith, h.left, more.left);
+  capacity = more.capacity ∙ h.capacity;
+  taken = TakesLive-more h.taken more.taken;
+  other_taken = TakesLive-more h.other_taken more.other_taken;
+  level = more.level ∙ h.level;
+}
+
+-- nothing is taken in order 1
+pub HasRead-reread : {Item : Type 0} {n capacity left : ℕ} (m : Merging Item) {reread other_reread : ℕ} {part other : Contents Item} {b fresh : Progress Item}
+    → capacity ≡ m.capacity → left + n ≡ m.left → fresh.at_level ≡ b.at_level
+    → HasRead n m (record m {
+      capacity = capacity;
+      a = record { table = m.a.table; reread = reread };
+      b = record { table = m.b.table; reread = other_reread };
+      left = left;
+    }) part other b fresh
+HasRead-reread m as_wide left level = record {
+  left = left;
+  capacity = as_wide;
+  taken = TakesLive-none m.a.table;
+  other_taken = TakesLive-none m.b.table;
+  level = level;
+}
 
 module _ {Item : Type 0} {stamp : Item → ℕ} {before : ℕ → Item → Item → Bool} where
+  -- what contracts see of it, as the fields are
+  pub Merges-of : {m seen : Merging Item} {part other : Contents Item} {b : Progress Item} → m ≡ seen → Merges stamp before seen part other b
+      → Merges stamp before m part other b
+  Merges-of {part = part} {other = other} {b = b} is h = subst (λ r. Merges stamp before r part other b) (sym is) h
+
   -- nothing is read
-  pub Merges-begun : (part other : Contents Item) (n level : ℕ) → length part.items ≤ n → length other.items ≤ n
-      → StampsDiffer stamp part.items other.items → length part.items + length other.items ≤ 2 ^ level
+  pub Merges-begun : (part other : Contents Item) (n level : ℕ) → AreSources stamp n level part.items other.items
       → Merges stamp before (record (unbegun n) { left = 2 * (length part.items + length other.items) }) part other (begun level)
-  Merges-begun part other n level fits other_fits stamps room = record {
-    fits = fits;
-    other_fits = other_fits;
-    room = room;
+  Merges-begun part other n level sources = record {
+    sources = sources;
     unsealed = refl;
-    stamps_differ = stamps;
     to_go = omega arith;
-    front = none_read (before 0) part.items other.items;
-    front_reordered = none_read (before 1) part.reordered other.reordered;
-    in_turn = λ some. absurd (omega arith);
-    put = none_put (before 0);
-    put_reordered = none_put (before 1);
-    placed = refl;
-    new_places = λ k n at. absurd cc;
-    other_new_places = λ k n at. absurd cc;
-    counted = refl;
-    passed = λ k x at. (λ below. absurd (omega arith), λ from. refl);
-    other_passed = λ k x at. (λ below. absurd (omega arith), λ from. refl);
+    taking = record {
+      front = none_read (before 0) part.items other.items;
+      put = none_put (before 0);
+      new_places = λ k n at. absurd cc;
+      other_new_places = λ k n at. absurd cc;
+      counted = refl;
+      passed = λ k x at. (λ below. absurd (omega arith), λ from. refl);
+      other_passed = λ k x at. (λ below. absurd (omega arith), λ from. refl);
+    };
+    retaking = record {
+      front = none_read (before 1) part.reordered other.reordered;
+      in_turn = λ some. absurd (omega arith);
+      put = none_put (before 1);
+      placed = refl;
+    };
   }
     where
       none_read : (order : Item → Item → Bool) (xs ys : List Item) → IsFront order 0 xs 0 ys
@@ -77,51 +137,45 @@ module _ {Item : Type 0} {stamp : Item → ℕ} {before : ℕ → Item → Item 
   module _ {m : Merging Item} {part other : Contents Item} {b : Progress Item} (h : Merges stamp before m part other b) where
     pub Merges-swap : Merges stamp before (swapped m) other part b
     Merges-swap = record {
-      fits = h.other_fits;
-      other_fits = h.fits;
-      room = omega (arith, h.room);
-      unsealed = h.unsealed;
-      stamps_differ = λ k l x y at_x at_y same. h.stamps_differ l k y x at_y at_x (sym same);
-      to_go = omega (arith, h.to_go);
-      front = record { within = h.front.within_other; within_other = h.front.within; ahead = h.front.other_ahead; other_ahead = h.front.ahead };
-      front_reordered = record {
-        within = h.front_reordered.within_other;
-        within_other = h.front_reordered.within;
-        ahead = h.front_reordered.other_ahead;
-        other_ahead = h.front_reordered.ahead;
+      sources = record {
+        fits = h.sources.other_fits;
+        other_fits = h.sources.fits;
+        room = omega (arith, h.sources.room);
+        stamps_differ = λ k l x y at_x at_y same. h.sources.stamps_differ l k y x at_y at_x (sym same);
       };
-      in_turn = λ some. let before_swap = h.in_turn (omega arith) in omega arith;
-      put = IsMerged-swap h.put;
-      put_reordered = IsMerged-swap h.put_reordered;
-      placed = h.placed;
-      new_places = h.other_new_places;
-      other_new_places = h.new_places;
-      counted = h.counted;
-      passed = h.other_passed;
-      other_passed = h.passed;
+      unsealed = h.unsealed;
+      to_go = omega (arith, h.to_go);
+      taking = record {
+        front = IsFront-swap h.taking.front;
+        put = IsMerged-swap h.taking.put;
+        new_places = h.taking.other_new_places;
+        other_new_places = h.taking.new_places;
+        counted = h.taking.counted;
+        passed = h.taking.other_passed;
+        other_passed = h.taking.passed;
+      };
+      retaking = record {
+        front = IsFront-swap h.retaking.front;
+        in_turn = λ some. let before_swap = h.retaking.in_turn (omega arith) in omega arith;
+        put = IsMerged-swap h.retaking.put;
+        placed = h.retaking.placed;
+      };
     }
 
     -- items that die leave it as it is: it speaks of no flag
     pub Merges-flags : (flags other_flags : List Bool)
         → Merges stamp before m (record part { flags = flags }) (record other { flags = other_flags }) b
     Merges-flags flags other_flags = record {
-      fits = h.fits;
-      other_fits = h.other_fits;
-      room = h.room;
+      sources = h.sources;
       unsealed = h.unsealed;
-      stamps_differ = h.stamps_differ;
       to_go = h.to_go;
-      front = h.front;
-      front_reordered = h.front_reordered;
-      in_turn = h.in_turn;
-      put = h.put;
-      put_reordered = h.put_reordered;
-      placed = h.placed;
-      new_places = h.new_places;
-      other_new_places = h.other_new_places;
-      counted = h.counted;
-      passed = h.passed;
-      other_passed = h.other_passed;
+      taking = h.taking;
+      retaking = record {
+        front = h.retaking.front;
+        in_turn = h.retaking.in_turn;
+        put = h.retaking.put;
+        placed = h.retaking.placed;
+      };
     }
 
     pub Merges-marked : (dead : ℕ) → Merges stamp before m (marked stamp dead part) other b
@@ -130,352 +184,285 @@ module _ {Item : Type 0} {stamp : Item → ℕ} {before : ℕ → Item → Item 
     pub Merges-marked_other : (dead : ℕ) → Merges stamp before m part (marked stamp dead other) b
     Merges-marked_other dead = Merges-flags part.flags (marked stamp dead other).flags
 
-    pub taken_le : m.taken ≤ length m.first.table + length m.second.table
+    pub taken_le : m.taken ≤ length m.a.table + length m.b.table
     taken_le =
         omega (
           arith,
-          h.counted,
-          Permuted-length h.put.same_items,
-          length-append (live_before (length m.first.table) (chosen m.first.table part)) (live_before (length m.second.table) (chosen m.second.table other)),
-          length-kept_le (length m.first.table) (map is_some m.first.table) part.items,
-          length-kept_le (length m.second.table) (map is_some m.second.table) other.items,
+          h.taking.counted,
+          Permuted-length h.taking.put.same_items,
+          length-append (live_before (length m.a.table) (chosen m.a.table part)) (live_before (length m.b.table) (chosen m.b.table other)),
+          length-kept_le (length m.a.table) (map is_some m.a.table) part.items,
+          length-kept_le (length m.b.table) (map is_some m.b.table) other.items,
         )
 
   module _ {m : Merging Item} {part other : Contents Item} {b : Progress Item} (h : Merges stamp before m part other b)
       (order : IsStrictTotalOrder stamp (before 0)) (valid : IsPart before part) (other_valid : IsPart before other)
-      (x : Item) (next : IsNext (before 0) (length m.first.table) part.items (length m.second.table) other.items x) where
-    unfinished : m.first.reread + m.second.reread ≡ 0
-    unfinished = by (m.first.reread + m.second.reread) refl
+      (x : Item) (next : IsNext (before 0) (length m.a.table) part.items (length m.b.table) other.items x) where
+    unfinished : m.a.reread + m.b.reread ≡ 0
+    unfinished = by (m.a.reread + m.b.reread) refl
       where
-        by : (n : ℕ) → m.first.reread + m.second.reread ≡ n → m.first.reread + m.second.reread ≡ 0
+        by : (n : ℕ) → m.a.reread + m.b.reread ≡ n → m.a.reread + m.b.reread ≡ 0
         by zero e = e
         by (suc n) e =
-            let full : length m.first.table + length m.second.table ≡ length part.items + length other.items = h.in_turn (omega arith) in
-            let inside : length m.first.table < length part.items = slice_get_within part.items (length m.first.table) x next.here in
-            let within : length m.second.table ≤ length other.items = h.front.within_other in
+            let full : length m.a.table + length m.b.table ≡ length part.items + length other.items = h.retaking.in_turn (omega arith) in
+            let inside : length m.a.table < length part.items = slice_get_within part.items (length m.a.table) x next.here in
+            let within : length m.b.table ≤ length other.items = h.taking.front.within_other in
             absurd (omega arith)
 
     none_reordered : b.reordered ≡ []
     none_reordered =
-        let first : m.first.reread ≡ 0 = omega (arith, unfinished) in
-        let second : m.second.reread ≡ 0 = omega (arith, unfinished) in
+        let none : m.a.reread ≡ 0 = omega (arith, unfinished) in
+        let none_other : m.b.reread ≡ 0 = omega (arith, unfinished) in
         nil_from_length b.reordered
         (omega (
           arith,
-          Permuted-length h.put_reordered.same_items,
-          length-append (live_reordered_before m.first.reread (chosen m.first.table part)) (live_reordered_before m.second.reread (chosen m.second.table other)),
-          length-kept_le m.first.reread (flags_reordered (chosen m.first.table part)) part.reordered,
-          length-kept_le m.second.reread (flags_reordered (chosen m.second.table other)) other.reordered,
+          Permuted-length h.retaking.put.same_items,
+          length-append (live_reordered_before m.a.reread (chosen m.a.table part)) (live_reordered_before m.b.reread (chosen m.b.table other)),
+          length-kept_le m.a.reread (flags_reordered (chosen m.a.table part)) part.reordered,
+          length-kept_le m.b.reread (flags_reordered (chosen m.b.table other)) other.reordered,
         ))
 
     none_placed : b.places ≡ []
-    none_placed = nil_from_length b.places (length-placed b.items b.reordered b.places h.placed ∙ ap length none_reordered)
+    none_placed = nil_from_length b.places (length-placed b.items b.reordered b.places h.retaking.placed ∙ ap length none_reordered)
 
     -- the next item of order 0 may be put
     pub FitsFirst-next : FitsFirst (before 0) b x m.taken
     FitsFirst-next = record {
-      room = omega (arith, taken_le h, h.counted, h.room, slice_get_within part.items (length m.first.table) x next.here, h.front.within_other);
+      room = omega (
+        arith,
+        taken_le h,
+        h.taking.counted,
+        h.sources.room,
+        slice_get_within part.items (length m.a.table) x next.here,
+        h.taking.front.within_other,
+      );
       none_reordered = none_reordered;
-      next_place = h.counted;
-      after = IsAfter-merged order valid.rising other_valid.rising h.front next (map is_some m.first.table) (map is_some m.second.table) b.items h.put;
+      next_place = h.taking.counted;
+      after = IsAfter-merged order valid.rising other_valid.rising h.taking.front next (map is_some m.a.table) (map is_some m.b.table) b.items h.taking.put;
     }
 
     -- what does not depend on whether it is live
-    front_more : (e : Option ℕ) → IsFront (before 0) (length (m.first.table ++ e ∷ [])) part.items (length m.second.table) other.items
+    front_more : (e : Option ℕ) → IsFront (before 0) (length (m.a.table ++ e ∷ [])) part.items (length m.b.table) other.items
     front_more e =
-        subst (λ n. IsFront (before 0) n part.items (length m.second.table) other.items) (sym (length_push m.first.table e))
-        (IsFront-more order valid.rising other_valid.rising h.front next)
+        subst (λ n. IsFront (before 0) n part.items (length m.b.table) other.items) (sym (length_push m.a.table e))
+        (IsFront-more order valid.rising other_valid.rising h.taking.front next)
 
-    reread_same : (e : Option ℕ) → IsMerged (before 1) b.reordered (live_reordered_before m.first.reread (chosen (m.first.table ++ e ∷ []) part))
-        (live_reordered_before m.second.reread (chosen m.second.table other))
-    reread_same e =
-        subst (λ l. IsMerged (before 1) b.reordered l (live_reordered_before m.second.reread (chosen m.second.table other)))
-        (reread_none m.first.reread (chosen m.first.table part) (chosen (m.first.table ++ e ∷ []) part) (omega (arith, unfinished)))
-        h.put_reordered
-
-    passed_more : (e : Option ℕ) → PassedBelow (before 0) (Some x) (length (m.first.table ++ e ∷ [])) part.items
+    passed_more : (e : Option ℕ) → PassedBelow (before 0) (Some x) (length (m.a.table ++ e ∷ [])) part.items
     passed_more e =
-        subst (λ n. PassedBelow (before 0) (Some x) n part.items) (sym (length_push m.first.table e))
-        (PassedBelow-read order valid.rising other_valid.rising h.front next)
+        subst (λ n. PassedBelow (before 0) (Some x) n part.items) (sym (length_push m.a.table e))
+        (PassedBelow-read order valid.rising other_valid.rising h.taking.front next)
 
-    to_go_more : (e : Option ℕ) → m.left - 1 + (length (m.first.table ++ e ∷ []) + length m.second.table + (m.first.reread + m.second.reread))
+    to_go_more : (e : Option ℕ) → m.left - 1 + (length (m.a.table ++ e ∷ []) + length m.b.table + (m.a.reread + m.b.reread))
         ≡ 2 * (length part.items + length other.items)
     to_go_more e =
-        omega (arith, h.to_go, unfinished, length_push m.first.table e, slice_get_within part.items (length m.first.table) x next.here, h.front.within_other)
+        omega (arith, h.to_go, unfinished, length_push m.a.table e, slice_get_within part.items (length m.a.table) x next.here, h.taking.front.within_other)
 
-    in_turn_more : (e : Option ℕ) → 0 < m.first.reread + m.second.reread
-        → length (m.first.table ++ e ∷ []) + length m.second.table ≡ length part.items + length other.items
-    in_turn_more e some = absurd (omega (arith, unfinished))
+    retaking_same : (e : Option ℕ) (items : List Item) → map (slice_get items) b.places ≡ map Some b.reordered
+        → HasRetaken (before 1) (record { table = m.a.table ++ e ∷ []; reread = m.a.reread }) m.b part other (record b { items = items })
+    retaking_same e items placed = record {
+      front = h.retaking.front;
+      in_turn = λ some. absurd (omega (arith, unfinished));
+      put = subst (λ l. IsMerged (before 1) b.reordered l (live_reordered_before m.b.reread (chosen m.b.table other)))
+          (reread_none m.a.reread (chosen m.a.table part) (chosen (m.a.table ++ e ∷ []) part) (omega (arith, unfinished)))
+          h.retaking.put;
+      placed = placed;
+    }
 
     -- the item is put, and has its new place
-    Merges-taken : Merges stamp before (read_first true x m) part other (with_put 0 x m.taken b)
+    Merges-taken : Merges stamp before (read_a true x m) part other (with_put 0 x m.taken b)
     Merges-taken = record {
-      fits = h.fits;
-      other_fits = h.other_fits;
-      room = h.room;
+      sources = h.sources;
       unsealed = h.unsealed;
-      stamps_differ = h.stamps_differ;
       to_go = to_go_more (Some m.taken);
-      front = front_more (Some m.taken);
-      front_reordered = h.front_reordered;
-      in_turn = in_turn_more (Some m.taken);
-      put = subst (λ l. IsMerged (before 0) (b.items ++ x ∷ []) l (live_before (length m.second.table) (chosen m.second.table other)))
-          (sym (live_before-taken m.first.table (Some m.taken) part x refl next.here))
-          (IsMerged-more h.put x FitsFirst-next.after);
-      put_reordered = reread_same (Some m.taken);
-      placed = ap (map (slice_get (b.items ++ x ∷ []))) none_placed ∙ sym (ap (map Some) none_reordered);
-      new_places = subst (λ n. HasNewPlaces (m.first.table ++ Some n ∷ []) part.items (b.items ++ x ∷ [])) (sym h.counted)
-          (HasNewPlaces-taken m.first.table part.items b.items h.front.within h.new_places x next.here);
-      other_new_places = HasNewPlaces-longer m.second.table other.items b.items h.front.within_other h.other_new_places x;
-      counted = ap (λ n. n + 1) h.counted ∙ sym (length_push b.items x);
-      passed = passed_more (Some m.taken);
-      other_passed = PassedBelow-other order valid.rising other_valid.rising h.front next;
+      taking = record {
+        front = front_more (Some m.taken);
+        put = subst (λ l. IsMerged (before 0) (b.items ++ x ∷ []) l (live_before (length m.b.table) (chosen m.b.table other)))
+            (sym (live_before-taken m.a.table (Some m.taken) part x refl next.here))
+            (IsMerged-more h.taking.put x FitsFirst-next.after);
+        new_places = subst (λ n. HasNewPlaces (m.a.table ++ Some n ∷ []) part.items (b.items ++ x ∷ [])) (sym h.taking.counted)
+            (HasNewPlaces-taken m.a.table part.items b.items h.taking.front.within h.taking.new_places x next.here);
+        other_new_places = HasNewPlaces-longer m.b.table other.items b.items h.taking.front.within_other h.taking.other_new_places x;
+        counted = ap (λ n. n + 1) h.taking.counted ∙ sym (length_push b.items x);
+        passed = passed_more (Some m.taken);
+        other_passed = PassedBelow-other order valid.rising other_valid.rising h.taking.front next;
+      };
+      retaking = retaking_same (Some m.taken) (b.items ++ x ∷ [])
+          (ap (map (slice_get (b.items ++ x ∷ []))) none_placed ∙ sym (ap (map Some) none_reordered));
     }
 
     -- it is skipped
-    Merges-skipped : Merges stamp before (read_first false x m) part other b
+    Merges-skipped : Merges stamp before (read_a false x m) part other b
     Merges-skipped = record {
-      fits = h.fits;
-      other_fits = h.other_fits;
-      room = h.room;
+      sources = h.sources;
       unsealed = h.unsealed;
-      stamps_differ = h.stamps_differ;
       to_go = to_go_more None;
-      front = front_more None;
-      front_reordered = h.front_reordered;
-      in_turn = in_turn_more None;
-      put = subst (λ l. IsMerged (before 0) b.items l (live_before (length m.second.table) (chosen m.second.table other)))
-          (sym (live_before-skipped m.first.table None part refl)) h.put;
-      put_reordered = reread_same None;
-      placed = h.placed;
-      new_places = HasNewPlaces-skipped m.first.table part.items b.items h.front.within h.new_places;
-      other_new_places = h.other_new_places;
-      counted = h.counted;
-      passed = passed_more None;
-      other_passed = PassedBelow-other order valid.rising other_valid.rising h.front next;
+      taking = record {
+        front = front_more None;
+        put = subst (λ l. IsMerged (before 0) b.items l (live_before (length m.b.table) (chosen m.b.table other)))
+            (sym (live_before-skipped m.a.table None part refl)) h.taking.put;
+        new_places = HasNewPlaces-skipped m.a.table part.items b.items h.taking.front.within h.taking.new_places;
+        other_new_places = h.taking.other_new_places;
+        counted = h.taking.counted;
+        passed = passed_more None;
+        other_passed = PassedBelow-other order valid.rising other_valid.rising h.taking.front next;
+      };
+      retaking = retaking_same None b.items h.retaking.placed;
     }
 
-    -- a turn in order 0, at an item of the first part
-    pub Merges-read : (live : Bool) → Merges stamp before (read_first live x m) part other (if live then with_put 0 x m.taken b else b)
+    -- a turn in order 0, at an item of a
+    pub Merges-read : (live : Bool) → Merges stamp before (read_a live x m) part other (if live then with_put 0 x m.taken b else b)
     Merges-read true = Merges-taken
     Merges-read false = Merges-skipped
 
+    -- the same, as the fields are written
+    pub Merges-written : (live : Bool) (room : ℕ) (table : List (Option ℕ)) (n : ℕ) (fresh : Progress Item)
+        → room ≡ m.capacity → table ≡ m.a.table ++ new_place live m.taken ∷ [] → n ≡ (if live then m.taken + 1 else m.taken)
+        → fresh ≡ (if live then with_put 0 x m.taken b else b) → Merges stamp before (written_a room table n x m) part other fresh
+    Merges-written live room table n fresh as_wide noted counted put =
+        subst (λ p. Merges stamp before (written_a room table n x m) part other p) (sym put)
+        (Merges-of
+        (ap (λ r. written_a r table n x m) as_wide ∙ ap (λ l. written_a m.capacity l n x m) noted
+        ∙ ap (λ k. written_a m.capacity (m.a.table ++ new_place live m.taken ∷ []) k x m) counted)
+        (Merges-read live))
+
   module _ {m : Merging Item} {part other : Contents Item} {b : Progress Item} (h : Merges stamp before m part other b)
       (order : IsStrictTotalOrder stamp (before 1)) (valid : IsPart before part) (other_valid : IsPart before other)
-      (full : length m.first.table + length m.second.table ≡ length part.items + length other.items)
-      (x : Item) (next : IsNext (before 1) m.first.reread part.reordered m.second.reread other.reordered x) where
+      (full : length m.a.table + length m.b.table ≡ length part.items + length other.items)
+      (x : Item) (next : IsNext (before 1) m.a.reread part.reordered m.b.reread other.reordered x) where
     -- where order 0 has read all, the table speaks of the item's place
-    full_first : length m.first.table ≡ length part.items
-    full_first = omega (arith, full, h.front.within, h.front.within_other)
+    full_a : length m.a.table ≡ length part.items
+    full_a = omega (arith, full, h.taking.front.within, h.taking.front.within_other)
 
-    pub reread_below : m.first.reread < length part.items
-    reread_below = omega (arith, slice_get_within part.reordered m.first.reread x next.here, length-reordered valid)
+    pub reread_below : m.a.reread < length part.items
+    reread_below = omega (arith, slice_get_within part.reordered m.a.reread x next.here, length-reordered valid)
 
-    pub place_noted : slice_index part.places m.first.reread < length m.first.table
-    place_noted = omega (arith, place_within valid m.first.reread reread_below, full_first)
+    pub place_noted : slice_index part.places m.a.reread < length m.a.table
+    place_noted = omega (arith, place_within valid m.a.reread reread_below, full_a)
 
-    chosen_at : (e : Option ℕ) → slice_get m.first.table (slice_index part.places m.first.reread) ≡ Some e
-        → slice_get (map is_some m.first.table) (slice_index part.places m.first.reread) ≡ Some (is_some e)
-    chosen_at e at = slice_get-map is_some m.first.table (slice_index part.places m.first.reread) ∙ ap (option_map is_some) at
+    chosen_at : (e : Option ℕ) → slice_get m.a.table (slice_index part.places m.a.reread) ≡ Some e
+        → slice_get (map is_some m.a.table) (slice_index part.places m.a.reread) ≡ Some (is_some e)
+    chosen_at e at = slice_get-map is_some m.a.table (slice_index part.places m.a.reread) ∙ ap (option_map is_some) at
 
     -- the item that order 0 took may be put, with its new place
-    pub FitsSecond-next : (n : ℕ) → slice_get m.first.table (slice_index part.places m.first.reread) ≡ Some (Some n) → FitsSecond (before 1) b x n
+    pub FitsSecond-next : (n : ℕ) → slice_get m.a.table (slice_index part.places m.a.reread) ≡ Some (Some n) → FitsSecond (before 1) b x n
     FitsSecond-next n at = record {
-      at_place = h.new_places (slice_index part.places m.first.reread) n at ∙ placed-at valid m.first.reread x next.here;
-      after = IsAfter-merged order valid.rising_reordered other_valid.rising_reordered h.front_reordered next
-          (flags_reordered (chosen m.first.table part)) (flags_reordered (chosen m.second.table other)) b.reordered h.put_reordered;
+      at_place = h.taking.new_places (slice_index part.places m.a.reread) n at ∙ placed-at valid m.a.reread x next.here;
+      after = IsAfter-merged order valid.rising_reordered other_valid.rising_reordered h.retaking.front next
+          (flags_reordered (chosen m.a.table part)) (flags_reordered (chosen m.b.table other)) b.reordered h.retaking.put;
     }
 
-    to_go_reread : m.left - 1 + (length m.first.table + length m.second.table + (m.first.reread + 1 + m.second.reread))
-        ≡ 2 * (length part.items + length other.items)
-    to_go_reread = omega (arith, h.to_go, full, reread_below, h.front_reordered.within_other, length-reordered other_valid)
-
-    Merges-retaken : (n : ℕ) → slice_get m.first.table (slice_index part.places m.first.reread) ≡ Some (Some n)
-        → Merges stamp before (reread_first m) part other (with_put 1 x n b)
-    Merges-retaken n at = record {
-      fits = h.fits;
-      other_fits = h.other_fits;
-      room = h.room;
-      unsealed = h.unsealed;
-      stamps_differ = h.stamps_differ;
-      to_go = to_go_reread;
-      front = h.front;
-      front_reordered = IsFront-more order valid.rising_reordered other_valid.rising_reordered h.front_reordered next;
-      in_turn = λ some. full;
-      put = h.put;
-      put_reordered = subst
-          (λ l. IsMerged (before 1) (b.reordered ++ x ∷ []) l (live_reordered_before m.second.reread (chosen m.second.table other)))
-          (sym (live_reordered-more (IsPart-chosen m.first.table valid full_first) m.first.reread x reread_below (chosen_at (Some n) at) next.here))
-          (IsMerged-more h.put_reordered x (FitsSecond-next n at).after);
-      placed = map-append (slice_get b.items) b.places (n ∷ []) ∙ ap (λ l. l ++ slice_get b.items n ∷ []) h.placed
-          ∙ ap (λ o. map Some b.reordered ++ o ∷ []) (FitsSecond-next n at).at_place ∙ sym (map-append Some b.reordered (x ∷ []));
-      new_places = h.new_places;
-      other_new_places = h.other_new_places;
-      counted = h.counted;
-      passed = h.passed;
-      other_passed = h.other_passed;
+    Merges-reread_to : (fresh : Progress Item) → fresh.items ≡ b.items → fresh.at_level ≡ b.at_level → fresh.is_sealed ≡ b.is_sealed
+        → IsMerged (before 1) fresh.reordered (live_reordered_before (m.a.reread + 1) (chosen m.a.table part))
+        (live_reordered_before m.b.reread (chosen m.b.table other))
+        → map (slice_get fresh.items) fresh.places ≡ map Some fresh.reordered
+        → Merges stamp before (reread_a m) part other fresh
+    Merges-reread_to fresh items level sealed put placed = record {
+      sources = subst (λ n. AreSources stamp m.capacity n part.items other.items) (sym level) h.sources;
+      unsealed = sealed ∙ h.unsealed;
+      to_go = omega (arith, h.to_go, full, reread_below, h.retaking.front.within_other, length-reordered other_valid);
+      taking = subst (λ l. HasTaken (before 0) m.a.table m.b.table m.taken m.reached part.items other.items l) (sym items) h.taking;
+      retaking = record {
+        front = IsFront-more order valid.rising_reordered other_valid.rising_reordered h.retaking.front next;
+        in_turn = λ some. full;
+        put = put;
+        placed = placed;
+      };
     }
 
-    Merges-reskipped : slice_get m.first.table (slice_index part.places m.first.reread) ≡ Some None
-        → Merges stamp before (reread_first m) part other b
-    Merges-reskipped at = record {
-      fits = h.fits;
-      other_fits = h.other_fits;
-      room = h.room;
-      unsealed = h.unsealed;
-      stamps_differ = h.stamps_differ;
-      to_go = to_go_reread;
-      front = h.front;
-      front_reordered = IsFront-more order valid.rising_reordered other_valid.rising_reordered h.front_reordered next;
-      in_turn = λ some. full;
-      put = h.put;
-      put_reordered = subst (λ l. IsMerged (before 1) b.reordered l (live_reordered_before m.second.reread (chosen m.second.table other)))
-          (sym (live_reordered-same (IsPart-chosen m.first.table valid full_first) m.first.reread reread_below (chosen_at None at)))
-          h.put_reordered;
-      placed = h.placed;
-      new_places = h.new_places;
-      other_new_places = h.other_new_places;
-      counted = h.counted;
-      passed = h.passed;
-      other_passed = h.other_passed;
-    }
+    Merges-retaken : (n : ℕ) → slice_get m.a.table (slice_index part.places m.a.reread) ≡ Some (Some n)
+        → Merges stamp before (reread_a m) part other (with_put 1 x n b)
+    Merges-retaken n at =
+        Merges-reread_to (with_put 1 x n b) refl refl refl
+        (subst (λ l. IsMerged (before 1) (b.reordered ++ x ∷ []) l (live_reordered_before m.b.reread (chosen m.b.table other)))
+        (sym (live_reordered-more (IsPart-chosen m.a.table valid full_a) m.a.reread x reread_below (chosen_at (Some n) at) next.here))
+        (IsMerged-more h.retaking.put x (FitsSecond-next n at).after))
+        (map-append (slice_get b.items) b.places (n ∷ []) ∙ ap (λ l. l ++ slice_get b.items n ∷ []) h.retaking.placed
+        ∙ ap (λ o. map Some b.reordered ++ o ∷ []) (FitsSecond-next n at).at_place ∙ sym (map-append Some b.reordered (x ∷ [])))
 
-    -- a turn in order 1, at an item of the first part: put as the table says
+    Merges-reskipped : slice_get m.a.table (slice_index part.places m.a.reread) ≡ Some None → Merges stamp before (reread_a m) part other b
+    Merges-reskipped at =
+        Merges-reread_to b refl refl refl
+        (subst (λ l. IsMerged (before 1) b.reordered l (live_reordered_before m.b.reread (chosen m.b.table other)))
+        (sym (live_reordered-same (IsPart-chosen m.a.table valid full_a) m.a.reread reread_below (chosen_at None at)))
+        h.retaking.put)
+        h.retaking.placed
+
+    -- a turn in order 1, at an item of a: put as the table says
     module _ (fresh : Progress Item)
-        (put : (n : ℕ) → slice_get m.first.table (slice_index part.places m.first.reread) ≡ Some (Some n) → fresh ≡ with_put 1 x n b)
-        (skipped : slice_get m.first.table (slice_index part.places m.first.reread) ≡ Some None → fresh ≡ b) where
-      read_of : (o : Option ℕ) → slice_get m.first.table (slice_index part.places m.first.reread) ≡ Some o
-          → Merges stamp before (reread_first m) part other fresh × (fresh.at_level ≡ b.at_level)
-      read_of (Some n) at = (
-        subst (λ p. Merges stamp before (reread_first m) part other p) (sym (put n at)) (Merges-retaken n at),
+        (put : (n : ℕ) → slice_get m.a.table (slice_index part.places m.a.reread) ≡ Some (Some n) → fresh ≡ with_put 1 x n b)
+        (skipped : slice_get m.a.table (slice_index part.places m.a.reread) ≡ Some None → fresh ≡ b) where
+      reread_at : (o : Option ℕ) → slice_get m.a.table (slice_index part.places m.a.reread) ≡ Some o
+          → Merges stamp before (reread_a m) part other fresh × (fresh.at_level ≡ b.at_level)
+      reread_at (Some n) at = (
+        subst (λ p. Merges stamp before (reread_a m) part other p) (sym (put n at)) (Merges-retaken n at),
         ap (λ p. p.at_level) (put n at),
       )
-      read_of None at = (
-        subst (λ p. Merges stamp before (reread_first m) part other p) (sym (skipped at)) (Merges-reskipped at),
+      reread_at None at = (
+        subst (λ p. Merges stamp before (reread_a m) part other p) (sym (skipped at)) (Merges-reskipped at),
         ap (λ p. p.at_level) (skipped at),
       )
 
-      pub Merges-reread : Merges stamp before (reread_first m) part other fresh × (fresh.at_level ≡ b.at_level)
+      pub Merges-reread : Merges stamp before (reread_a m) part other fresh × (fresh.at_level ≡ b.at_level)
       Merges-reread =
-          read_of (slice_index_or m.first.table (slice_index part.places m.first.reread) None)
-          (slice_get-get_or m.first.table (slice_index part.places m.first.reread) None place_noted)
+          reread_at (slice_index_or m.a.table (slice_index part.places m.a.reread) None)
+          (slice_get-get_or m.a.table (slice_index part.places m.a.reread) None place_noted)
 
   module _ {m : Merging Item} {part other : Contents Item} {b : Progress Item} (h : Merges stamp before m part other b)
       (valid : IsPart before part) (other_valid : IsPart before other) where
     pub StampsDiffer-reordered : StampsDiffer stamp part.reordered other.reordered
     StampsDiffer-reordered k l x y at_x at_y =
-        h.stamps_differ (slice_index part.places k) (slice_index other.places l) x y (placed-at valid k x at_x) (placed-at other_valid l y at_y)
+        h.sources.stamps_differ (slice_index part.places k) (slice_index other.places l) x y (placed-at valid k x at_x) (placed-at other_valid l y at_y)
 
     -- a merge that is done
     module _ (ended : m.left ≡ 0) where
-      pub full_table : length m.first.table ≡ length part.items
-      full_table = omega (
-        arith,
-        h.to_go,
-        h.front.within,
-        h.front.within_other,
-        h.front_reordered.within,
-        h.front_reordered.within_other,
-        length-reordered valid,
-        length-reordered other_valid,
-      )
+      read_whole : (length m.a.table ≡ length part.items) × (length m.b.table ≡ length other.items)
+          × (m.a.reread ≡ length part.items) × (m.b.reread ≡ length other.items)
+      read_whole =
+          let go = h.to_go in
+          let front = h.taking.front in
+          let front_reordered = h.retaking.front in
+          let same = length-reordered valid in
+          let other_same = length-reordered other_valid in (omega arith, omega arith, omega arith, omega arith)
 
-      pub full_other_table : length m.second.table ≡ length other.items
-      full_other_table = omega (
-        arith,
-        h.to_go,
-        h.front.within,
-        h.front.within_other,
-        h.front_reordered.within,
-        h.front_reordered.within_other,
-        length-reordered valid,
-        length-reordered other_valid,
-      )
+      reordered_all : live_reordered_before m.a.reread (chosen m.a.table part) ≡ taken_reordered m.a.table part
+      reordered_all = ap (λ n. live_reordered_before n (chosen m.a.table part)) read_whole.2 ∙ live_reordered_before-all (IsPart-chosen m.a.table valid read_whole.0)
 
-      reread_all : m.first.reread ≡ length part.items
-      reread_all = omega (
-        arith,
-        h.to_go,
-        h.front.within,
-        h.front.within_other,
-        h.front_reordered.within,
-        h.front_reordered.within_other,
-        length-reordered valid,
-        length-reordered other_valid,
-      )
+      reordered_all_other : live_reordered_before m.b.reread (chosen m.b.table other) ≡ taken_reordered m.b.table other
+      reordered_all_other =
+          ap (λ n. live_reordered_before n (chosen m.b.table other)) read_whole.3 ∙ live_reordered_before-all (IsPart-chosen m.b.table other_valid read_whole.1)
 
-      reread_all_other : m.second.reread ≡ length other.items
-      reread_all_other = omega (
-        arith,
-        h.to_go,
-        h.front.within,
-        h.front.within_other,
-        h.front_reordered.within,
-        h.front_reordered.within_other,
-        length-reordered valid,
-        length-reordered other_valid,
-      )
+      items_all : IsMerged (before 0) b.items (taken_of m.a.table part) (taken_of m.b.table other)
+      items_all =
+          subst (λ l. IsMerged (before 0) b.items l (taken_of m.b.table other))
+          (ap (λ n. live_before n (chosen m.a.table part)) read_whole.0 ∙ live_before-all (IsPart-chosen m.a.table valid read_whole.0))
+          (subst (λ l. IsMerged (before 0) b.items (live_before (length m.a.table) (chosen m.a.table part)) l)
+          (ap (λ n. live_before n (chosen m.b.table other)) read_whole.1 ∙ live_before-all (IsPart-chosen m.b.table other_valid read_whole.1))
+          h.taking.put)
 
-      -- the builder holds, in order 0, exactly the items that the tables took
-      pub holds_taken : IsMerged (before 0) b.items (items_where_true (map is_some m.first.table) part.items)
-          (items_where_true (map is_some m.second.table) other.items)
-      holds_taken =
-          subst (λ l. IsMerged (before 0) b.items l (items_where_true (map is_some m.second.table) other.items))
-          (ap (λ n. live_before n (chosen m.first.table part)) full_table ∙ live_before-all (IsPart-chosen m.first.table valid full_table))
-          (subst (λ l. IsMerged (before 0) b.items (live_before (length m.first.table) (chosen m.first.table part)) l)
-          (ap (λ n. live_before n (chosen m.second.table other)) full_other_table ∙ live_before-all (IsPart-chosen m.second.table other_valid full_other_table))
-          h.put)
-
-      -- and as many in order 1, so that it can be sealed
-      pub as_many : length b.reordered ≡ length b.items
-      as_many =
-          omega (
-            arith,
-            Permuted-length holds_taken.same_items,
-            length-append (items_where_true (map is_some m.first.table) part.items) (items_where_true (map is_some m.second.table) other.items),
-            Permuted-length h.put_reordered.same_items,
-            length-append (live_reordered_before m.first.reread (chosen m.first.table part)) (live_reordered_before m.second.reread (chosen m.second.table other)),
-            ap (λ n. length (live_reordered_before n (chosen m.first.table part))) reread_all,
-            ap (λ n. length (live_reordered_before n (chosen m.second.table other))) reread_all_other,
-            length-live_reordered_before (IsPart-chosen m.first.table valid full_table),
-            length-live_reordered_before (IsPart-chosen m.second.table other_valid full_other_table),
-          )
-
--- what the builder holds once a merge is done makes a part
-pub IsPart-merged : {Item : Type 0} {stamp : Item → ℕ} {before : ℕ → Item → Item → Bool} {m : Merging Item} {part other : Contents Item}
-    {b : Progress Item} → IsStrictTotalOrder stamp (before 1) → Merges stamp before m part other b → IsPart before part → IsPart before other
-    → m.left ≡ 0 → IsPart before (all_live b)
-IsPart-merged {b = b} order h valid other_valid ended =
-    IsPart-from_rising (all_live b) order h.put.rising h.put_reordered.rising h.placed (as_many h valid other_valid ended)
-    (length-replicate (length b.items) true)
+      -- the builder holds exactly what the tables took
+      pub IsWhole-ended : IsWhole before m part other b
+      IsWhole-ended = record {
+        read = read_whole.0;
+        other_read = read_whole.1;
+        items = items_all;
+        reordered = subst (λ l. IsMerged (before 1) b.reordered l (taken_reordered m.b.table other)) reordered_all
+            (subst (λ l. IsMerged (before 1) b.reordered (live_reordered_before m.a.reread (chosen m.a.table part)) l) reordered_all_other h.retaking.put);
+        placed = h.retaking.placed;
+        as_many = omega (
+          arith,
+          Permuted-length items_all.same_items,
+          length-append (taken_of m.a.table part) (taken_of m.b.table other),
+          Permuted-length h.retaking.put.same_items,
+          length-append (live_reordered_before m.a.reread (chosen m.a.table part)) (live_reordered_before m.b.reread (chosen m.b.table other)),
+          ap (λ n. length (live_reordered_before n (chosen m.a.table part))) read_whole.2,
+          ap (λ n. length (live_reordered_before n (chosen m.b.table other))) read_whole.3,
+          length-live_reordered_before (IsPart-chosen m.a.table valid read_whole.0),
+          length-live_reordered_before (IsPart-chosen m.b.table other_valid read_whole.1),
+        );
+      }
 
 -- the same item is next
 pub IsNext-at : {Item : Type 0} {before : Item → Item → Bool} {i j k l : ℕ} {xs ys : List Item} {x : Item} → i ≡ k → j ≡ l
     → IsNext before i xs j ys x → IsNext before k xs l ys x
 IsNext-at {Item} {before} {i} {j} {k} {l} {xs} {ys} {x} same also next =
     subst (λ n. IsNext before n xs l ys x) same (subst (λ n. IsNext before i xs n ys x) also next)
-
--- one more entry, as the fields are written
-abbrev pub written_first : {Item : Type 0} → ℕ → List (Option ℕ) → ℕ → Item → Merging Item → Merging Item
-written_first room table n x m = record m {
-  capacity = room;
-  first = record { table = table; reread = m.first.reread };
-  taken = n;
-  reached = Some x;
-  left = m.left - 1;
-}
-
-module _ {Item : Type 0} {stamp : Item → ℕ} {before : ℕ → Item → Item → Bool} {m : Merging Item} {part other : Contents Item} {b : Progress Item}
-    (h : Merges stamp before m part other b) (order : IsStrictTotalOrder stamp (before 0)) (valid : IsPart before part)
-    (other_valid : IsPart before other) (x : Item)
-    (next : IsNext (before 0) (length m.first.table) part.items (length m.second.table) other.items x) where
-  pub Merges-written : (live : Bool) (room : ℕ) (table : List (Option ℕ)) (n : ℕ) (fresh : Progress Item)
-      → room ≡ m.capacity → table ≡ m.first.table ++ new_place live m.taken ∷ [] → n ≡ (if live then m.taken + 1 else m.taken)
-      → fresh ≡ (if live then with_put 0 x m.taken b else b) → Merges stamp before (written_first room table n x m) part other fresh
-  Merges-written live room table n fresh as_wide noted counted put =
-      subst (λ p. Merges stamp before (written_first room table n x m) part other p) (sym put)
-      (subst (λ r. Merges stamp before (written_first r table n x m) part other (if live then with_put 0 x m.taken b else b)) (sym as_wide)
-      (subst (λ l. Merges stamp before (written_first m.capacity l n x m) part other (if live then with_put 0 x m.taken b else b)) (sym noted)
-      (subst (λ k. Merges stamp before (written_first m.capacity (m.first.table ++ new_place live m.taken ∷ []) k x m) part other
-      (if live then with_put 0 x m.taken b else b)) (sym counted)
-      (Merges-read h order valid other_valid x next live))))

@@ -1,5 +1,5 @@
 -- The table of new places: what one more entry means.
-use Rattle.std.proofs.Common.{◌≡◌, ℕ, zero, suc, ◌<◌, ◌≤◌, Bool, true, false, Option, Some, None, List, [], ◌∷◌, ◌++◌, length, take, map, get_or, refl, sym, ap, ◌∙◌, arith, slice_get, ⊎_elim}
+use Rattle.std.proofs.Common.{◌≡◌, ℕ, zero, suc, ◌<◌, ◌≤◌, Bool, true, false, Option, Some, None, List, [], ◌∷◌, ◌++◌, length, take, map, get_or, refl, sym, ap, ◌∙◌, arith, subst, slice_get, ⊎_elim}
 use Rattle.std.specs.List.{items_where_true}
 use Rattle.std.specs.Option.{is_some, option_map}
 use Rattle.std.proofs.lemmas.Bool.{cases_lt}
@@ -8,7 +8,7 @@ use Rattle.std.proofs.lemmas.List.{length-map, length_push, map-append, take-app
 use Rattle.builder_trait.specs.Parts.{Contents, IsPart}
 use Rattle.builder_trait.specs.Rebuilding.{live_before, live_reordered_before}
 use Rattle.builder_trait.proofs.Kept.{kept, kept-more_live, kept-more_dead}
-use Rattle.ordered_merge.specs.Merging.{chosen, HasNewPlaces}
+use Rattle.ordered_merge.specs.Merging.{chosen, HasNewPlaces, TakesLive}
 
 module _ {A : Type 0} where
   pub slice_get_seam : (xs : List A) (y : A) → slice_get (xs ++ y ∷ []) (length xs) ≡ Some y
@@ -98,3 +98,29 @@ module _ {Item : Type 0} where
     each_place = valid.each_place;
     same_items = valid.same_items;
   }
+
+-- reading on takes what is live
+pub TakesLive-none : {flags : List Bool} (table : List (Option ℕ)) → TakesLive flags table table
+TakesLive-none table = record { longer = omega arith; kept = λ k below. refl; taken = λ k from below. absurd (omega arith) }
+
+pub TakesLive-more : {flags : List Bool} {old new last : List (Option ℕ)} → TakesLive flags old new → TakesLive flags new last → TakesLive flags old last
+TakesLive-more {flags} {old} {new} {last} h more = record {
+  longer = omega (arith, h.longer, more.longer);
+  kept = λ k below. more.kept k (omega (arith, h.longer)) ∙ h.kept k below;
+  taken = λ k from below. ⊎_elim
+      (λ less. slice_get-map is_some last k ∙ ap (option_map is_some) (more.kept k less) ∙ sym (slice_get-map is_some new k) ∙ h.taken k from less)
+      (λ later. more.taken k later below)
+      (cases_lt k (length new));
+}
+
+pub TakesLive-read : {flags : List Bool} (table : List (Option ℕ)) (e : Option ℕ) (new : List (Option ℕ)) → new ≡ table ++ e ∷ []
+    → slice_get flags (length table) ≡ Some (is_some e) → TakesLive flags table new
+TakesLive-read {flags} table e new is live = subst (TakesLive flags table) (sym is) (record {
+  longer = omega (arith, length_push table e);
+  kept = λ k below. slice_get_left table (e ∷ []) k below;
+  taken = λ k from below.
+      let here : length table ≡ k = omega (arith, length_push table e) in
+      slice_get-map is_some (table ++ e ∷ []) k
+      ∙ ap (option_map is_some) (ap (slice_get (table ++ e ∷ [])) (sym here) ∙ slice_get_seam table e)
+      ∙ sym live ∙ ap (slice_get flags) here;
+})

@@ -1,10 +1,11 @@
 -- What contracts see of a merge: two parts that are read into a builder, an item a turn.
-use Rattle.std.specs.Prelude.{◌≡◌, ◌≢◌, ℕ, ◌+◌, ◌*◌, ◌^◌, ◌<◌, ◌≤◌, Bool, true, false, not, if◌then◌else◌, IsTrue, Option, Some, None, List, [], ◌∷◌, ◌++◌, length, map, ◌⊎◌, slice_get, slice_index_or}
+use Rattle.std.specs.Prelude.{◌≡◌, ◌≢◌, ℕ, ◌+◌, ◌*◌, ◌^◌, ◌<◌, ◌≤◌, Bool, true, false, not, if◌then◌else◌, IsTrue, Option, Some, None, List, [], ◌++◌, length, take, map, slice_get}
+use Rattle.std.specs.List.{items_where_true}
 use Rattle.std.specs.Option.{is_some}
 use Rattle.query_laws.specs.Permuted.{Permuted}
 use Rattle.builder_trait.specs.Parts.{Contents, IsRising}
 use Rattle.builder_trait.specs.Builders.{Progress}
-use Rattle.builder_trait.specs.Rebuilding.{live_before, live_reordered_before}
+use Rattle.builder_trait.specs.Rebuilding.{live_reordered_before, flags_reordered}
 
 -- of one part: for each item that order 0 has read its new place, or none where it was skipped; and how many items order 1
 -- has read
@@ -12,12 +13,12 @@ pub record Reading : Type 0 where
   pub table : List (Option ℕ)
   pub reread : ℕ
 
--- room for so many items of each part; what was read of both; how many items were taken; the item that order 0 read last; and
+-- room for so many items of each part; what was read of each; how many items were taken; the item that order 0 read last; and
 -- how many turns are left
 pub record Merging (Item : Type 0) : Type 0 where
   pub capacity : ℕ
-  pub first : Reading
-  pub second : Reading
+  pub a : Reading
+  pub b : Reading
   pub taken : ℕ
   pub reached : Option Item
   pub left : ℕ
@@ -30,14 +31,16 @@ nothing_read = record { table = []; reread = 0 }
 abbrev pub new_place : Bool → ℕ → Option ℕ
 new_place live n = if live then Some n else None
 
--- the table is the old one, or has one more entry: a new place exactly where the item there was live
-abbrev pub NotesLive : List Bool → ℕ → List (Option ℕ) → List (Option ℕ) → Type 0
-NotesLive flags n old new = (new ≡ old) ⊎ (new ≡ old ++ new_place (slice_index_or flags (length old) false) n ∷ [])
+-- the table has its old entries, and then a new place exactly for each item that is live now
+pub record TakesLive (flags : List Bool) (old new : List (Option ℕ)) : Type 0 where
+  pub longer : length old ≤ length new
+  pub kept : (k : ℕ) → k < length old → slice_get new k ≡ slice_get old k
+  pub taken : (k : ℕ) → length old ≤ k → k < length new → slice_get (map is_some new) k ≡ slice_get flags k
 
 module _ {Item : Type 0} where
   -- not begun
   abbrev pub unbegun : ℕ → Merging Item
-  unbegun n = record { capacity = n; first = nothing_read; second = nothing_read; taken = 0; reached = None; left = 0 }
+  unbegun n = record { capacity = n; a = nothing_read; b = nothing_read; taken = 0; reached = None; left = 0 }
 
   -- the part whose live items are exactly those that the table took
   abbrev pub chosen : List (Option ℕ) → Contents Item → Contents Item
@@ -82,27 +85,74 @@ module _ {Item : Type 0} where
   PassedBelow before reached i xs = (k : ℕ) (x : Item) → slice_get xs k ≡ Some x
       → (k < i → is_passed before reached x ≡ true) × (i ≤ k → is_passed before reached x ≡ false)
 
+  -- the items of two parts that may be merged, with room for each and for both together
+  pub record AreSources (stamp : Item → ℕ) (capacity at_level : ℕ) (xs ys : List Item) : Type 0 where
+    pub fits : length xs ≤ capacity
+    pub other_fits : length ys ≤ capacity
+    pub room : length xs + length ys ≤ 2 ^ at_level
+    pub stamps_differ : StampsDiffer stamp xs ys
+
+  -- of the items that were read those that the table took
+  abbrev pub taken_among : List (Option ℕ) → List Item → List Item
+  taken_among table xs = items_where_true (take (length table) (map is_some table)) (take (length table) xs)
+
+  -- in order 0 the builder holds, of the items that were read, those that the tables took
+  pub record HasTaken (before : Item → Item → Bool) (table other_table : List (Option ℕ)) (taken : ℕ) (reached : Option Item)
+      (xs ys items : List Item) : Type 0 where
+    pub front : IsFront before (length table) xs (length other_table) ys
+    pub put : IsMerged before items (taken_among table xs) (taken_among other_table ys)
+    pub new_places : HasNewPlaces table xs items
+    pub other_new_places : HasNewPlaces other_table ys items
+    pub counted : taken ≡ length items
+    pub passed : PassedBelow before reached (length table) xs
+    pub other_passed : PassedBelow before reached (length other_table) ys
+
+  -- and in order 1, which begins once order 0 has read all
+  pub record HasRetaken (before : Item → Item → Bool) (a b : Reading) (part other : Contents Item) (builder : Progress Item) : Type 0 where
+    pub front : IsFront before a.reread part.reordered b.reread other.reordered
+    pub in_turn : 0 < a.reread + b.reread → length a.table + length b.table ≡ length part.items + length other.items
+    pub put : IsMerged before builder.reordered (live_reordered_before a.reread (chosen a.table part))
+        (live_reordered_before b.reread (chosen b.table other))
+    pub placed : map (slice_get builder.items) builder.places ≡ map Some builder.reordered
+
   -- the builder holds in both orders what the items read so far give: those that the tables took
   pub record Merges (stamp : Item → ℕ) (before : ℕ → Item → Item → Bool) (m : Merging Item) (part other : Contents Item)
       (b : Progress Item) : Type 0 where
-    pub fits : length part.items ≤ m.capacity
-    pub other_fits : length other.items ≤ m.capacity
-    pub room : length part.items + length other.items ≤ 2 ^ b.at_level
+    pub sources : AreSources stamp m.capacity b.at_level part.items other.items
     pub unsealed : b.is_sealed ≡ false
-    pub stamps_differ : StampsDiffer stamp part.items other.items
-    pub to_go : m.left + (length m.first.table + length m.second.table + (m.first.reread + m.second.reread))
-        ≡ 2 * (length part.items + length other.items)
-    pub front : IsFront (before 0) (length m.first.table) part.items (length m.second.table) other.items
-    pub front_reordered : IsFront (before 1) m.first.reread part.reordered m.second.reread other.reordered
-    pub in_turn : 0 < m.first.reread + m.second.reread
-        → length m.first.table + length m.second.table ≡ length part.items + length other.items
-    pub put : IsMerged (before 0) b.items (live_before (length m.first.table) (chosen m.first.table part))
-        (live_before (length m.second.table) (chosen m.second.table other))
-    pub put_reordered : IsMerged (before 1) b.reordered (live_reordered_before m.first.reread (chosen m.first.table part))
-        (live_reordered_before m.second.reread (chosen m.second.table other))
+    pub to_go : m.left + (length m.a.table + length m.b.table + (m.a.reread + m.b.reread)) ≡ 2 * (length part.items + length other.items)
+    pub taking : HasTaken (before 0) m.a.table m.b.table m.taken m.reached part.items other.items b.items
+    pub retaking : HasRetaken (before 1) m.a m.b part other b
+
+  -- n items were read, and each that was live was taken
+  pub record HasRead (n : ℕ) (old new : Merging Item) (part other : Contents Item) (b fresh : Progress Item) : Type 0 where
+    pub left : new.left + n ≡ old.left
+    pub capacity : new.capacity ≡ old.capacity
+    pub taken : TakesLive part.flags old.a.table new.a.table
+    pub other_taken : TakesLive other.flags old.b.table new.b.table
+    pub level : fresh.at_level ≡ b.at_level
+
+  -- the items that a table took
+  abbrev pub taken_of : List (Option ℕ) → Contents Item → List Item
+  taken_of table part = items_where_true (map is_some table) part.items
+
+  -- the same in order 1
+  abbrev pub taken_reordered : List (Option ℕ) → Contents Item → List Item
+  taken_reordered table part = items_where_true (flags_reordered (chosen table part)) part.reordered
+
+  -- all is read, and the builder holds in both orders exactly what the tables took, each item of order 1 with its place
+  pub record IsWhole (before : ℕ → Item → Item → Bool) (m : Merging Item) (part other : Contents Item) (b : Progress Item) : Type 0 where
+    pub read : length m.a.table ≡ length part.items
+    pub other_read : length m.b.table ≡ length other.items
+    pub items : IsMerged (before 0) b.items (taken_of m.a.table part) (taken_of m.b.table other)
+    pub reordered : IsMerged (before 1) b.reordered (taken_reordered m.a.table part) (taken_reordered m.b.table other)
     pub placed : map (slice_get b.items) b.places ≡ map Some b.reordered
-    pub new_places : HasNewPlaces m.first.table part.items b.items
-    pub other_new_places : HasNewPlaces m.second.table other.items b.items
-    pub counted : m.taken ≡ length b.items
-    pub passed : PassedBelow (before 0) m.reached (length m.first.table) part.items
-    pub other_passed : PassedBelow (before 0) m.reached (length m.second.table) other.items
+    pub as_many : length b.reordered ≡ length b.items
+
+module _ {Item Part Builder : Type 0} (contents : Part → Contents Item) (progress : Builder → Progress Item) where
+  -- the same of parts and builders, by what contracts see of them
+  abbrev pub MergesInto : (Item → ℕ) → (ℕ → Item → Item → Bool) → Merging Item → Part → Part → Builder → Type 0
+  MergesInto stamp before m a b builder = Merges stamp before m (contents a) (contents b) (progress builder)
+
+  abbrev pub ReadsInto : ℕ → Merging Item → Merging Item → Part → Part → Builder → Builder → Type 0
+  ReadsInto n old new a b builder fresh = HasRead n old new (contents a) (contents b) (progress builder) (progress fresh)

@@ -1,9 +1,9 @@
-//! The merge, with its table of new places.
-ghost use Rattle.std.specs.Prelude.{◌≡◌, ◌+◌, ◌-◌, ◌*◌, ◌<◌, ◌≤◌, ◌^◌, ℕ, IsTrue, ◌↔◌, IfOk, length, Some, slice_get};
+//! The merge, with its tables of new places.
+ghost use Rattle.std.specs.Prelude.{◌≡◌, ◌+◌, ◌-◌, ◌*◌, ◌<◌, ◌≤◌, ◌^◌, ℕ, [], IsTrue, ◌↔◌, IfOk, length, Some, slice_get};
 ghost use Rattle.query_laws.specs.StepLedger.{Spends};
 ghost use Rattle.builder_trait.specs.Builders.{Progress, begun};
 ghost use Rattle.builder_trait.specs.Parts.{Contents, IsPart};
-ghost use Rattle.ordered_merge.specs.Merging.{Merges, StampsDiffer, NotesLive, unbegun, is_passed};
+ghost use Rattle.ordered_merge.specs.Merging.{Merges, MergesInto, ReadsInto, IsWhole, StampsDiffer, unbegun, is_passed};
 
 use crate::steps::{is_within, next_item, put_again, take_or_skip};
 use builder_trait::{Builder, Part};
@@ -21,14 +21,32 @@ struct Source {
     reread: usize,
 }
 
-/// Two parts on their way into a builder: all their items in order 0, and then the same in order 1.
+impl Source {
+    /// Nothing is read, and there is room for `cap` items.
+    fn room(alloc: Global, cap: usize) -> Result<Source, NoMemory>
+        ensures { IfOk result (λ source. source ≡ record { table = record { items = []; capacity = cap }; reread = 0 }) }
+    {
+        let table = Row::room(alloc, cap)?;
+        Ok(Source { table, reread: 0 })
+    }
+
+    /// Forgets what was read.
+    fn clear(&mut self)
+        ensures { self.new ≡ record { table = record { items = []; capacity = self.old.table.capacity }; reread = 0 } }
+    {
+        self.table.clear();
+        self.reread = 0;
+    }
+}
+
+/// Two parts, a and b, on their way into a builder: all their items in order 0, and then the same in order 1.
 ///
 /// An item that is dead when order 0 reads it is skipped. Order 1 takes exactly the items that order 0 took, also where one of
 /// them died in between. What the builder then holds is said by `Merges` of `specs/Merging.antt`, which each turn keeps.
 #[derive(Drop)]
 pub struct Merge<B: Builder> {
-    first: Source,
-    second: Source,
+    a: Source,
+    b: Source,
     taken: usize,
     reached: Option<B::Item>,
     left: u64,
@@ -41,42 +59,47 @@ impl<B: Builder> Model for Merge<B> {
     ghost Value = { Merging B.Item };
 
     ghost view = { λ m. record {
-      capacity = m.first.table.capacity;
-      first = record { table = m.first.table.items; reread = m.first.reread };
-      second = record { table = m.second.table.items; reread = m.second.reread };
+      capacity = m.a.table.capacity;
+      a = record { table = m.a.table.items; reread = m.a.reread };
+      b = record { table = m.b.table.items; reread = m.b.reread };
       taken = m.taken;
       reached = m.reached;
       left = m.left;
     } };
 
-    ghost invariant = { λ m. (m.first.table.capacity ≤ 2 ^ 30) × (m.second.table.capacity ≡ m.first.table.capacity) };
+    ghost invariant = { λ m. (m.a.table.capacity ≤ 2 ^ 30) × (m.b.table.capacity ≡ m.a.table.capacity) };
 }
 
 impl<B: Builder> Merge<B> {
     /// A merge with room for two parts of at most `2^(level - 1)` items each.
     ///
-    /// `NoMemory` where memory for the tables of new places isn't given.
+    /// `NoMemory` where memory for the tables of new places isn't given. Nothing else of this type takes memory.
     pub fn room(alloc: Global, level: u32) -> Result<Merge<B>, NoMemory>
         requires least { 1 ≤ level }
         requires most { level < 32 }
         ensures { IfOk result (λ merge. merge ≡ unbegun (2 ^ (level - 1))) }
     {
         let cap = 2usize.pow(level - 1);
-        let first = Source {
-            table: Row::room(alloc, cap)?,
-            reread: 0,
-        };
-        let second = Source {
-            table: Row::room(alloc, cap)?,
-            reread: 0,
-        };
+        let a = Source::room(alloc, cap)?;
+        let b = Source::room(alloc, cap)?;
         Ok(Merge {
-            first,
-            second,
+            a,
+            b,
             taken: 0,
             reached: None,
             left: 0,
         })
+    }
+
+    /// Forgets what was read, so that the same memory can serve the next merge. It counts nothing.
+    pub fn clear(&mut self)
+        ensures { self.new ≡ unbegun self.old.capacity }
+    {
+        self.a.clear();
+        self.b.clear();
+        self.taken = 0;
+        self.reached = None;
+        self.left = 0;
     }
 
     /// Begins with two parts. It counts nothing.
@@ -93,7 +116,7 @@ impl<B: Builder> Merge<B> {
             length a.items + length b.items ≤ 2 ^ level → Merges B.Item.stamp B.Item.before self.new a b (begun level) }
     {
         // By the tables' sizes the sum fits.
-        let _tables = &self.first.table;
+        let _tables = &self.a.table;
         self.left = 2 * (a.len() + b.len()) as u64;
     }
 
@@ -106,28 +129,42 @@ impl<B: Builder> Merge<B> {
         steps: &mut Steps<L>,
     )
         requires more { 0 < self.old.left }
-        requires merges { Merges B.Item.stamp B.Item.before self.old (B.Part.Part.contents a.now)
-            (B.Part.Part.contents b.now) (B.progress builder.old) }
-        ensures merges { Merges B.Item.stamp B.Item.before self.new (B.Part.Part.contents a.now)
-            (B.Part.Part.contents b.now) (B.progress builder.new) }
-        ensures left { self.new.left + 1 ≡ self.old.left }
-        ensures taken { NotesLive (B.Part.Part.contents a.now).flags self.old.taken self.old.first.table self.new.first.table }
-        ensures taken_other { NotesLive (B.Part.Part.contents b.now).flags self.old.taken self.old.second.table self.new.second.table }
-        ensures capacity { self.new.capacity ≡ self.old.capacity }
-        ensures level { (B.progress builder.new).at_level ≡ (B.progress builder.old).at_level }
+        requires merges { MergesInto B.Part.Part.contents B.progress B.Item.stamp B.Item.before self.old a.now b.now builder.old }
+        ensures merges { MergesInto B.Part.Part.contents B.progress B.Item.stamp B.Item.before self.new a.now b.now builder.new }
+        ensures read { ReadsInto B.Part.Part.contents B.progress 1 self.old self.new a.now b.now builder.old builder.new }
         ensures cost { Spends steps.old steps.new 1 0 16 }
     {
         let len_a = a.len();
         let len_b = b.len();
-        if self.first.table.len() < len_a || self.second.table.len() < len_b {
-            self.turn_in_first(a, b, builder, steps);
+        if self.a.table.len() < len_a || self.b.table.len() < len_b {
+            self.read_next(a, b, builder, steps);
         } else {
-            self.turn_in_second(a, b, builder, steps);
+            self.reread_next(a, b, builder, steps);
+        }
+    }
+
+    /// Takes so many turns: sixteen touches at most each.
+    pub fn turns<L: Ledger>(
+        &mut self,
+        count: u64,
+        a: &B::Part,
+        b: &B::Part,
+        builder: &mut B,
+        steps: &mut Steps<L>,
+    )
+        requires enough { count ≤ self.old.left }
+        requires merges { MergesInto B.Part.Part.contents B.progress B.Item.stamp B.Item.before self.old a.now b.now builder.old }
+        ensures merges { MergesInto B.Part.Part.contents B.progress B.Item.stamp B.Item.before self.new a.now b.now builder.new }
+        ensures read { ReadsInto B.Part.Part.contents B.progress count self.old self.new a.now b.now builder.old builder.new }
+        ensures cost { Spends steps.old steps.new count 0 (16 * count) }
+    {
+        for _taken in 0..count {
+            self.turn(a, b, builder, steps);
         }
     }
 
     /// A turn in order 0.
-    fn turn_in_first<L: Ledger>(
+    fn read_next<L: Ledger>(
         &mut self,
         a: &B::Part,
         b: &B::Part,
@@ -136,38 +173,25 @@ impl<B: Builder> Merge<B> {
     )
         requires valid { IsPart B.Item.before (B.Part.Part.contents a.now) }
         requires valid_other { IsPart B.Item.before (B.Part.Part.contents b.now) }
-        requires unread { length self.old.first.table + length self.old.second.table
+        requires unread { length self.old.a.table + length self.old.b.table
             < length (B.Part.Part.contents a.now).items + length (B.Part.Part.contents b.now).items }
-        requires merges { Merges B.Item.stamp B.Item.before self.old (B.Part.Part.contents a.now)
-            (B.Part.Part.contents b.now) (B.progress builder.old) }
-        ensures merges { Merges B.Item.stamp B.Item.before self.new (B.Part.Part.contents a.now)
-            (B.Part.Part.contents b.now) (B.progress builder.new) }
-        ensures left { self.new.left + 1 ≡ self.old.left }
-        ensures taken { NotesLive (B.Part.Part.contents a.now).flags self.old.taken self.old.first.table self.new.first.table }
-        ensures taken_other { NotesLive (B.Part.Part.contents b.now).flags self.old.taken self.old.second.table self.new.second.table }
-        ensures capacity { self.new.capacity ≡ self.old.capacity }
-        ensures level { (B.progress builder.new).at_level ≡ (B.progress builder.old).at_level }
+        requires merges { MergesInto B.Part.Part.contents B.progress B.Item.stamp B.Item.before self.old a.now b.now builder.old }
+        ensures merges { MergesInto B.Part.Part.contents B.progress B.Item.stamp B.Item.before self.new a.now b.now builder.new }
+        ensures read { ReadsInto B.Part.Part.contents B.progress 1 self.old self.new a.now b.now builder.old builder.new }
         ensures cost { Spends steps.old steps.new 1 0 16 }
     {
-        let (is_a, item) = next_item(
-            0,
-            a,
-            self.first.table.len(),
-            b,
-            self.second.table.len(),
-            steps,
-        );
+        let (is_a, item) = next_item(0, a, self.a.table.len(), b, self.b.table.len(), steps);
         self.left -= 1;
         self.reached = Some(item);
         if is_a {
-            self.taken = take_or_skip(&mut self.first.table, a, item, self.taken, builder, steps);
+            self.taken = take_or_skip(&mut self.a.table, a, item, self.taken, builder, steps);
         } else {
-            self.taken = take_or_skip(&mut self.second.table, b, item, self.taken, builder, steps);
+            self.taken = take_or_skip(&mut self.b.table, b, item, self.taken, builder, steps);
         }
     }
 
-    /// A turn in order 1, once order 0 is done.
-    fn turn_in_second<L: Ledger>(
+    /// A turn in order 1, once order 0 has read all.
+    fn reread_next<L: Ledger>(
         &mut self,
         a: &B::Part,
         b: &B::Part,
@@ -177,41 +201,21 @@ impl<B: Builder> Merge<B> {
         requires valid { IsPart B.Item.before (B.Part.Part.contents a.now) }
         requires valid_other { IsPart B.Item.before (B.Part.Part.contents b.now) }
         requires more { 0 < self.old.left }
-        requires read { length self.old.first.table + length self.old.second.table
+        requires read { length self.old.a.table + length self.old.b.table
             ≡ length (B.Part.Part.contents a.now).items + length (B.Part.Part.contents b.now).items }
-        requires merges { Merges B.Item.stamp B.Item.before self.old (B.Part.Part.contents a.now)
-            (B.Part.Part.contents b.now) (B.progress builder.old) }
-        ensures merges { Merges B.Item.stamp B.Item.before self.new (B.Part.Part.contents a.now)
-            (B.Part.Part.contents b.now) (B.progress builder.new) }
-        ensures left { self.new.left + 1 ≡ self.old.left }
-        ensures same { self.new.first.table ≡ self.old.first.table }
-        ensures same_other { self.new.second.table ≡ self.old.second.table }
-        ensures capacity { self.new.capacity ≡ self.old.capacity }
-        ensures level { (B.progress builder.new).at_level ≡ (B.progress builder.old).at_level }
+        requires merges { MergesInto B.Part.Part.contents B.progress B.Item.stamp B.Item.before self.old a.now b.now builder.old }
+        ensures merges { MergesInto B.Part.Part.contents B.progress B.Item.stamp B.Item.before self.new a.now b.now builder.new }
+        ensures read { ReadsInto B.Part.Part.contents B.progress 1 self.old self.new a.now b.now builder.old builder.new }
         ensures cost { Spends steps.old steps.new 1 0 16 }
     {
-        let (is_a, item) = next_item(1, a, self.first.reread, b, self.second.reread, steps);
+        let (is_a, item) = next_item(1, a, self.a.reread, b, self.b.reread, steps);
         self.left -= 1;
         if is_a {
-            put_again(
-                &self.first.table,
-                a,
-                self.first.reread,
-                item,
-                builder,
-                steps,
-            );
-            self.first.reread += 1;
+            put_again(&self.a.table, a, self.a.reread, item, builder, steps);
+            self.a.reread += 1;
         } else {
-            put_again(
-                &self.second.table,
-                b,
-                self.second.reread,
-                item,
-                builder,
-                steps,
-            );
-            self.second.reread += 1;
+            put_again(&self.b.table, b, self.b.reread, item, builder, steps);
+            self.b.reread += 1;
         }
     }
 
@@ -224,7 +228,11 @@ impl<B: Builder> Merge<B> {
 
     /// Whether no turn is left. It counts nothing.
     pub fn done(&self) -> bool
-        ensures { IsTrue result ↔ (self.now.left ≡ 0) }
+        ensures value { IsTrue result ↔ (self.now.left ≡ 0) }
+
+        // The builder then holds exactly what the tables took, which is what was live when order 0 read it.
+        ensures whole { (a b : Contents B.Item) (builder : Progress B.Item) → IsTrue result → IsPart B.Item.before a → IsPart B.Item.before b
+            → Merges B.Item.stamp B.Item.before self.now a b builder → IsWhole B.Item.before self.now a b builder }
     {
         self.left == 0
     }
@@ -234,12 +242,12 @@ impl<B: Builder> Merge<B> {
         ensures value { result ≡ is_passed (B.Item.before 0) self.now.reached item.now }
 
         // At the item at a place of either part: exactly where that place is among those read.
-        ensures first { (a b : Contents B.Item) (builder : Progress B.Item) (k : ℕ)
+        ensures of_a { (a b : Contents B.Item) (builder : Progress B.Item) (k : ℕ)
             → Merges B.Item.stamp B.Item.before self.now a b builder → slice_get a.items k ≡ Some item.now
-            → (IsTrue result ↔ (k < length self.now.first.table)) }
-        ensures second { (a b : Contents B.Item) (builder : Progress B.Item) (k : ℕ)
+            → (IsTrue result ↔ (k < length self.now.a.table)) }
+        ensures of_b { (a b : Contents B.Item) (builder : Progress B.Item) (k : ℕ)
             → Merges B.Item.stamp B.Item.before self.now a b builder → slice_get b.items k ≡ Some item.now
-            → (IsTrue result ↔ (k < length self.now.second.table)) }
+            → (IsTrue result ↔ (k < length self.now.b.table)) }
     {
         is_within(&self.reached, item)
     }

@@ -1,11 +1,12 @@
 //! A merge of flat parts, two of whose items die on the way.
-ghost use Rattle.std.specs.Prelude.{◌≡◌, ◌≢◌, ◌<◌, [], ◌∷◌, IsTrue, IfOk, false, length};
-ghost use Rattle.ordered_merge.specs.Merging.{Merges};
+ghost use Rattle.std.specs.Prelude.{◌≡◌, ◌≢◌, ◌<◌, [], ◌∷◌, IsTrue, IfOk};
+
+mod item;
 
 use crate::Merge;
 use builder_trait::flat::FlatBuilder;
 use builder_trait::{Builder, Part, completed};
-use map_shapes::Point;
+use item::Pair;
 use query_laws::step_ledger::{SHARES, Steps, blank};
 use query_laws::{Item, NoMemory};
 use std::alloc::Global;
@@ -32,25 +33,6 @@ fn pair<B: Builder, L: Ledger>(
     Ok(completed(builder, steps))
 }
 
-/// Takes all turns that are left.
-fn take_rest<B: Builder, L: Ledger>(
-    merge: &mut Merge<B>,
-    a: &B::Part,
-    b: &B::Part,
-    builder: &mut B,
-    steps: &mut Steps<L>,
-)
-    requires { Merges B.Item.stamp B.Item.before merge.old (B.Part.Part.contents a.now)
-        (B.Part.Part.contents b.now) (B.progress builder.old) }
-    ensures unsealed { (B.progress builder.new).is_sealed ≡ false }
-    ensures complete { length (B.progress builder.new).reordered ≡ length (B.progress builder.new).items }
-{
-    let _lens = [a.len(), b.len()];
-    while !merge.done() {
-        merge.turn(a, b, builder, steps);
-    }
-}
-
 /// The stamps of a part in an order.
 fn stamps<P: Part, L: Ledger>(
     alloc: Global,
@@ -68,7 +50,8 @@ fn stamps<P: Part, L: Ledger>(
 }
 
 /// Two parts of two items each, merged; after two turns the lowest and the highest item die. The turns left at the beginning,
-/// those taken after two and in all; whether order 0 had passed each of the two; and the stamps in both orders.
+/// those taken after two and in all, and those left once it is cleared; whether order 0 had passed each of the two, and whether
+/// it was done; and the stamps in both orders.
 fn merge_seen<B: Builder, L: Ledger>(
     alloc: Global,
     first: B::Item,
@@ -76,7 +59,7 @@ fn merge_seen<B: Builder, L: Ledger>(
     third: B::Item,
     fourth: B::Item,
     blank: Blank,
-) -> Result<([u64; 3], [bool; 2], Vec<u64>, Vec<u64>), NoMemory>
+) -> Result<([u64; 4], [bool; 3], Vec<u64>, Vec<u64>), NoMemory>
     requires name { blank.name ≡ L.name }
     requires parts { blank.parts ≡ L.parts }
     requires shares { blank.parts ≡ SHARES }
@@ -101,45 +84,46 @@ fn merge_seen<B: Builder, L: Ledger>(
     a.mark(&first, &mut steps);
     b.mark(&fourth, &mut steps);
     let passed = [merge.passed(&first), merge.passed(&fourth)];
-    take_rest(&mut merge, &a, &b, &mut builder, &mut steps);
+    let rest = merge.left();
+    merge.turns(rest, &a, &b, &mut builder, &mut steps);
     let turns = steps.lap_turns();
+    let done = merge.done();
+    let _lens = [a.len(), b.len()];
     let merged = completed(builder, &mut steps);
     let in_first = stamps(alloc, 0, &merged, &mut steps)?;
     let in_second = stamps(alloc, 1, &merged, &mut steps)?;
-    Ok(([left, two, turns], passed, in_first, in_second))
+    merge.clear();
+    Ok((
+        [left, two, turns, merge.left()],
+        [passed[0], passed[1], done],
+        in_first,
+        in_second,
+    ))
 }
 
 #[test]
 fn merges_what_was_live(rt: HostRuntime) -> Result<(), Fail> {
-    let first = Point {
-        id: 5,
+    let first = Pair {
         x: 1,
         y: 1,
-        w: 0,
         stamp: 0,
     };
-    let second = Point {
-        id: 6,
+    let second = Pair {
         x: 2,
         y: 2,
-        w: 0,
         stamp: 2,
     };
-    let third = Point {
-        id: 7,
+    let third = Pair {
         x: 3,
         y: 3,
-        w: 0,
         stamp: 1,
     };
-    let fourth = Point {
-        id: 8,
+    let fourth = Pair {
         x: 4,
         y: 4,
-        w: 0,
         stamp: 3,
     };
-    let (turns, passed, in_first, in_second) = merge_seen::<FlatBuilder<Point>, Brand>(
+    let (turns, passed, in_first, in_second) = merge_seen::<FlatBuilder<Pair>, Brand>(
         rt.alloc(),
         first,
         second,
@@ -147,8 +131,8 @@ fn merges_what_was_live(rt: HostRuntime) -> Result<(), Fail> {
         fourth,
         blank(),
     )?;
-    assert_eq!(rt; turns, [8, 2, 8]);
-    assert_eq!(rt; passed, [true, false]);
+    assert_eq!(rt; turns, [8, 2, 8, 0]);
+    assert_eq!(rt; passed, [true, false, true]);
     assert_eq!(rt; in_first.as_slice(), [0, 2, 1].as_slice());
     assert_eq!(rt; in_second.as_slice(), [0, 2, 1].as_slice());
     Ok(())

@@ -86,6 +86,7 @@ module _ (b : Progress Point) (tree : Tree) (underway : IsUnderway before b) (co
     few = underway.few;
     used = used;
     made = omega (arith, levels_for-within (length b.items) b.at_level putting.small underway.few, putting.made);
+    all_made = putting.made;
     room = putting.room;
     at_within = omega arith;
     built = λ q level before found. absurd (omega arith);

@@ -1,17 +1,22 @@
 -- The builder's growth through the seal, a turn of the points, and the end.
-use Rattle.std.proofs.Common.{◌≡◌, ℕ, ◌+◌, ◌-◌, ◌*◌, ◌^◌, ◌<◌, ◌≤◌, Bool, true, false, cond, List, length, take, replicate, refl, sym, ap, ◌∙◌, arith, subst, Some, slice_get, ⊎_elim, length-take, min}
+use Rattle.std.proofs.Common.{◌≡◌, ℕ, ◌+◌, ◌-◌, ◌*◌, ◌^◌, ◌<◌, ◌≤◌, Bool, true, false, cond, List, [], length, map, take, replicate, get_or, All, refl, sym, ap, ◌∙◌, arith, subst, Some, slice_get, ⊎_elim, length-take, min}
 use Rattle.std.proofs.Math.Nat.{mul-le-mul_right, mul-le-mul_left}
 use Rattle.std.proofs.lemmas.Bool.{cases_lt}
 use Rattle.std.proofs.lemmas.Option.{slice_get_within, slice_get_cases, slice_get-get_or, get_or_from_slice_get}
-use Rattle.std.proofs.lemmas.List.{get_or-take}
-use Rattle.builder_trait.specs.Builders.{Progress, sealed_with, all_live, IsQuota}
+use Rattle.std.proofs.lemmas.List.{get_or-take, get_or-map, length-map}
+use Rattle.std.proofs.lemmas.List.Elements.{All-nil}
+use Rattle.weak_delete.specs.Places.{nothing_put}
+use Rattle.builder_trait.specs.Builders.{Progress, begun, sealed_with, all_live, IsQuota}
 use Rattle.map_shapes.specs.declared.point.Point.{Point}
+use Rattle.range_tree.specs.declared.entry.Entry.{Entry}
 use Rattle.range_tree.specs.declared.level.Level.{Level}
 use Rattle.range_tree.specs.declared.tree.Tree.{Tree}
 use Rattle.range_tree.specs.Heights.{levels_for}
-use Rattle.range_tree.specs.Rows.{AreLevels, IsLevel}
-use Rattle.range_tree.specs.Growing.{IsCounting, IsGrowing, turned}
+use Rattle.range_tree.specs.Rows.{IsEntryOf, AreLevels, IsLevel}
+use Rattle.range_tree.specs.Growing.{HasRoom, IsPutting, IsCounting, IsGrowing, AreKept, emptied, turned}
 use Rattle.range_tree.proofs.Beginnings.{few_points, levels_for-within}
+use Rattle.row_blocks.proofs.Lists.{All-slots}
+use Rattle.range_tree.proofs.Putting.{empty_level}
 
 -- the growth doesn't see how many turns the points have left
 pub IsGrowing-sealed : (b : Progress Point) (tree : Tree) (n : ℕ) → IsGrowing b tree → IsGrowing (sealed_with n b) tree
@@ -20,6 +25,7 @@ IsGrowing-sealed b tree n growing = record {
   few = growing.few;
   used = growing.used;
   made = growing.made;
+  all_made = growing.all_made;
   room = growing.room;
   at_within = growing.at_within;
   built = growing.built;
@@ -89,4 +95,41 @@ AreLevels-grown b tree growing none =
           let there = slice_get-take tree.used tree.levels.items q level found in
           subst (λ h. IsLevel b.items (replicate (length b.items) true) h level) (ap (λ n. n - 1 - q) (sym many))
           (growing.built q level (omega (arith, at_end b tree growing none, there.0)) there.1);
+    }
+
+-- so the part keeps its levels, and those that it doesn't need
+pub AreKept-grown : (b : Progress Point) (tree : Tree) → IsGrowing b tree → tree.left ≡ 0 → AreKept (all_live b) tree.levels.items tree.used
+AreKept-grown b tree growing none = record {
+  small = growing.small;
+  made = growing.all_made;
+  within = growing.made;
+  room = growing.room;
+  tree = AreLevels-grown b tree growing none;
+}
+
+-- an emptied level with room is as one that was just made
+emptied_at : (cap : ℕ) (levels : List Level) → All (HasRoom cap) levels → (k : ℕ) (level : Level) → slice_get (map emptied levels) k ≡ Some level
+    → level ≡ empty_level cap
+emptied_at cap levels room k level at =
+    let within : k < length levels = omega (arith, slice_get_within (map emptied levels) k level at, length-map levels emptied) in
+    let is : level ≡ emptied (get_or levels k level) =
+    sym (get_or_from_slice_get (map emptied levels) k level level at) ∙ get_or-map emptied levels k level level within in
+    let full : HasRoom cap (get_or levels k level) = room k level within in
+    cc
+
+uncounted_at : {cap : ℕ} (level : Level) → level ≡ empty_level cap → level.counts ≡ nothing_put level.counts.capacity
+uncounted_at level is = ap (λ l. l.counts) is ∙ ap (λ l. nothing_put l.counts.capacity) (sym is)
+
+-- emptied levels are those of a builder that begins
+pub IsPutting-emptied : (n : ℕ) (levels : List Level) → n < 32 → length levels ≡ n + 1 → All (HasRoom (2 ^ n)) levels
+    → IsPutting (begun n) (map emptied levels)
+IsPutting-emptied n levels small made room =
+    let at = emptied_at (2 ^ n) levels room in record {
+      small = small;
+      made = length-map levels emptied ∙ made;
+      room = All-slots {P = HasRoom (2 ^ n)} (map emptied levels) (λ k level found. let is = at k level found in (ap (λ l. l.entries.capacity) is, ap (λ l. l.counts.capacity) is));
+      places = λ level found. ap (λ l. map (λ (e : Entry). e.place) l.entries.items) (at 0 level found);
+      known = λ level found. subst (λ l. All (IsEntryOf []) l.entries.items) (sym (at 0 level found)) (All-nil (IsEntryOf []));
+      uncounted = λ level found. uncounted_at level (at 0 level found);
+      below = λ q level more found. let is = at q level found in record { entries = ap (λ l. l.entries.items) is; counts = uncounted_at level is };
     }

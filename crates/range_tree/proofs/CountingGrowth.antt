@@ -181,6 +181,7 @@ module _ (b : Progress Point) (tree new : Tree) (growing : IsGrowing b tree) (le
     few = growing.few;
     used = used ∙ growing.used;
     made = omega (arith, growing.made);
+    all_made = omega (arith, growing.all_made);
     room = room;
     at_within = omega (arith, growing.at_within);
     built = λ q other before found.

@@ -26,6 +26,7 @@ pub record IsGrown (b : Progress Point) (levels : List Level) (used at lower lef
   pub few : length b.items ≤ 2 ^ b.at_level
   pub used_is : used ≡ levels_for (length b.items)
   pub made : used ≤ length levels
+  pub all_made : length levels ≡ b.at_level + 1
   pub room : All (HasRoom (2 ^ b.at_level)) levels
   pub at_within : at ≤ used
   pub built : (q : ℕ) (level : Level) → q < at → slice_get levels q ≡ Some level
@@ -46,6 +47,7 @@ IsGrowing-same grown = record {
   few = grown.few;
   used = grown.used_is;
   made = grown.made;
+  all_made = grown.all_made;
   room = grown.room;
   at_within = grown.at_within;
   built = grown.built;
@@ -79,6 +81,7 @@ pub record IsTurning (b : Progress Point) (levels : List Level) (used at k lower
   pub few : length b.items ≤ 2 ^ b.at_level
   pub used_is : used ≡ levels_for (length b.items)
   pub made : used ≤ length levels
+  pub all_made : length levels ≡ b.at_level + 1
   pub room : All (HasRoom (2 ^ b.at_level)) levels
   pub inside : at < used
   pub built : (q : ℕ) (level : Level) → q < at → slice_get levels q ≡ Some level
@@ -114,6 +117,7 @@ module _ {b : Progress Point} {tree : Tree} (growing : IsGrowing b tree) (more :
         few = growing.few;
         used_is = growing.used;
         made = growing.made;
+        all_made = growing.all_made;
         room = growing.room;
         inside = at_inside;
         built = growing.built;
@@ -236,6 +240,7 @@ module _ {b : Progress Point} {levels : List Level} {used at k lower left : ℕ}
         few = turning.few;
         used_is = turning.used_is;
         made = omega (arith, turning.made, length-set levels at (turned_level level));
+        all_made = omega (arith, turning.all_made, length-set levels at (turned_level level));
         room = All-set (HasRoom (2 ^ b.at_level)) levels at (turned_level level) room_turned turning.room;
         inside = turning.inside;
         built = λ q l above there.
@@ -270,6 +275,7 @@ module _ {b : Progress Point} {levels : List Level} {used at k lower left : ℕ}
             few = turning.few;
             used_is = turning.used_is;
             made = omega (arith, turning.made, length-set levels at (turned_level level), length-set above (at + 1) (parted_level next j e));
+            all_made = omega (arith, turning.all_made, length-set levels at (turned_level level), length-set above (at + 1) (parted_level next j e));
             room = All-set (HasRoom (2 ^ b.at_level)) above (at + 1) (parted_level next j e)
                 (at_slot (HasRoom (2 ^ b.at_level)) levels (at + 1) next turning.room below)
                 (All-set (HasRoom (2 ^ b.at_level)) levels at (turned_level level) room_turned turning.room);
@@ -334,6 +340,7 @@ module _ {b : Progress Point} {levels : List Level} {used at k lower left : ℕ}
       few = turning.few;
       used_is = turning.used_is;
       made = turning.made;
+      all_made = turning.all_made;
       room = turning.room;
       at_within = omega (arith, turning.inside);
       built = turning.built;
@@ -394,6 +401,7 @@ module _ {b : Progress Point} {levels : List Level} {used at k lower left : ℕ}
       few = turning.few;
       used_is = turning.used_is;
       made = turning.made;
+      all_made = turning.all_made;
       room = turning.room;
       at_within = omega (arith, turning.inside);
       built = λ q l before there. elim (cases_lt q at) [

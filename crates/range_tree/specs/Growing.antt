@@ -1,13 +1,14 @@
 -- The levels of a tree under construction.
 use Rattle.std.specs.Prelude.{◌≡◌, ℕ, ◌==◌, ◌+◌, ◌-◌, ◌*◌, ◌/◌, ◌^◌, ◌<◌, ◌≤◌, true, false, if◌then◌else◌, nat_lt, IsTrue, List, [], Some, length, map, min, take, replicate, All, slice_get}
 use Rattle.weak_delete.specs.Places.{LivePlaces, nothing_put}
+use Rattle.builder_trait.specs.Parts.{Contents}
 use Rattle.builder_trait.specs.Builders.{Progress}
 use Rattle.map_shapes.specs.declared.point.Point.{Point}
 use Rattle.range_tree.specs.declared.entry.Entry.{Entry}
 use Rattle.range_tree.specs.declared.level.Level.{Level}
 use Rattle.range_tree.specs.declared.tree.Tree.{Tree}
 use Rattle.range_tree.specs.Heights.{levels_for}
-use Rattle.range_tree.specs.Rows.{IsEntryOf, entry_at, precedes, IsRun, AreBlocks, IsRow, IsLevel, counted}
+use Rattle.range_tree.specs.Rows.{IsEntryOf, entry_at, precedes, IsRun, AreBlocks, IsRow, IsLevel, AreLevels, counted}
 
 -- each level has room for all that a builder of this level takes
 abbrev pub HasRoom : ℕ → Level → Type 0
@@ -17,6 +18,13 @@ HasRoom cap level = (level.entries.capacity ≡ cap) × (level.counts.capacity �
 pub record IsEmptyLevel (level : Level) : Type 0 where
   pub entries : level.entries.items ≡ []
   pub counts : level.counts ≡ nothing_put level.counts.capacity
+
+-- the level with nothing put, on the same memory
+abbrev pub emptied : Level → Level
+emptied level = record {
+  entries = record { items = []; capacity = level.entries.capacity };
+  counts = nothing_put level.counts.capacity;
+}
 
 -- Before the seal the top level has an entry for each point of order 1, in the order of the puts.
 pub record IsPutting (b : Progress Point) (levels : List Level) : Type 0 where
@@ -85,6 +93,7 @@ pub record IsGrowing (b : Progress Point) (tree : Tree) : Type 0 where
   pub few : length b.items ≤ 2 ^ b.at_level
   pub used : tree.used ≡ levels_for (length b.items)
   pub made : tree.used ≤ length tree.levels.items
+  pub all_made : length tree.levels.items ≡ b.at_level + 1
   pub room : All (HasRoom (2 ^ b.at_level)) tree.levels.items
   pub at_within : tree.at ≤ tree.used
   pub built : (q : ℕ) (level : Level) → q < tree.at → slice_get tree.levels.items q ≡ Some level
@@ -100,3 +109,11 @@ pub record IsGrowing (b : Progress Point) (tree : Tree) : Type 0 where
       → tree.left + (length level.counts.places + turned level.counts) ≡ (tree.used - tree.at) * (2 * length b.items)
   pub ended : tree.at ≡ tree.used → tree.left ≡ 0
   pub few_left : tree.left < 2 ^ 38
+
+-- The levels that a part keeps: those of its tree come first, and each of them all has room for what the next builder takes.
+pub record AreKept (part : Contents Point) (levels : List Level) (used : ℕ) : Type 0 where
+  pub small : part.at_level < 32
+  pub made : length levels ≡ part.at_level + 1
+  pub within : used ≤ length levels
+  pub room : All (HasRoom (2 ^ part.at_level)) levels
+  pub tree : AreLevels part (take used levels)

@@ -16,8 +16,8 @@ use std::sync::ledger::Ledger;
 ///
 /// The points become a flat part, and then the levels grow from the whole tree down to single points: no order is made, since
 /// the row of each level is the one above, parted by places. For points at level i that are at most half of
-/// `2^i * (4 * i + 12)` turns after the seal. `room` takes all the memory, i + 1 rows for `2^i` points; the part keeps those rows
-/// that its points need.
+/// `2^i * (4 * i + 12)` turns after the seal. `room` takes all the memory, i + 1 rows for `2^i` points. The part keeps them
+/// all, though its tree may need fewer, so that `recycle` has them for the next builder.
 #[derive(Drop)]
 pub struct RangeBuilder {
     points: FlatBuilder<Point>,
@@ -94,7 +94,20 @@ impl Builder for RangeBuilder {
         let RangeBuilder { points, tree } = self;
         RangePart {
             points: points.finish(),
-            levels: tree.into_levels(),
+            levels: tree.levels,
+            used: tree.used,
+        }
+    }
+
+    fn recycle(part: RangePart) -> RangeBuilder {
+        let RangePart {
+            points,
+            levels,
+            used: _,
+        } = part;
+        RangeBuilder {
+            points: FlatBuilder::recycle(points),
+            tree: Tree::recycle(levels),
         }
     }
 

@@ -1,10 +1,11 @@
 //! A point that dies is taken out of the counts of each level.
-ghost use Rattle.std.specs.Prelude.{◌≡◌, ◌+◌, ◌*◌, ◌^◌, ◌≤◌, ◌<◌, ℕ, true, false, Some, length, slice_get, slice_set};
+ghost use Rattle.std.specs.Prelude.{◌≡◌, ◌+◌, ◌*◌, ◌^◌, ◌≤◌, ◌<◌, ℕ, true, false, Some, All, length, slice_get, slice_set};
 ghost use Rattle.query_laws.specs.StepLedger.{Spends};
 ghost use Rattle.weak_delete.specs.Places.{IsBuilt, IsLive, cleared};
 ghost use Rattle.builder_trait.specs.Parts.{Contents};
 ghost use Rattle.map_shapes.specs.declared.point.Point.{Point};
 ghost use Rattle.range_tree.specs.Rows.{IsBlock, IsEntryOf, AreLevels, entry_at};
+ghost use Rattle.range_tree.specs.Growing.{HasRoom, AreKept};
 
 use crate::entry::Entry;
 use crate::height::block_len;
@@ -35,12 +36,13 @@ impl Level {
 }
 
 /// Takes the point at a place, which has just died, out of the counts of each level.
-pub(crate) fn clear_place<L: Ledger>(levels: &mut [Level], entry: &Entry, steps: &mut Steps<L>)
+fn clear_place<L: Ledger>(levels: &mut [Level], entry: &Entry, steps: &mut Steps<L>)
     requires { (part : Contents Point) × AreLevels part levels.old × IsEntryOf part.items entry.now
         × (slice_get part.flags entry.now.place ≡ Some true) }
     ensures cleared { (part : Contents Point) → AreLevels part levels.old → IsEntryOf part.items entry.now
         → slice_get part.flags entry.now.place ≡ Some true
         → AreLevels (record part { flags = slice_set part.flags entry.now.place false }) levels.new }
+    ensures room { (cap : ℕ) → All (HasRoom cap) levels.old → All (HasRoom cap) levels.new }
     ensures cost { (part : Contents Point) (h : ℕ) → AreLevels part levels.old → length part.items ≤ 2 ^ h
         → Spends steps.old steps.new 0 0 ((h + 1) * (5 * (h + 2))) }
 {
@@ -51,4 +53,22 @@ pub(crate) fn clear_place<L: Ledger>(levels: &mut [Level], entry: &Entry, steps:
         let end = (start + len).min(level.entries.len());
         level.clear(entry, start, end, steps);
     }
+}
+
+/// Takes the point at a place, which has just died, out of the counts of the levels that its part uses.
+pub(crate) fn clear_used<L: Ledger>(
+    levels: &mut [Level],
+    used: usize,
+    entry: &Entry,
+    steps: &mut Steps<L>,
+)
+    requires { (part : Contents Point) × AreKept part levels.old used × IsEntryOf part.items entry.now
+        × (slice_get part.flags entry.now.place ≡ Some true) }
+    ensures cleared { (part : Contents Point) → AreKept part levels.old used → IsEntryOf part.items entry.now
+        → slice_get part.flags entry.now.place ≡ Some true
+        → AreKept (record part { flags = slice_set part.flags entry.now.place false }) levels.new used }
+    ensures cost { (part : Contents Point) (h : ℕ) → AreKept part levels.old used → length part.items ≤ 2 ^ h
+        → Spends steps.old steps.new 0 0 ((h + 1) * (5 * (h + 2))) }
+{
+    clear_place(&mut levels[..used], entry, steps);
 }

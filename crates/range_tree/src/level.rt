@@ -16,6 +16,8 @@ pub(crate) struct Level {
 }
 
 impl Level {
+    ghost use Rattle.range_tree.specs.Growing.{emptied};
+
     /// An empty level for up to `cap` points.
     pub(crate) fn room(alloc: Global, cap: usize) -> Result<Level, NoMemory>
         requires { cap ≤ 2 ^ 31 }
@@ -26,5 +28,13 @@ impl Level {
             entries: Row::room(alloc, cap)?,
             counts: LiveCounts::room(alloc, cap)?,
         })
+    }
+
+    /// Takes all entries out, in one step, and keeps the memory. It counts nothing.
+    pub(crate) fn reset(&mut self)
+        ensures { self.new ≡ emptied self.old }
+    {
+        self.entries.clear();
+        self.counts.reset();
     }
 }

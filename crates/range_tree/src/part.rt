@@ -2,7 +2,7 @@
 ghost use Rattle.std.specs.Prelude.{◌≡◌};
 
 use crate::answers::{listed, numbered, weighed};
-use crate::clearing::clear_place;
+use crate::clearing::clear_used;
 use crate::entry::Entry;
 use crate::level::Level;
 use builder_trait::flat::FlatPart;
@@ -20,13 +20,15 @@ use std::sync::ledger::Ledger;
 /// `16 * (h + 2)^2` entries, a [`ListIn`] at most `8 * (h + 2)` more for each point that it lists, and a mark at most
 /// `16 * (h + 2)^2`. Nothing takes memory but the tally of a [`ListIn`].
 ///
-/// It has `h + 1` rows, each with an entry and a place of the live counts for each point. An entry takes 8 bytes and a place of
-/// the counts 24, so at level 16 the rows take 544 bytes a point. The points themselves, in both orders and with places and
-/// flags, take 73 more.
+/// It keeps the i + 1 rows of its builder at level i, each with room for an entry and a place of the live counts for each of
+/// `2^i` points; its tree uses h + 1 of them. An entry takes 8 bytes and a place of the counts 24, so at level 16 the rows take
+/// 544 bytes for each point that there is room for. The points themselves, in both orders and with places and flags, take 73
+/// more.
 #[derive(Drop)]
 pub struct RangePart {
     pub(crate) points: FlatPart<Point>,
     pub(crate) levels: Vec<Level>,
+    pub(crate) used: usize,
 }
 
 impl Model for RangePart {
@@ -35,11 +37,11 @@ impl Model for RangePart {
 
     ghost Value = { Contents Point };
 
-    ghost use Rattle.range_tree.specs.Rows.{AreLevels};
+    ghost use Rattle.range_tree.specs.Growing.{AreKept};
 
     ghost view = { λ p. p.points };
 
-    ghost invariant = { λ p. AreLevels p.points p.levels.items };
+    ghost invariant = { λ p. AreKept p.points p.levels.items p.used };
 }
 
 impl Part for RangePart {
@@ -83,7 +85,7 @@ impl Part for RangePart {
             y: item.y,
             place: place as u32,
         };
-        clear_place(&mut self.levels, &entry, steps);
+        clear_used(&mut self.levels, self.used, &entry, steps);
         true
     }
 
@@ -103,7 +105,13 @@ impl Answers<CountIn> for RangePart {
         tally: &mut Total,
         steps: &mut Steps<L>,
     ) -> Result<(), NoMemory> {
-        numbered(&self.points, &self.levels, &question.0, tally, steps);
+        numbered(
+            &self.points,
+            &self.levels[..self.used],
+            &question.0,
+            tally,
+            steps,
+        );
         Ok(())
     }
 }
@@ -119,7 +127,13 @@ impl Answers<SumIn> for RangePart {
         tally: &mut Total,
         steps: &mut Steps<L>,
     ) -> Result<(), NoMemory> {
-        weighed(&self.points, &self.levels, &question.0, tally, steps);
+        weighed(
+            &self.points,
+            &self.levels[..self.used],
+            &question.0,
+            tally,
+            steps,
+        );
         Ok(())
     }
 }
@@ -135,6 +149,12 @@ impl Answers<ListIn> for RangePart {
         tally: &mut IdTally,
         steps: &mut Steps<L>,
     ) -> Result<(), NoMemory> {
-        listed(&self.points, &self.levels, &question.0, tally, steps)
+        listed(
+            &self.points,
+            &self.levels[..self.used],
+            &question.0,
+            tally,
+            steps,
+        )
     }
 }

@@ -1,4 +1,5 @@
-//! A part of three points through the traits, one of which dies; and a part of one at the borders of rectangles.
+//! A part of three points through the traits, one of which dies, and a part on its memory; and a part of one at the borders of
+//! rectangles.
 ghost use Rattle.range_tree.specs.Rows.{before};
 ghost use Rattle.std.specs.Prelude.{◌≡◌, ◌≢◌, ◌≤◌, ◌<◌, ◌^◌, ◌∷◌, [], IsTrue, IfOk};
 
@@ -59,7 +60,7 @@ fn seen_in<P: Part<Item = Point> + Answers<CountIn> + Answers<SumIn> + Answers<L
 }
 
 /// What is seen in a rectangle of a part of three points, before and after the middle one is marked twice; what the marks
-/// answer, and the turns of the building.
+/// answer, and the turns of the building; and how many points of a part of the middle one, on the same memory, lie there.
 fn seen<L: Ledger>(
     alloc: Global,
     low: Point,
@@ -67,7 +68,7 @@ fn seen<L: Ledger>(
     high: Point,
     rect: Rect,
     blank: Blank,
-) -> Result<((u64, u64, IdList), (u64, u64, IdList), [bool; 2], u64), NoMemory>
+) -> Result<((u64, u64, IdList), (u64, u64, IdList), [bool; 2], u64, u64), NoMemory>
     requires name { blank.name ≡ L.name }
     requires parts { blank.parts ≡ L.parts }
     requires shares { blank.parts ≡ SHARES }
@@ -84,7 +85,9 @@ fn seen<L: Ledger>(
         part.mark(&middle, &mut steps),
     ];
     let rest = seen_in(alloc, rect, &part, &mut steps)?;
-    Ok((all, rest, marks, turns))
+    let again = part_of_one(RangeBuilder::recycle(part), middle, &mut steps);
+    let recounted = answer_of(alloc, &CountIn(rect), &again, &mut steps)?;
+    Ok((all, rest, marks, turns, recounted))
 }
 
 #[test]
@@ -116,12 +119,19 @@ fn answers_over_a_rectangle(rt: HostRuntime) -> Result<(), Fail> {
         x2: 2,
         y2: 2,
     };
-    let (all, rest, marks, turns) = seen::<Brand>(rt.alloc(), low, middle, high, rect, blank())?;
+    let (all, rest, marks, turns, recounted) = seen::<Brand>(
+        rt.alloc(),
+        low,
+        middle,
+        high,
+        rect,
+        blank(),
+    )?;
     assert_eq!(rt; [all.0, all.1, rest.0, rest.1], [2, 50, 1, 10]);
     assert_eq!(rt; all.2.into_vec().as_slice(), [3, 5].as_slice());
     assert_eq!(rt; rest.2.into_vec().as_slice(), [5].as_slice());
     assert_eq!(rt; marks, [true, false]);
-    assert_eq!(rt; turns, 27);
+    assert_eq!(rt; [turns, recounted], [27, 1]);
     Ok(())
 }
 
@@ -137,7 +147,7 @@ fn one_in<L: Ledger>(
     requires shares { blank.parts ≡ SHARES }
 {
     let mut steps = Steps::<L>::new(blank);
-    let part = part_of_one::<RangeBuilder, L>(alloc, point, &mut steps)?;
+    let part = part_of_one(RangeBuilder::room(alloc, 0)?, point, &mut steps);
     let turns = steps.lap_turns();
     steps.start_lap();
     let mut counts = Vec::new(alloc);

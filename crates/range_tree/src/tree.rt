@@ -1,11 +1,11 @@
 //! The levels of a tree under construction, an entry a turn.
-ghost use Rattle.std.specs.Prelude.{◌≡◌, ◌+◌, ◌-◌, ◌*◌, ◌<◌, ◌≤◌, ◌^◌, ◌∷◌, ◌++◌, [], ℕ, List, All, length, replicate, true, false, slice_get, slice_set, Some, take, IfOk, ◌==◌};
+ghost use Rattle.std.specs.Prelude.{◌≡◌, ◌+◌, ◌-◌, ◌*◌, ◌<◌, ◌≤◌, ◌^◌, ◌∷◌, ◌++◌, [], ℕ, List, All, length, replicate, true, false, slice_get, slice_set, Some, map, IfOk, ◌==◌};
 ghost use Rattle.query_laws.specs.StepLedger.{Spends};
 ghost use Rattle.map_shapes.specs.declared.point.Point.{Point};
 ghost use Rattle.range_tree.specs.Rows.{IsEntryOf, before, entry_at, counted};
 ghost use Rattle.range_tree.specs.declared.level.Level.{Level};
 ghost use Rattle.range_tree.specs.Heights.{levels_for};
-ghost use Rattle.range_tree.specs.Growing.{IsPutting, IsGrowing, start_of, target_of, lower_after};
+ghost use Rattle.range_tree.specs.Growing.{IsPutting, IsGrowing, emptied, start_of, target_of, lower_after};
 ghost use Rattle.builder_trait.specs.Builders.{begun, with_put, FitsSecond};
 
 use crate::entry::Entry;
@@ -120,6 +120,23 @@ impl Tree {
         })
     }
 
+    /// An empty tree on levels that were used, each of which is emptied. It counts nothing.
+    pub(crate) fn recycle(mut levels: Vec<Level>) -> Tree
+        ensures emptied { result.levels.items ≡ map emptied levels.items }
+        ensures left { result.left ≡ 0 }
+    {
+        for level in levels.iter_mut() {
+            level.reset();
+        }
+        Tree {
+            levels,
+            used: 0,
+            at: 0,
+            lower: 0,
+            left: 0,
+        }
+    }
+
     /// Puts the next point of order 1, which the points take next, into the top level: one touch.
     pub(crate) fn put<L: Ledger>(
         &mut self,
@@ -155,19 +172,6 @@ impl Tree {
         self.left = self.used as u64 * (2 * len as u64);
         self.at = 0;
         self.lower = 0;
-    }
-
-    /// The levels that are needed.
-    pub(crate) fn into_levels(self) -> Vec<Level>
-        ensures { result.items ≡ take self.used self.levels.items }
-    {
-        let Tree {
-            mut levels,
-            used,
-            ..
-        } = self;
-        levels.truncate(used);
-        levels
     }
 
     /// One unit of the work: one turn, and eleven touches at most.

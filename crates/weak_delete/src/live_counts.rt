@@ -80,6 +80,23 @@ impl LiveCounts {
         })
     }
 
+    /// Takes all places out, in one step, and keeps the memory. Puts may come again. It counts nothing.
+    #[inline]
+    pub fn reset(&mut self)
+        ensures { self.new ≡ nothing_put self.old.capacity }
+    {
+        self.weights.clear();
+        self.masks.clear();
+        self.nodes.clear();
+        self.total = Node {
+            count: 0,
+            weight: 0,
+        };
+        self.len = 0;
+        self.unturned = 0;
+        self.sealed = false;
+    }
+
     /// How many places were put. It counts nothing.
     #[inline]
     pub fn len(&self) -> usize
@@ -92,7 +109,7 @@ impl LiveCounts {
     /// Whether no place was put. It counts nothing.
     #[inline]
     pub fn is_empty(&self) -> bool
-        ensures { IsTrue result ↔ (length self.now.places ≡ 0) }
+        ensures { IsTrue result ↔ (self.now.places ≡ []) }
     {
         self.len == 0
     }

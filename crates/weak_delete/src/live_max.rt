@@ -146,6 +146,18 @@ impl LiveMax {
         })
     }
 
+    /// Takes all places out, in one step, and keeps the memory. Puts may come again. It counts nothing.
+    #[inline]
+    pub fn reset(&mut self)
+        ensures { self.new ≡ nothing_put self.old.capacity }
+    {
+        self.places.clear();
+        self.winners.clear();
+        self.height = 0;
+        self.left = 0;
+        self.sealed = false;
+    }
+
     /// How many places were put. It counts nothing.
     #[inline]
     pub fn len(&self) -> usize
@@ -153,6 +165,14 @@ impl LiveMax {
         ensures within { result ≤ self.now.capacity }
     {
         self.places.len()
+    }
+
+    /// Whether no place was put. It counts nothing.
+    #[inline]
+    pub fn is_empty(&self) -> bool
+        ensures { IsTrue result ↔ (self.now.places ≡ []) }
+    {
+        self.places.is_empty()
     }
 
     /// Whether no more places come. It counts nothing.

@@ -1,5 +1,5 @@
 //! A vector that counts each read and write of an entry.
-ghost use Rattle.std.specs.Prelude.{◌≡◌, ◌<◌, ◌≤◌, [], ◌∷◌, ◌++◌, length, Some, IfOk, slice_get, slice_index_or, slice_set};
+ghost use Rattle.std.specs.Prelude.{◌≡◌, ◌<◌, ◌≤◌, ◌↔◌, [], ◌∷◌, ◌++◌, IsTrue, length, Some, IfOk, slice_get, slice_index_or, slice_set};
 ghost use Rattle.query_laws.specs.StepLedger.{one_touch};
 
 use super::{NoMemory, Steps};
@@ -73,6 +73,14 @@ impl<T: Copy> Row<T> {
         steps.touch();
     }
 
+    /// Takes all entries out, in one step, and keeps the memory. It counts nothing.
+    #[inline]
+    pub fn clear(&mut self)
+        ensures { self.new ≡ record { items = []; capacity = self.old.capacity } }
+    {
+        self.entries.clear();
+    }
+
     /// How many entries there are. It counts nothing.
     #[inline]
     pub fn len(&self) -> usize
@@ -80,6 +88,14 @@ impl<T: Copy> Row<T> {
         ensures within { result ≤ self.now.capacity }
     {
         self.entries.len()
+    }
+
+    /// Whether there is no entry. It counts nothing.
+    #[inline]
+    pub fn is_empty(&self) -> bool
+        ensures { IsTrue result ↔ (self.now.items ≡ []) }
+    {
+        self.entries.is_empty()
     }
 
     /// How many entries the row takes. It counts nothing.

@@ -1,12 +1,14 @@
 use Rattle.std.proofs.Common.{◌≡◌, ◌≢◌, ℕ, ◌+◌, ◌-◌, ◌*◌, ◌<◌, ◌≤◌, List, length, false, slice_get, get_or, set, refl, sym, ap, ◌∙◌, arith, subst}
 use Rattle.std.proofs.Math.Nat.{mul-le-mul_right}
 use Rattle.std.proofs.lemmas.List.{length-map}
+use Rattle.std.proofs.lemmas.List.Elements.{All-set}
 use Rattle.std.proofs.lemmas.Option.{slice_get-get_or, slice_get_within}
 use Rattle.query_laws.proofs.Counting.{Spends-nothing, Spends-then, Spends-within, Spends-weaker}
 use Rattle.builder_trait.specs.Parts.{Contents}
 use Rattle.map_shapes.specs.declared.point.Point.{Point}
 use Rattle.range_tree.specs.declared.level.Level.{Level}
 use Rattle.range_tree.specs.Rows.{IsLevel, AreLevels, counted}
+use Rattle.range_tree.specs.Growing.{HasRoom}
 use Rattle.range_tree.proofs.HeightLemmas.{levels_for-small, levels_for-few}
 use Rattle.row_blocks.proofs.Lists.{slice_get-set_other}
 use Rattle.range_tree.proofs.ClearingLemmas.{block_bounds, block_of, entry_found, entry_live, level_cleared, cleared_more}
@@ -22,6 +24,7 @@ pub loop-row-init : goal.loop-row-init
 loop-row-init g c = record {
   kept = λ q le. refl;
   cleared = λ part are known live q level below at. absurd (let no : ⊥ = omega arith in no);
+  room = λ cap all. all;
   cost = λ part h are few. Spends-within (Spends-nothing c.args.steps.now) refl refl (omega arith);
 }
 
@@ -70,6 +73,13 @@ loop-row-preserved g c = record {
       (subst (λ (l : Level). IsLevel part.items (set part.flags c.args.entry.now.place false) (length c.args.levels.now - 1 - c.loop-row.row) l)
       (sym (c.clear.ensures.cleared found.0 found.1 found.2 found.3))
       (level_cleared is found.0 c.args.entry.now.place (omega (arith, found.2, bounds.1)) (ap (λ e. e.place) found.3) live));
+  room = λ cap all.
+      let is = row_is c.requires.1 c.loop-row.levels c.loop-row.row c.index-levels-row.result (omega arith) c.loop-row.auto.levels (c.loop-row.invariant.kept c.loop-row.row (omega arith)) in
+      let found = entry_found is.row c.args.entry.now c.requires.2 _ _ _ c.block_len-len.ensures c.len.ensures.value c.min-end.ensures in
+      let was = c.loop-row.invariant.room cap all in
+      All-set (HasRoom cap) c.loop-row.levels c.loop-row.row c.clear.new.self
+      (subst (HasRoom cap) (sym (c.clear.ensures.cleared found.0 found.1 found.2 found.3))
+      (let room = was c.loop-row.row c.index-levels-row.result (omega arith) in (room.0, room.1))) was;
   cost = λ part h are few.
       let is = row_is are c.loop-row.levels c.loop-row.row c.index-levels-row.result (omega arith) c.loop-row.auto.levels (c.loop-row.invariant.kept c.loop-row.row (omega arith)) in
       Spends-weaker (Spends-then (c.loop-row.invariant.cost part h are few) (c.clear.ensures.cost h (omega (arith, is.row.entry_each)))) (omega arith);

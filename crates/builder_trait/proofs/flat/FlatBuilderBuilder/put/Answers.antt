@@ -6,7 +6,7 @@ pub push-requires-else-order-eq0 : goal.push-requires-else-order-eq0
 push-requires-else-order-eq0 g c =
     omega (
       arith,
-      c.self.invariant.0.room_reordered,
+      c.self.invariant.0.wide.room_reordered,
       room-put (g.met.I.Item.ordered 1 (omega arith)) c.self.invariant.0 (c.requires.second (omega arith))
           (ap (λ p. p.items) (sym c.self.view_is)) (ap (λ p. p.reordered) (sym c.self.view_is)),
     )
@@ -15,7 +15,7 @@ pub push-requires-else-order-eq0-2 : goal.push-requires-else-order-eq0-2
 push-requires-else-order-eq0-2 g c =
     omega (
       arith,
-      c.self.invariant.0.room_places,
+      c.self.invariant.0.wide.room_places,
       room_places-put (g.met.I.Item.ordered 1 (omega arith)) c.self.invariant.0 (c.requires.second (omega arith))
           (ap (λ p. p.items) (sym c.self.view_is)) (ap (λ p. p.reordered) (sym c.self.view_is)),
     )

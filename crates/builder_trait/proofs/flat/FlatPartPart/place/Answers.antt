@@ -5,7 +5,7 @@ use Rattle.builder_trait.proofs.FlatLemmas.{place_of_second}
 use Rattle.builder_trait.proofs.flat.FlatPartPart.place.Goals as goal
 
 pub at-requires : goal.at-requires
-at-requires g c = omega (arith, ap (λ p. length p.items) c.self.view_is, length-places c.self.invariant.0)
+at-requires g c = omega (arith, ap (λ p. length p.items) c.self.view_is, length-places c.self.invariant.valid)
 
 pub returns-else-order-eq0-clause-value : goal.returns-else-order-eq0-clause-value
 returns-else-order-eq0-clause-value g c =

@@ -4,7 +4,7 @@ use Rattle.ordered_merge.proofs.merge.Merge.room.Goals as goal
 
 pub invariant_of-result : goal.invariant_of-result
 invariant_of-result g c =
-    let first = ap (λ r. r.capacity) c.in_ok-room.ensures in
-    let second = ap (λ r. r.capacity) c.in_ok-room-2.ensures in
+    let a = ap (λ s. s.table.capacity) c.in_ok-a.ensures in
+    let b = ap (λ s. s.table.capacity) c.in_ok-b.ensures in
     let small : 2 ^ (c.args.level - 1) ≤ 2 ^ 30 = pow-le-pow_right {n = 2} (omega arith) {i = c.args.level - 1} {j = 30} (omega arith) in
-    (omega (arith, first, c.pow-cap.ensures, small), second ∙ sym first)
+    (omega (arith, a, c.pow-cap.ensures, small), b ∙ sym a)

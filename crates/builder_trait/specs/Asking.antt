@@ -3,7 +3,7 @@ use Rattle.std.specs.Prelude.{ℕ, Bool}
 
 -- the question, the answer over the parts consulted so far, how many these are, whether memory may be refused, and whether
 -- it was refused, so that the question is given up
-pub record Inquiry (Question Answer : Type 0) : Type 0 where
+pub record OpenQuestion (Question Answer : Type 0) : Type 0 where
   pub question : Question
   pub so_far : Answer
   pub parts : ℕ
@@ -11,7 +11,7 @@ pub record Inquiry (Question Answer : Type 0) : Type 0 where
   pub is_given_up : Bool
 
 -- the question, its answer, and how many parts were consulted for it
-pub record Finding (Question Answer : Type 0) : Type 0 where
+pub record SealedAnswer (Question Answer : Type 0) : Type 0 where
   pub question : Question
   pub answer : Answer
   pub parts : ℕ
