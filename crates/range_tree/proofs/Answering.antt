@@ -11,7 +11,7 @@ use Rattle.query_laws.proofs.Counting.{Spends-then, Spends-weaker}
 use Rattle.query_laws.proofs.Permutations.{Permuted-map}
 use Rattle.map_shapes.specs.Ascending.{sorted_ids, sorted_union}
 use Rattle.map_shapes.specs.AscendingLaws.{sorted_ids-Permuted, sorted_ids-append}
-use Rattle.range_tree.specs.Heights.{height_of}
+use Rattle.row_blocks.specs.Heights.{height_of}
 use Rattle.range_tree.proofs.HeightLemmas.{height_of-above}
 
 -- what was spent, and what the spans and the points that are left may cost, is within the bound of all spans and some points

@@ -6,7 +6,8 @@ use Rattle.builder_trait.specs.Builders.{Progress, IsUnderway}
 use Rattle.map_shapes.specs.declared.point.Point.{Point}
 use Rattle.range_tree.specs.declared.level.Level.{Level}
 use Rattle.range_tree.specs.declared.tree.Tree.{Tree}
-use Rattle.range_tree.specs.Heights.{height_of, levels_for}
+use Rattle.row_blocks.specs.Heights.{height_of}
+use Rattle.range_tree.specs.Heights.{levels_for}
 use Rattle.range_tree.specs.Rows.{before, IsRow, counted}
 use Rattle.range_tree.specs.Growing.{IsPutting, IsEmptyLevel, IsCounting, IsComing, IsGrowing, turned}
 use Rattle.range_tree.proofs.Begins.{IsRow-top}

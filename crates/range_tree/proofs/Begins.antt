@@ -8,7 +8,7 @@ use Rattle.std.proofs.lemmas.Option.{slice_get_within, get_or_from_slice_get, sl
 use Rattle.std.proofs.lemmas.List.{length-map, get_or-map}
 use Rattle.query_laws.specs.Orders.{IsStrictTotalOrder}
 use Rattle.query_laws.specs.OrderLaws.{IsStrictTotalOrder-before_in}
-use Rattle.weak_delete.specs.Levels.{IsMultiple}
+use Rattle.row_blocks.specs.Blocks.{IsMultiple}
 use Rattle.builder_trait.specs.Parts.{IsRising}
 use Rattle.builder_trait.specs.Builders.{Progress, IsUnderway}
 use Rattle.builder_trait.proofs.Places.{slice_get-placed, length-placed}

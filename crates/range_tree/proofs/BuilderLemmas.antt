@@ -15,7 +15,7 @@ use Rattle.range_tree.specs.Heights.{levels_for}
 use Rattle.range_tree.specs.Rows.{IsEntryOf, AreLevels, IsLevel}
 use Rattle.range_tree.specs.Growing.{HasRoom, IsPutting, IsCounting, IsGrowing, AreKept, emptied, turned}
 use Rattle.range_tree.proofs.Beginnings.{few_points, levels_for-within}
-use Rattle.range_tree.proofs.Slots.{All-slots}
+use Rattle.row_blocks.proofs.Lists.{All-slots}
 use Rattle.range_tree.proofs.Putting.{empty_level}
 
 -- the growth doesn't see how many turns the points have left

@@ -12,7 +12,7 @@ use Rattle.map_shapes.specs.declared.point.Point.{Point}
 use Rattle.range_tree.specs.declared.entry.Entry.{Entry}
 use Rattle.range_tree.specs.declared.level.Level.{Level}
 use Rattle.range_tree.specs.Rows.{entry_at, no_entry, IsEntryOf, IsBlock, IsRow, IsLevel, counted}
-use Rattle.range_tree.proofs.Slots.{slice_get-set_other}
+use Rattle.row_blocks.proofs.Lists.{slice_get-set_other}
 use Rattle.range_tree.proofs.Blocks.{block_has, precedes-apart}
 use Rattle.range_tree.proofs.ListingLemmas.{known_within}
 

@@ -14,7 +14,7 @@ use Rattle.range_tree.specs.declared.tree.Tree.{Tree}
 use Rattle.range_tree.specs.Rows.{IsRow, IsLevel, IsEntryOf, counted}
 use Rattle.range_tree.specs.Growing.{HasRoom, IsCounting, IsComing, IsParting, IsGrowing, turned}
 use Rattle.range_tree.proofs.Parting.{IsParting-copy}
-use Rattle.range_tree.proofs.Slots.{All-slots, at_slot}
+use Rattle.row_blocks.proofs.Lists.{All-slots, at_slot}
 
 -- while turns are left a level grows
 pub grows : (b : Progress Point) (tree : Tree) → IsGrowing b tree → 0 < tree.left → tree.at < tree.used

@@ -14,8 +14,8 @@ use Rattle.query_laws.proofs.Permutations.{Permuted-refl, Permuted-append_left, 
 use Rattle.query_laws.specs.StepLedger.{Counts, Spends}
 use Rattle.query_laws.proofs.Counting.{Spends-then, Spends-within}
 use Rattle.weak_delete.specs.Places.{IsBuilt}
-use Rattle.weak_delete.specs.Levels.{IsMultiple}
-use Rattle.weak_delete.proofs.Levels.{pow_next, times_below, even_block, odd_block, first_half}
+use Rattle.row_blocks.specs.Blocks.{IsMultiple}
+use Rattle.row_blocks.proofs.Blocks.{pow_next, times_below, even_block, odd_block, first_half}
 use Rattle.builder_trait.specs.Parts.{Contents}
 use Rattle.map_shapes.specs.declared.point.Point.{Point}
 use Rattle.map_shapes.specs.declared.rect.Rect.{Rect}
@@ -24,7 +24,7 @@ use Rattle.range_tree.specs.declared.entry.Entry.{Entry}
 use Rattle.range_tree.specs.declared.level.Level.{Level}
 use Rattle.range_tree.specs.declared.span.Span.{Span}
 use Rattle.range_tree.specs.declared.cover.Cover.{Cover}
-use Rattle.range_tree.specs.Heights.{height_of}
+use Rattle.row_blocks.specs.Heights.{height_of}
 use Rattle.range_tree.specs.Rows.{AreLevels, IsLevel, IsRow, IsBlock}
 use Rattle.range_tree.specs.Queries.{live_at, live_between, live_in_slice, live_in_span, IsSpan, IsCovering, IsCover, IsFrontCovered, AreWithinAbscissas, AbscissasBelow, AbscissasFrom}
 use Rattle.range_tree.proofs.HeightLemmas.{height_of-above, levels_for-some, levels_for-few, levels_for-small}

@@ -11,7 +11,6 @@ pub mod Covers
 pub mod Counts
 pub mod Begins
 pub mod Beginnings
-pub mod Slots
 pub mod CountingGrowth
 pub mod Parting
 pub mod PartingGrowth

@@ -6,8 +6,8 @@ use Rattle.std.proofs.lemmas.List.{get_or-set_same, get_or-set_other, length-set
 use Rattle.std.proofs.lemmas.List.Elements.{All-get_or, All-set}
 use Rattle.std.proofs.Math.ListN.{set}
 use Rattle.std.proofs.Math.Nat.{mul-le-mul_right}
-use Rattle.weak_delete.specs.Levels.{IsMultiple}
-use Rattle.weak_delete.proofs.Levels.{pow_next, first_half, second_half, times_below}
+use Rattle.row_blocks.specs.Blocks.{IsMultiple}
+use Rattle.row_blocks.proofs.Blocks.{pow_next, first_half, second_half, times_below}
 use Rattle.map_shapes.specs.declared.point.Point.{Point}
 use Rattle.range_tree.specs.declared.entry.Entry.{Entry}
 use Rattle.range_tree.specs.Rows.{IsEntryOf, no_entry, entry_at, precedes, IsRun, IsBlock, AreBlocks, IsRow}

@@ -17,7 +17,7 @@ use Rattle.range_tree.specs.Heights.{levels_for}
 use Rattle.range_tree.specs.Rows.{IsEntryOf, no_entry, entry_at, IsRow, IsLevel, counted}
 use Rattle.range_tree.specs.Growing.{HasRoom, IsEmptyLevel, start_of, IsParting, target_of, lower_after, turned, IsCounting, IsComing, IsGrowing}
 use Rattle.range_tree.proofs.HeightLemmas.{levels_for-small}
-use Rattle.range_tree.proofs.Slots.{at_slot, slice_get-set_same, slice_get-set_other}
+use Rattle.row_blocks.proofs.Lists.{at_slot, slice_get-set_same, slice_get-set_other}
 use Rattle.range_tree.proofs.Parting.{target_of-within, IsParting-next, All-parted, IsRow-parted}
 
 -- the fields of a tree that grows

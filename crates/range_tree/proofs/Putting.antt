@@ -18,7 +18,7 @@ use Rattle.range_tree.specs.declared.level.Level.{Level}
 use Rattle.range_tree.specs.Rows.{before, IsEntryOf}
 use Rattle.range_tree.specs.Growing.{HasRoom, IsPutting}
 use Rattle.range_tree.proofs.Beginnings.{few_points}
-use Rattle.range_tree.proofs.Slots.{All-slots, at_slot, slice_get-set_same, slice_get-set_other}
+use Rattle.row_blocks.proofs.Lists.{All-slots, at_slot, slice_get-set_same, slice_get-set_other}
 
 -- an item stays where it is as others are put behind it
 slice_get-push : {A : Type 0} (xs : List A) (y : A) (k : ℕ) (x : A) → slice_get xs k ≡ Some x → slice_get (xs ++ y ∷ []) k ≡ Some x

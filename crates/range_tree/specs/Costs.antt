@@ -6,7 +6,7 @@ use Rattle.builder_trait.specs.Parts.{Contents}
 use Rattle.map_shapes.specs.declared.point.Point.{Point}
 use Rattle.map_shapes.specs.declared.rect.Rect.{Rect}
 use Rattle.map_shapes.specs.Questions.{is_in}
-use Rattle.range_tree.specs.Heights.{height_of}
+use Rattle.row_blocks.specs.Heights.{height_of}
 
 -- for a number: 16 * (h + 2) ^ 2
 abbrev pub count_touches : List Point → ℕ

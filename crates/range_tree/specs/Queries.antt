@@ -4,7 +4,7 @@ use Rattle.std.specs.Option.{option_to_list}
 use Rattle.std.specs.List.{flat_map, range_with_len, items_where_true}
 use Rattle.query_laws.specs.Permuted.{Permuted}
 use Rattle.weak_delete.specs.Places.{IsBuilt}
-use Rattle.weak_delete.specs.Levels.{IsMultiple}
+use Rattle.row_blocks.specs.Blocks.{IsMultiple}
 use Rattle.builder_trait.specs.Parts.{Contents}
 use Rattle.map_shapes.specs.declared.point.Point.{Point}
 use Rattle.map_shapes.specs.declared.rect.Rect.{Rect}

@@ -4,7 +4,7 @@ use Rattle.std.specs.Option.{option_map, unwrap_or}
 use Rattle.query_laws.specs.Orders.{before_in}
 use Rattle.weak_delete.specs.declared.place.Place.{Place}
 use Rattle.weak_delete.specs.Places.{IsBuilt}
-use Rattle.weak_delete.specs.Levels.{IsMultiple}
+use Rattle.row_blocks.specs.Blocks.{IsMultiple}
 use Rattle.builder_trait.specs.Parts.{Contents}
 use Rattle.map_shapes.specs.declared.point.Point.{Point}
 use Rattle.range_tree.specs.declared.entry.Entry.{Entry}

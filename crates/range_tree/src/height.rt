@@ -1,18 +1,8 @@
-//! How high the tree over some points is.
-ghost use Rattle.std.specs.Prelude.{◌≡◌, ◌^◌, ◌≤◌, ◌<◌, ℕ};
-ghost use Rattle.range_tree.specs.Heights.{height_of, levels_for};
+//! How many levels the tree over some points has.
+ghost use Rattle.std.specs.Prelude.{◌≡◌, ◌^◌, ◌≤◌, ◌<◌};
+ghost use Rattle.range_tree.specs.Heights.{levels_for};
 
-/// The least h such that there are at most `2^h` of `n` points.
-#[inline]
-pub(crate) fn height(n: usize) -> u32
-    requires { n ≤ 2 ^ 31 }
-    ensures value { result ≡ height_of n }
-    ensures above { n ≤ 2 ^ result }
-    ensures least { (h : ℕ) → n ≤ 2 ^ h → result ≤ h }
-    ensures small { result ≤ 31 }
-{
-    usize::BITS - n.saturating_sub(1).leading_zeros()
-}
+use row_blocks::height_of;
 
 /// How many levels the tree over `n` points has: one for each height from 0 up to that of the whole tree.
 #[inline]
@@ -21,7 +11,7 @@ pub(crate) fn levels(n: usize) -> usize
     ensures value { result ≡ levels_for n }
     ensures small { result ≤ 32 }
 {
-    if n == 0 { 0 } else { height(n) as usize + 1 }
+    if n == 0 { 0 } else { height_of(n) as usize + 1 }
 }
 
 /// How many places a block of this height has.

@@ -1,3 +1,3 @@
-pub mod Levels
 pub mod Nodes
+pub mod Packing
 pub mod Winners

@@ -9,9 +9,9 @@ use Rattle.std.proofs.lemmas.Bool.{cases_lt, cases_eq, cases_order}
 use Rattle.std.proofs.Math.Nat.{mul-le-mul_right}
 use Rattle.weak_delete.specs.declared.place.Place.{Place}
 use Rattle.weak_delete.specs.Places.{place_at, no_place, cleared, is_live_at_least}
-use Rattle.weak_delete.specs.Levels.{level_of, IsMultiple}
+use Rattle.row_blocks.specs.Blocks.{height_at, IsMultiple}
 use Rattle.weak_delete.specs.Tournament.{rank_of, rank_at, winner_rank, IsBelowBound, IsGreatest, IsWinnerAt, AreWinnersBelow, IsPlayed}
-use Rattle.weak_delete.proofs.Levels.{IsHalved, pow_next, pow_level_of-le, level_of-middle, middle_of, times_below, below_from_pow}
+use Rattle.row_blocks.proofs.Blocks.{IsHalved, pow_next, pow_height_at-le, height_at-middle, middle_of, times_below, below_from_pow}
 
 pub rank_at-past : (places : List Place) (k : ℕ) → length places ≤ k → rank_at places k ≡ 0
 rank_at-past places k past = ap rank_of (get_or_past places k no_place past)
@@ -42,36 +42,36 @@ IsGreatest-one places start = record {
   least = λ m below. below start (omega arith) (omega arith);
 }
 
--- the middle of a block is at the level below it, and its winner is the block's
-pub IsWinnerAt-block : {places : List Place} (winners : List (Option ℕ)) {start level half : ℕ} → IsHalved start level half → IsWinnerAt places winners (start + half)
-    → IsGreatest places start (start + 2 ^ level) (winner_rank (get_or winners (start + half) None))
-IsWinnerAt-block {places} winners {start} {level} {half} block wins =
-    let from : start + half - 2 ^ level_of (start + half) ≡ start = omega (arith, block.own) in
-    let until : start + half + 2 ^ level_of (start + half) ≡ start + 2 ^ level = omega (arith, block.own, block.twice) in
-    let P : ℕ → Type 0 = λ s. IsGreatest places s (start + half + 2 ^ level_of (start + half)) (winner_rank (get_or winners (start + half) None)) in
+-- the middle of a block is at the height below it, and its winner is the block's
+pub IsWinnerAt-block : {places : List Place} (winners : List (Option ℕ)) {start height half : ℕ} → IsHalved start height half → IsWinnerAt places winners (start + half)
+    → IsGreatest places start (start + 2 ^ height) (winner_rank (get_or winners (start + half) None))
+IsWinnerAt-block {places} winners {start} {height} {half} block wins =
+    let from : start + half - 2 ^ height_at (start + half) ≡ start = omega (arith, block.own) in
+    let until : start + half + 2 ^ height_at (start + half) ≡ start + 2 ^ height = omega (arith, block.own, block.twice) in
+    let P : ℕ → Type 0 = λ s. IsGreatest places s (start + half + 2 ^ height_at (start + half)) (winner_rank (get_or winners (start + half) None)) in
     let Q : ℕ → Type 0 = λ e. IsGreatest places start e (winner_rank (get_or winners (start + half) None)) in
     subst Q until (subst P from wins)
 
-pub IsWinnerAt-from_block : {places : List Place} (winners : List (Option ℕ)) {start level half : ℕ} → IsHalved start level half
-    → IsGreatest places start (start + 2 ^ level) (winner_rank (get_or winners (start + half) None)) → IsWinnerAt places winners (start + half)
-IsWinnerAt-from_block {places} winners {start} {level} {half} block greatest =
-    let from : start + half - 2 ^ level_of (start + half) ≡ start = omega (arith, block.own) in
-    let until : start + half + 2 ^ level_of (start + half) ≡ start + 2 ^ level = omega (arith, block.own, block.twice) in
-    let P : ℕ → Type 0 = λ s. IsGreatest places s (start + half + 2 ^ level_of (start + half)) (winner_rank (get_or winners (start + half) None)) in
+pub IsWinnerAt-from_block : {places : List Place} (winners : List (Option ℕ)) {start height half : ℕ} → IsHalved start height half
+    → IsGreatest places start (start + 2 ^ height) (winner_rank (get_or winners (start + half) None)) → IsWinnerAt places winners (start + half)
+IsWinnerAt-from_block {places} winners {start} {height} {half} block greatest =
+    let from : start + half - 2 ^ height_at (start + half) ≡ start = omega (arith, block.own) in
+    let until : start + half + 2 ^ height_at (start + half) ≡ start + 2 ^ height = omega (arith, block.own, block.twice) in
+    let P : ℕ → Type 0 = λ s. IsGreatest places s (start + half + 2 ^ height_at (start + half)) (winner_rank (get_or winners (start + half) None)) in
     let Q : ℕ → Type 0 = λ e. IsGreatest places start e (winner_rank (get_or winners (start + half) None)) in
     subst P (sym from) (subst Q (sym until) greatest)
 
--- ---- played level by level
+-- ---- played height by height
 abbrev pub SameBut : List (Option ℕ) → List (Option ℕ) → ℕ → Type 0
 SameBut winners changed middle = (k : ℕ) → k ≢ middle → get_or changed k None ≡ get_or winners k None
 
 -- a winner that didn't change
 kept : {places : List Place} (winners changed : List (Option ℕ)) (k middle : ℕ) → SameBut winners changed middle → k ≢ middle → IsWinnerAt places winners k → IsWinnerAt places changed k
 kept {places} winners changed k middle same away wins =
-    let P : Option ℕ → Type 0 = λ w. IsGreatest places (k - 2 ^ level_of k) (k + 2 ^ level_of k) (winner_rank w) in
+    let P : Option ℕ → Type 0 = λ w. IsGreatest places (k - 2 ^ height_at k) (k + 2 ^ height_at k) (winner_rank w) in
     subst P (sym (same k away)) wins
 
--- the winner at one middle is right, and those at other middles of its level that were right still are
+-- the winner at one middle is right, and those at other middles of its height that were right still are
 replaced : {places : List Place} (winners changed : List (Option ℕ)) (k middle : ℕ) → SameBut winners changed middle → IsWinnerAt places changed middle → (k ≢ middle → IsWinnerAt places winners k)
     → IsWinnerAt places changed k
 replaced {places} winners changed k middle same wins others = elim (cases_eq k middle) [
@@ -79,28 +79,28 @@ replaced {places} winners changed k middle same wins others = elim (cases_eq k m
   | inr away ↦ kept winners changed k middle same away (others away)
 ]
 
--- of the middles of one level the next to play is the first that isn't played
-module _ {places : List Place} {winners : List (Option ℕ)} (changed : List (Option ℕ)) {level left : ℕ} (played : IsPlayed places winners level left) (some : 0 < left)
-    (few : length places ≤ 2 ^ 31) (middle : ℕ) (next : middle ≡ (2 * ((length places - 1) / 2 ^ level - left) + 1) * 2 ^ level) (at : level_of middle ≡ level)
+-- of the middles of one height the next to play is the first that isn't played
+module _ {places : List Place} {winners : List (Option ℕ)} (changed : List (Option ℕ)) {height left : ℕ} (played : IsPlayed places winners height left) (some : 0 < left)
+    (few : length places ≤ 2 ^ 31) (middle : ℕ) (next : middle ≡ (2 * ((length places - 1) / 2 ^ height - left) + 1) * 2 ^ height) (at : height_at middle ≡ height)
     (same : SameBut winners changed middle) (wins : IsWinnerAt places changed middle) where
-  below_still : AreWinnersBelow places changed level
+  below_still : AreWinnersBelow places changed height
   below_still = record {
     wins = λ k pos within lower.
-        let away : k ≢ middle = λ is. let e : level_of k ≡ level = ap level_of is ∙ at in omega arith in
+        let away : k ≢ middle = λ is. let e : height_at k ≡ height = ap height_at is ∙ at in omega arith in
         kept winners changed k middle same away (played.below.wins k pos within lower);
   }
 
-  -- one more middle of the level is played
-  here_next : (k times : ℕ) → 0 < k → k < length places → level_of k ≡ level → k ≡ (2 * times + 1) * 2 ^ level → times ≤ (length places - 1) / 2 ^ level - left → IsWinnerAt places changed k
+  -- one more middle of the height is played
+  here_next : (k times : ℕ) → 0 < k → k < length places → height_at k ≡ height → k ≡ (2 * times + 1) * 2 ^ height → times ≤ (length places - 1) / 2 ^ height - left → IsWinnerAt places changed k
   here_next k times pos within is_here is few_times = replaced winners changed k middle same wins (λ away.
-      let other : times ≢ (length places - 1) / 2 ^ level - left = λ e. away (is ∙ ap (λ t. (2 * t + 1) * 2 ^ level) e ∙ sym next) in
-      let lower : 2 * times + 1 + 1 ≤ 2 * ((length places - 1) / 2 ^ level - left) + 1 = omega arith in
-      let le : (2 * times + 1 + 1) * 2 ^ level ≤ (2 * ((length places - 1) / 2 ^ level - left) + 1) * 2 ^ level = mul-le-mul_right (2 ^ level) lower in
-      let some_places = pow_pos level in
+      let other : times ≢ (length places - 1) / 2 ^ height - left = λ e. away (is ∙ ap (λ t. (2 * t + 1) * 2 ^ height) e ∙ sym next) in
+      let lower : 2 * times + 1 + 1 ≤ 2 * ((length places - 1) / 2 ^ height - left) + 1 = omega arith in
+      let le : (2 * times + 1 + 1) * 2 ^ height ≤ (2 * ((length places - 1) / 2 ^ height - left) + 1) * 2 ^ height = mul-le-mul_right (2 ^ height) lower in
+      let some_places = pow_pos height in
       played.here k pos within is_here (omega arith))
 
-  pub IsPlayed-same_level : left - 1 ≢ (length places - 1) / 2 ^ level / 2 → IsPlayed places changed level (left - 1)
-  IsPlayed-same_level more = record {
+  pub IsPlayed-same_height : left - 1 ≢ (length places - 1) / 2 ^ height / 2 → IsPlayed places changed height (left - 1)
+  IsPlayed-same_height more = record {
     blocks_left = omega (arith, played.blocks_left);
     some_left = λ h. omega (arith, played.some_left some);
     none_left = λ h. let no : ⊥ = omega (arith, played.some_left some, played.blocks_left) in absurd no;
@@ -108,52 +108,52 @@ module _ {places : List Place} {winners : List (Option ℕ)} (changed : List (Op
     below = below_still;
     here = λ k pos within is_here before.
         let whole = middle_of k pos (omega arith) in
-        let is : k ≡ (2 * whole.times + 1) * 2 ^ level = whole.is ∙ ap (λ i. (2 * whole.times + 1) * 2 ^ i) is_here in
-        let lower = times_below (2 * whole.times + 1) (2 * ((length places - 1) / 2 ^ level - (left - 1)) + 1) (2 ^ level) (omega arith) in
+        let is : k ≡ (2 * whole.times + 1) * 2 ^ height = whole.is ∙ ap (λ i. (2 * whole.times + 1) * 2 ^ i) is_here in
+        let lower = times_below (2 * whole.times + 1) (2 * ((length places - 1) / 2 ^ height - (left - 1)) + 1) (2 ^ height) (omega arith) in
         here_next k whole.times pos within is_here is (omega (arith, played.blocks_left));
   }
 
-  pub IsPlayed-next_level : left - 1 ≡ (length places - 1) / 2 ^ level / 2 → IsPlayed places changed (level + 1) (left - 1)
-  IsPlayed-next_level half =
-      let blocks : (length places - 1) / 2 ^ (level + 1) ≡ (length places - 1) / 2 ^ level / 2 = sym (shr-shr (length places - 1) level 1) in
-      let some_places = pow_pos level in
-      let whole : (length places - 1) / 2 ^ level * 2 ^ level + (length places - 1) % 2 ^ level ≡ length places - 1 = div-add-mod' (length places - 1) (2 ^ level) in
+  pub IsPlayed-next_height : left - 1 ≡ (length places - 1) / 2 ^ height / 2 → IsPlayed places changed (height + 1) (left - 1)
+  IsPlayed-next_height half =
+      let blocks : (length places - 1) / 2 ^ (height + 1) ≡ (length places - 1) / 2 ^ height / 2 = sym (shr-shr (length places - 1) height 1) in
+      let some_places = pow_pos height in
+      let whole : (length places - 1) / 2 ^ height * 2 ^ height + (length places - 1) % 2 ^ height ≡ length places - 1 = div-add-mod' (length places - 1) (2 ^ height) in
       record {
         blocks_left = omega arith;
         some_left = λ h. omega arith;
         none_left = λ h. omega arith;
         small =
-            let one : 1 * 2 ^ level ≤ (length places - 1) / 2 ^ level * 2 ^ level = mul-le-mul_right (2 ^ level) (omega (arith, played.blocks_left)) in
-            let low = below_from_pow level 31 (omega arith) in omega arith;
+            let one : 1 * 2 ^ height ≤ (length places - 1) / 2 ^ height * 2 ^ height = mul-le-mul_right (2 ^ height) (omega (arith, played.blocks_left)) in
+            let low = below_from_pow height 31 (omega arith) in omega arith;
         below = record {
-          wins = λ k pos within lower. elim (cases_lt (level_of k) level) [
+          wins = λ k pos within lower. elim (cases_lt (height_at k) height) [
             | inl low ↦ below_still.wins k pos within low
             | inr high ↦
-                let is_here : level_of k ≡ level = omega arith in
+                let is_here : height_at k ≡ height = omega arith in
                 let whole_k = middle_of k pos (omega arith) in
-                let is : k ≡ (2 * whole_k.times + 1) * 2 ^ level = whole_k.is ∙ ap (λ i. (2 * whole_k.times + 1) * 2 ^ i) is_here in
-                let rest : (length places - 1) % 2 ^ level < 2 ^ level = mod-lt (length places - 1) some_places in
-                let blocks_k : (2 * whole_k.times + 1) * 2 ^ level < ((length places - 1) / 2 ^ level + 1) * 2 ^ level = omega arith in
-                let times = times_below (2 * whole_k.times + 1) ((length places - 1) / 2 ^ level + 1) (2 ^ level) blocks_k in
+                let is : k ≡ (2 * whole_k.times + 1) * 2 ^ height = whole_k.is ∙ ap (λ i. (2 * whole_k.times + 1) * 2 ^ i) is_here in
+                let rest : (length places - 1) % 2 ^ height < 2 ^ height = mod-lt (length places - 1) some_places in
+                let blocks_k : (2 * whole_k.times + 1) * 2 ^ height < ((length places - 1) / 2 ^ height + 1) * 2 ^ height = omega arith in
+                let times = times_below (2 * whole_k.times + 1) ((length places - 1) / 2 ^ height + 1) (2 ^ height) blocks_k in
                 here_next k whole_k.times pos within is_here is (omega (arith, played.blocks_left))
           ];
         };
         here = λ k pos within is_here before.
-            let low = pow_level_of-le k pos (omega arith) in
-            let none : (length places - 1) / 2 ^ (level + 1) - (left - 1) ≡ 0 = omega arith in
-            let first : (2 * ((length places - 1) / 2 ^ (level + 1) - (left - 1)) + 1) * 2 ^ (level + 1) ≡ 2 ^ (level + 1) = ap (λ n. (2 * n + 1) * 2 ^ (level + 1)) none ∙ omega arith in
+            let low = pow_height_at-le k pos (omega arith) in
+            let none : (length places - 1) / 2 ^ (height + 1) - (left - 1) ≡ 0 = omega arith in
+            let first : (2 * ((length places - 1) / 2 ^ (height + 1) - (left - 1)) + 1) * 2 ^ (height + 1) ≡ 2 ^ (height + 1) = ap (λ n. (2 * n + 1) * 2 ^ (height + 1)) none ∙ omega arith in
             let no : ⊥ = omega (arith, ap (λ i. 2 ^ i) is_here) in absurd no;
       }
 
 -- all winners stand when no turn is left
-pub IsPlayed-all : {places : List Place} {winners : List (Option ℕ)} {level left : ℕ} → IsPlayed places winners level left → left ≡ 0 → length places ≤ 2 ^ 31
+pub IsPlayed-all : {places : List Place} {winners : List (Option ℕ)} {height left : ℕ} → IsPlayed places winners height left → left ≡ 0 → length places ≤ 2 ^ 31
     → (middle : ℕ) → 0 < middle → middle < length places → IsWinnerAt places winners middle
-IsPlayed-all {places} {winners} {level} {left} played none few middle pos within =
-    let some_places = pow_pos level in
-    let whole : (length places - 1) / 2 ^ level * 2 ^ level + (length places - 1) % 2 ^ level ≡ length places - 1 = div-add-mod' (length places - 1) (2 ^ level) in
-    let rest : (length places - 1) % 2 ^ level < 2 ^ level = mod-lt (length places - 1) some_places in
-    let product : (length places - 1) / 2 ^ level * 2 ^ level ≡ 0 = ap (λ n. n * 2 ^ level) (played.none_left none) ∙ omega arith in
-    played.below.wins middle pos within (below_from_pow _ _ (omega (arith, pow_level_of-le middle pos (omega arith))))
+IsPlayed-all {places} {winners} {height} {left} played none few middle pos within =
+    let some_places = pow_pos height in
+    let whole : (length places - 1) / 2 ^ height * 2 ^ height + (length places - 1) % 2 ^ height ≡ length places - 1 = div-add-mod' (length places - 1) (2 ^ height) in
+    let rest : (length places - 1) % 2 ^ height < 2 ^ height = mod-lt (length places - 1) some_places in
+    let product : (length places - 1) / 2 ^ height * 2 ^ height ≡ 0 = ap (λ n. n * 2 ^ height) (played.none_left none) ∙ omega arith in
+    played.below.wins middle pos within (below_from_pow _ _ (omega (arith, pow_height_at-le middle pos (omega arith))))
 
 -- ---- a place taken out
 pub rank_at-cleared : (places : List Place) (k i : ℕ) → i ≢ k → rank_at (cleared places k) i ≡ rank_at places i
@@ -166,10 +166,10 @@ IsGreatest-cleared places k start end rank away greatest = record {
 }
 
 -- on the way up from the place k: the winners of the small blocks round it are found anew, and those of blocks beside it stand
-pub record IsRepaired (places : List Place) (k : ℕ) (winners : List (Option ℕ)) (level : ℕ) : Type 0 where
-  pub below : AreWinnersBelow places winners level
-  pub before : (middle : ℕ) → 0 < middle → middle < length places → middle + 2 ^ level_of middle ≤ k → IsWinnerAt places winners middle
-  pub after : (middle : ℕ) → 0 < middle → middle < length places → k + 2 ^ level_of middle < middle → IsWinnerAt places winners middle
+pub record IsRepaired (places : List Place) (k : ℕ) (winners : List (Option ℕ)) (height : ℕ) : Type 0 where
+  pub below : AreWinnersBelow places winners height
+  pub before : (middle : ℕ) → 0 < middle → middle < length places → middle + 2 ^ height_at middle ≤ k → IsWinnerAt places winners middle
+  pub after : (middle : ℕ) → 0 < middle → middle < length places → k + 2 ^ height_at middle < middle → IsWinnerAt places winners middle
 
 pub IsRepaired-begin : {places : List Place} {winners : List (Option ℕ)} (k : ℕ) → ((middle : ℕ) → 0 < middle → middle < length places → IsWinnerAt places winners middle)
     → IsRepaired (cleared places k) k winners 0
@@ -181,14 +181,14 @@ IsRepaired-begin {places} {winners} k all =
       after = λ middle pos within from. IsGreatest-cleared places k _ _ _ (λ i after before. omega arith) (all middle pos (omega arith));
     }
 
--- one level up
-IsRepaired-step : {places : List Place} {k : ℕ} {winners : List (Option ℕ)} {level : ℕ} (changed : List (Option ℕ)) (start : ℕ) → IsRepaired places k winners level → IsMultiple start (level + 1)
-    → start ≤ k → k < start + 2 ^ (level + 1) → length places ≤ 2 ^ 31
-    → ((middle : ℕ) → middle < length places → (middle ≢ start + 2 ^ level → IsWinnerAt places winners middle) → IsWinnerAt places changed middle)
-    → (level_of (start + 2 ^ level) ≡ level) → IsRepaired places k changed (level + 1)
-IsRepaired-step {places} {k} {winners} {level} changed start repaired multiple from until few each at = record {
+-- one height up
+IsRepaired-step : {places : List Place} {k : ℕ} {winners : List (Option ℕ)} {height : ℕ} (changed : List (Option ℕ)) (start : ℕ) → IsRepaired places k winners height → IsMultiple start (height + 1)
+    → start ≤ k → k < start + 2 ^ (height + 1) → length places ≤ 2 ^ 31
+    → ((middle : ℕ) → middle < length places → (middle ≢ start + 2 ^ height → IsWinnerAt places winners middle) → IsWinnerAt places changed middle)
+    → (height_at (start + 2 ^ height) ≡ height) → IsRepaired places k changed (height + 1)
+IsRepaired-step {places} {k} {winners} {height} changed start repaired multiple from until few each at = record {
   below = record {
-    wins = λ middle pos within lower. each middle within (λ away. elim (cases_lt (level_of middle) level) [
+    wins = λ middle pos within lower. each middle within (λ away. elim (cases_lt (height_at middle) height) [
       | inl low ↦ repaired.below.wins middle pos within low
       | inr high ↦ beside middle pos within (omega arith) away
     ]);
@@ -197,45 +197,45 @@ IsRepaired-step {places} {k} {winners} {level} changed start repaired multiple f
   after = λ middle pos within h. each middle within (λ away. repaired.after middle pos within h);
 }
   where
-    beside : (middle : ℕ) → 0 < middle → middle < length places → level_of middle ≡ level → middle ≢ start + 2 ^ level → IsWinnerAt places winners middle
+    beside : (middle : ℕ) → 0 < middle → middle < length places → height_at middle ≡ height → middle ≢ start + 2 ^ height → IsWinnerAt places winners middle
     beside middle pos within is_here away =
         let whole = middle_of middle pos (omega arith) in
-        let is : middle ≡ (2 * whole.times + 1) * 2 ^ level = whole.is ∙ ap (λ i. (2 * whole.times + 1) * 2 ^ i) is_here in
-        let start_is : start ≡ multiple.times * 2 ^ level * 2 = omega (arith, multiple.is, ap (λ x. multiple.times * x) (pow_next level)) in
-        let length_here : 2 ^ level_of middle ≡ 2 ^ level = ap (λ i. 2 ^ i) is_here in
+        let is : middle ≡ (2 * whole.times + 1) * 2 ^ height = whole.is ∙ ap (λ i. (2 * whole.times + 1) * 2 ^ i) is_here in
+        let start_is : start ≡ multiple.times * 2 ^ height * 2 = omega (arith, multiple.is, ap (λ x. multiple.times * x) (pow_next height)) in
+        let length_here : 2 ^ height_at middle ≡ 2 ^ height = ap (λ i. 2 ^ i) is_here in
         elim (cases_order whole.times multiple.times) [
-          | inl same ↦ let no : ⊥ = away (omega (arith, is, start_is, ap (λ t. t * 2 ^ level) same)) in absurd no
+          | inl same ↦ let no : ⊥ = away (omega (arith, is, start_is, ap (λ t. t * 2 ^ height) same)) in absurd no
           | inr differs ↦ elim differs [
             | inl low ↦
-                let le : (whole.times + 1) * 2 ^ level ≤ multiple.times * 2 ^ level = mul-le-mul_right (2 ^ level) (omega arith) in
+                let le : (whole.times + 1) * 2 ^ height ≤ multiple.times * 2 ^ height = mul-le-mul_right (2 ^ height) (omega arith) in
                 repaired.before middle pos within (omega (arith, is, start_is, length_here))
             | inr high ↦
-                let le : (multiple.times + 1) * 2 ^ level ≤ whole.times * 2 ^ level = mul-le-mul_right (2 ^ level) (omega arith) in
-                repaired.after middle pos within (omega (arith, is, start_is, length_here, pow_next level))
+                let le : (multiple.times + 1) * 2 ^ height ≤ whole.times * 2 ^ height = mul-le-mul_right (2 ^ height) (omega arith) in
+                repaired.after middle pos within (omega (arith, is, start_is, length_here, pow_next height))
           ]
         ]
 
-pub IsRepaired-play : {places : List Place} {k : ℕ} {winners : List (Option ℕ)} {level : ℕ} (changed : List (Option ℕ)) (start : ℕ) → IsRepaired places k winners level → IsMultiple start (level + 1)
-    → start ≤ k → k < start + 2 ^ (level + 1) → length places ≤ 2 ^ 31 → level < 64 → SameBut winners changed (start + 2 ^ level) → IsWinnerAt places changed (start + 2 ^ level)
-    → IsRepaired places k changed (level + 1)
-IsRepaired-play {places} {k} {winners} {level} changed start repaired multiple from until few small same wins =
-    IsRepaired-step changed start repaired multiple from until few (λ middle within others. replaced winners changed middle (start + 2 ^ level) same wins others) (level_of-middle start level multiple small)
+pub IsRepaired-play : {places : List Place} {k : ℕ} {winners : List (Option ℕ)} {height : ℕ} (changed : List (Option ℕ)) (start : ℕ) → IsRepaired places k winners height → IsMultiple start (height + 1)
+    → start ≤ k → k < start + 2 ^ (height + 1) → length places ≤ 2 ^ 31 → height < 64 → SameBut winners changed (start + 2 ^ height) → IsWinnerAt places changed (start + 2 ^ height)
+    → IsRepaired places k changed (height + 1)
+IsRepaired-play {places} {k} {winners} {height} changed start repaired multiple from until few small same wins =
+    IsRepaired-step changed start repaired multiple from until few (λ middle within others. replaced winners changed middle (start + 2 ^ height) same wins others) (height_at-middle start height multiple small)
 
-pub IsRepaired-skip : {places : List Place} {k : ℕ} {winners : List (Option ℕ)} {level : ℕ} (start : ℕ) → IsRepaired places k winners level → IsMultiple start (level + 1)
-    → start ≤ k → k < start + 2 ^ (level + 1) → length places ≤ 2 ^ 31 → level < 64 → length places ≤ start + 2 ^ level → IsRepaired places k winners (level + 1)
-IsRepaired-skip {places} {k} {winners} {level} start repaired multiple from until few small past =
-    IsRepaired-step winners start repaired multiple from until few (λ middle within others. others (omega arith)) (level_of-middle start level multiple small)
+pub IsRepaired-skip : {places : List Place} {k : ℕ} {winners : List (Option ℕ)} {height : ℕ} (start : ℕ) → IsRepaired places k winners height → IsMultiple start (height + 1)
+    → start ≤ k → k < start + 2 ^ (height + 1) → length places ≤ 2 ^ 31 → height < 64 → length places ≤ start + 2 ^ height → IsRepaired places k winners (height + 1)
+IsRepaired-skip {places} {k} {winners} {height} start repaired multiple from until few small past =
+    IsRepaired-step winners start repaired multiple from until few (λ middle within others. others (omega arith)) (height_at-middle start height multiple small)
 
-pub IsRepaired-all : {places : List Place} {k : ℕ} {winners : List (Option ℕ)} {level : ℕ} → IsRepaired places k winners level → length places < 2 ^ level → length places ≤ 2 ^ 31
+pub IsRepaired-all : {places : List Place} {k : ℕ} {winners : List (Option ℕ)} {height : ℕ} → IsRepaired places k winners height → length places < 2 ^ height → length places ≤ 2 ^ 31
     → (middle : ℕ) → 0 < middle → middle < length places → IsWinnerAt places winners middle
 IsRepaired-all repaired short few middle pos within =
-    repaired.below.wins middle pos within (below_from_pow _ _ (omega (arith, pow_level_of-le middle pos (omega arith))))
+    repaired.below.wins middle pos within (below_from_pow _ _ (omega (arith, pow_height_at-le middle pos (omega arith))))
 
 -- the same tournament with all winners found
-pub IsPlayed-again : {places seen : List Place} {winners changed : List (Option ℕ)} {level left : ℕ} → IsPlayed places winners level left → length seen ≡ length places
-    → ((middle : ℕ) → 0 < middle → middle < length seen → IsWinnerAt seen changed middle) → IsPlayed seen changed level left
-IsPlayed-again {places} {seen} {winners} {changed} {level} {left} played long all =
-    let blocks : (length seen - 1) / 2 ^ level ≡ (length places - 1) / 2 ^ level = ap (λ n. (n - 1) / 2 ^ level) long in
+pub IsPlayed-again : {places seen : List Place} {winners changed : List (Option ℕ)} {height left : ℕ} → IsPlayed places winners height left → length seen ≡ length places
+    → ((middle : ℕ) → 0 < middle → middle < length seen → IsWinnerAt seen changed middle) → IsPlayed seen changed height left
+IsPlayed-again {places} {seen} {winners} {changed} {height} {left} played long all =
+    let blocks : (length seen - 1) / 2 ^ height ≡ (length places - 1) / 2 ^ height = ap (λ n. (n - 1) / 2 ^ height) long in
     record {
       blocks_left = omega (arith, played.blocks_left);
       some_left = λ h. omega (arith, played.some_left h);

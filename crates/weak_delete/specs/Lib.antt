@@ -1,4 +1,4 @@
 pub mod Places
-pub mod Levels
+pub mod Packed
 pub mod Fenwick
 pub mod Tournament

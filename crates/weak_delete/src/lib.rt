@@ -2,9 +2,9 @@
 //! its places are still live, what they weigh, and where the next live one with a large value stands.
 #![tactic(auto)]
 
-mod level;
 mod live_counts;
 mod live_max;
+mod packed;
 mod place;
 
 pub use live_counts::LiveCounts;

@@ -1,40 +1,47 @@
 //! The number and the weight of live places, by a Fenwick tree.
-ghost use Rattle.std.specs.Prelude.{◌≡◌, ℕ, ◌+◌, ◌-◌, ◌*◌, ◌^◌, ◌<◌, ◌≤◌, ◌∷◌, ◌++◌, ◌↔◌, [], IsTrue, true, false, IfOk, IfSome, IsNone, length, take, count_by, sum_by, if◌then◌else◌};
+ghost use Rattle.std.specs.Prelude.{◌≡◌, ℕ, ◌+◌, ◌-◌, ◌*◌, ◌%◌, ◌≢◌, ◌^◌, ◌<◌, ◌≤◌, ◌∷◌, ◌++◌, ◌↔◌, [], IsTrue, true, false, IfOk, IfSome, IsNone, length, take, count_by, sum_by};
 ghost use Rattle.query_laws.specs.StepLedger.{Spends};
 ghost use Rattle.weak_delete.specs.Places.{IsLive, is_live, live_amount, live_place, cleared, nothing_put, IsBuilt};
-ghost use Rattle.weak_delete.specs.Levels.{level_of};
+ghost use Rattle.row_blocks.specs.Blocks.{height_at};
 ghost use Rattle.weak_delete.specs.Fenwick.{IsOver};
 
-use crate::level::{block_len, level_above, level_at};
-use crate::place::Place;
+use crate::packed::{WIDTH, live_below, nth_live, weight_below, without};
 use query_laws::NoMemory;
 use query_laws::step_ledger::{Row, Steps};
+use row_blocks::{block_len, height_above, height_at};
 use std::alloc::Global;
 use std::marker::Model;
 use std::sync::ledger::Ledger;
 
 /// How many live places a range has, and what they weigh together.
-#[derive(Clone, Copy)]
+#[derive(Clone, Copy, Debug)]
 struct Node {
     count: u32,
     weight: u64,
 }
 
-/// Places with a weight each, which are live until they are cleared: a Fenwick tree (Fenwick 1994).
+/// Places with a weight each, which are live until they are cleared: a Fenwick tree (Fenwick 1994) over entries of sixteen
+/// places each.
 ///
-/// Node `e`, counted from 1, stands for the last `2^l` places up to the `e`-th, where `2^l` is the greatest power of two that
-/// divides `e`. While places are put, each node stands for all places up to its own, and a turn takes from one node, the
-/// last that wasn't yet turned, what stands before its range.
+/// An entry has the weights of its places, 64 bytes, and a mask of those that are live. Node `e`, counted from 1, stands for
+/// the last `2^l` entries up to the `e`-th, where `2^l` is the greatest power of two that divides `e`. While places are put,
+/// each node stands for all places up to the end of its own entry, and a turn takes from one node, the last that wasn't yet
+/// turned, what stands before its range. A place takes 5 1/8 bytes.
 #[derive(Drop)]
 pub struct LiveCounts {
-    places: Row<Place>,
+    weights: Row<[u32; WIDTH]>,
+    masks: Row<u16>,
     nodes: Row<Node>,
+    total: Node,
+    cap: usize,
+    len: usize,
     unturned: usize,
     sealed: bool,
 }
 
 impl Model for LiveCounts {
     ghost use Rattle.weak_delete.specs.Places.{LivePlaces};
+    ghost use Rattle.weak_delete.specs.Packed.{packed};
     ghost use Rattle.weak_delete.specs.Fenwick.{IsFenwick};
 
     ghost Value = { LivePlaces };
@@ -42,13 +49,13 @@ impl Model for LiveCounts {
     ghost use Rattle.std.specs.Prelude.{if◌then◌else◌};
 
     ghost view = { λ s. record {
-      places = s.places.items;
-      capacity = s.places.capacity;
+      places = packed s.weights.items s.masks.items s.len;
+      capacity = s.cap;
       sealed = s.sealed;
       left = if s.sealed then s.unturned else 0;
     } };
 
-    ghost invariant = { λ s. IsFenwick s.places s.nodes s.unturned s.sealed };
+    ghost invariant = { λ s. IsFenwick (packed s.weights.items s.masks.items s.len) s.weights s.masks s.nodes s.total s.cap s.len s.unturned s.sealed };
 }
 
 impl LiveCounts {
@@ -57,11 +64,17 @@ impl LiveCounts {
         requires { cap ≤ 2 ^ 31 }
         ensures { IfOk result (λ counts. counts ≡ nothing_put cap) }
     {
-        let places = Row::room(alloc, cap)?;
-        let nodes = Row::room(alloc, cap)?;
+        let entries = cap.div_ceil(WIDTH);
         Ok(LiveCounts {
-            places,
-            nodes,
+            weights: Row::room(alloc, entries)?,
+            masks: Row::room(alloc, entries)?,
+            nodes: Row::room(alloc, entries)?,
+            total: Node {
+                count: 0,
+                weight: 0,
+            },
+            cap,
+            len: 0,
             unturned: 0,
             sealed: false,
         })
@@ -72,8 +85,14 @@ impl LiveCounts {
     pub fn reset(&mut self)
         ensures { self.new ≡ nothing_put self.old.capacity }
     {
-        self.places.clear();
+        self.weights.clear();
+        self.masks.clear();
         self.nodes.clear();
+        self.total = Node {
+            count: 0,
+            weight: 0,
+        };
+        self.len = 0;
         self.unturned = 0;
         self.sealed = false;
     }
@@ -84,7 +103,7 @@ impl LiveCounts {
         ensures value { result ≡ length self.now.places }
         ensures within { result ≤ self.now.capacity }
     {
-        self.places.len()
+        self.len
     }
 
     /// Whether no place was put. It counts nothing.
@@ -92,7 +111,7 @@ impl LiveCounts {
     pub fn is_empty(&self) -> bool
         ensures { IsTrue result ↔ (self.now.places ≡ []) }
     {
-        self.places.is_empty()
+        self.len == 0
     }
 
     /// Whether no more places come. It counts nothing.
@@ -118,29 +137,101 @@ impl LiveCounts {
         ensures put { self.new ≡ record self.old { places = self.old.places ++ live_place weight ∷ [] } }
         ensures cost { Spends steps.old steps.new 1 0 4 }
     {
-        let before = self.whole(self.places.len(), steps);
-        self.places.push(
-            Place {
-                amount: weight,
-                live: true,
-            },
-            steps,
-        );
-        self.nodes.push(
-            Node {
-                count: before.count + 1,
-                weight: before.weight + weight as u64,
-            },
-            steps,
-        );
-        self.unturned += 1;
+        if self.len() % WIDTH == 0 {
+            self.put_first(weight, steps);
+        } else {
+            self.put_behind(weight, steps);
+        }
         steps.turn();
     }
 
-    /// The node over the places below `end`, which still stands there as it was put.
+    /// Puts the first place of an entry. The weights behind it are those of no place yet.
+    fn put_first<L: Ledger>(&mut self, weight: u32, steps: &mut Steps<L>)
+        requires open { self.old.sealed ≡ false }
+        requires room { length self.old.places < self.old.capacity }
+        requires first { length self.old.places % 16 ≡ 0 }
+        ensures put { self.new ≡ record self.old { places = self.old.places ++ live_place weight ∷ [] } }
+        ensures cost { Spends steps.old steps.new 0 0 3 }
+    {
+        self.total.count += 1;
+        self.total.weight += weight as u64;
+        self.weights.push([weight; WIDTH], steps);
+        self.masks.push(u16::MAX, steps);
+        self.nodes.push(self.total, steps);
+        self.len += 1;
+        self.unturned += 1;
+    }
+
+    /// Puts a place of an entry that has one.
+    fn put_behind<L: Ledger>(&mut self, weight: u32, steps: &mut Steps<L>)
+        requires open { self.old.sealed ≡ false }
+        requires room { length self.old.places < self.old.capacity }
+        requires behind { length self.old.places % 16 ≢ 0 }
+        ensures put { self.new ≡ record self.old { places = self.old.places ++ live_place weight ∷ [] } }
+        ensures cost { Spends steps.old steps.new 0 0 3 }
+    {
+        self.total.count += 1;
+        self.total.weight += weight as u64;
+        let entry = self.len / WIDTH;
+        let mut weights = self.weights.at(entry, steps);
+        weights[self.len % WIDTH] = weight;
+        self.weights.set(entry, weights, steps);
+        self.nodes.set(entry, self.total, steps);
+        self.len += 1;
+        self.unturned += 1;
+    }
+
+    /// Ends the puts. A turn is left for each place, of which one in sixteen builds a node. It counts nothing.
+    pub fn seal(&mut self)
+        requires { self.old.sealed ≡ false }
+        ensures sealed { self.new ≡ record self.old { sealed = true; left = self.new.left } }
+        ensures each { self.new.left ≡ length self.new.places }
+    {
+        self.sealed = true;
+    }
+
+    /// Builds a node, where the last place that is left is the first of an entry: one turn.
+    pub fn turn<L: Ledger>(&mut self, steps: &mut Steps<L>)
+        requires sealed { self.old.sealed ≡ true }
+        requires left { 0 < self.old.left }
+        ensures turned { self.new ≡ record self.old { left = self.old.left - 1 } }
+        ensures cost { Spends steps.old steps.new 1 0 8 }
+    {
+        let last = self.unturned - 1;
+        if last % WIDTH != 0 {
+            self.unturned = last;
+            steps.turn();
+            return;
+        }
+        let entry = last / WIDTH;
+        let node = self.own_node(entry, steps);
+        self.nodes.set(entry, node, steps);
+        self.unturned = last;
+        steps.turn();
+    }
+
+    /// The node of an entry over its own range, made of two that still stand for all places before their ends.
+    fn own_node<L: Ledger>(&self, entry: usize, steps: &mut Steps<L>) -> Node
+        requires sealed { self.now.sealed ≡ true }
+        requires unturned { 16 * entry < self.now.left }
+        requires small { entry < 2 ^ 31 }
+        ensures over { IsOver self.now.places (16 * (entry + 1 - 2 ^ height_at (entry + 1))) (16 * (entry + 1)) result }
+        ensures cost { Spends steps.old steps.new 0 0 2 }
+    {
+        let start = entry + 1 - block_len(height_at(entry + 1));
+        let whole = self.whole(entry + 1, steps);
+        let before = self.whole(start, steps);
+        Node {
+            count: whole.count - before.count,
+            weight: whole.weight - before.weight,
+        }
+    }
+
+    /// The node over all entries before one, which still stands there as it was put.
     fn whole<L: Ledger>(&self, end: usize, steps: &mut Steps<L>) -> Node
-        requires { end ≤ (if self.now.sealed then self.now.left else length self.now.places) }
-        ensures over { IsOver self.now.places 0 end result }
+        requires sealed { self.now.sealed ≡ true }
+        requires unturned { 16 * end < self.now.left + 16 }
+        ensures over { IsOver self.now.places 0 (16 * end) result }
         ensures cost { Spends steps.old steps.new 0 0 1 }
     {
         if end == 0 {
@@ -152,51 +243,26 @@ impl LiveCounts {
         self.nodes.at(end - 1, steps)
     }
 
-    /// Ends the puts. A turn is left for each place. It counts nothing.
-    pub fn seal(&mut self)
-        requires { self.old.sealed ≡ false }
-        ensures sealed { self.new ≡ record self.old { sealed = true; left = self.new.left } }
-        ensures each { self.new.left ≡ length self.new.places }
-    {
-        self.sealed = true;
-    }
-
-    /// Builds one node: one turn.
-    pub fn turn<L: Ledger>(&mut self, steps: &mut Steps<L>)
-        requires sealed { self.old.sealed ≡ true }
-        requires left { 0 < self.old.left }
-        ensures turned { self.new ≡ record self.old { left = self.old.left - 1 } }
-        ensures cost { Spends steps.old steps.new 1 0 8 }
-    {
-        let end = self.unturned;
-        let whole = self.whole(end, steps);
-        let before = self.whole(end - block_len(level_at(end)), steps);
-        let turned = Node {
-            count: whole.count - before.count,
-            weight: whole.weight - before.weight,
-        };
-        self.nodes.set(end - 1, turned, steps);
-        self.unturned = end - 1;
-        steps.turn();
-    }
-
-    /// Takes the live place `k` out of its node in each level of the tree. A caller knows by its own flags that it is live.
+    /// Takes the live place `k` out of its node in each height of the tree. A caller knows by its own flags that it is live.
     pub fn clear<L: Ledger>(&mut self, k: usize, steps: &mut Steps<L>)
         requires built { IsBuilt self.old }
         requires live { IsLive self.old.places k }
         ensures cleared { self.new ≡ record self.old { places = cleared self.old.places k } }
         ensures cost { (h : ℕ) → length self.old.places ≤ 2 ^ h → Spends steps.old steps.new 0 0 (4 * (h + 2)) }
     {
-        let amount = self.places.at(k, steps).amount;
-        let len = self.places.len();
-        let mut level = level_above(len);
+        let entry = k / WIDTH;
+        let slot = k % WIDTH;
+        let weights = self.weights.at(entry, steps);
+        let amount = weights[slot];
+        let entries = self.nodes.len();
+        let mut height = height_above(entries);
         let mut start = 0;
-        while level > 0 {
-            level -= 1;
-            let end = start + block_len(level);
-            if end <= k {
+        while height > 0 {
+            height -= 1;
+            let end = start + block_len(height);
+            if end <= entry {
                 start = end;
-            } else if end <= len {
+            } else if end <= entries {
                 let node = self.nodes.at(end - 1, steps);
                 let node = Node {
                     count: node.count - 1,
@@ -205,53 +271,64 @@ impl LiveCounts {
                 self.nodes.set(end - 1, node, steps);
             }
         }
-        self.places.set(
-            k,
-            Place {
-                amount,
-                live: false,
-            },
-            steps,
-        );
+        self.total.count -= 1;
+        self.total.weight -= amount as u64;
+        let mask = self.masks.at(entry, steps);
+        self.masks.set(entry, without(mask, slot), steps);
     }
 
-    /// The number of live places below `k`: at most one touch for each level of the tree.
+    /// The number of live places below `k`: at most `h + 1` touches, where there are at most `2^h` places.
     pub fn prefix<L: Ledger>(&self, k: usize, steps: &mut Steps<L>) -> u64
         requires built { IsBuilt self.now }
         requires within { k ≤ length self.now.places }
         ensures count { result ≡ count_by is_live (take k self.now.places) }
-        ensures cost { (h : ℕ) → length self.now.places ≤ 2 ^ h → Spends steps.old steps.new 0 0 (2 * (h + 2)) }
+        ensures cost { (h : ℕ) → length self.now.places ≤ 2 ^ h → Spends steps.old steps.new 0 0 (h + 1) }
     {
-        self.below(k, steps).count as u64
+        if k == self.len {
+            return self.total.count as u64;
+        }
+        let mask = self.masks.at(k / WIDTH, steps);
+        let before = self.below(k / WIDTH, steps).count;
+        before as u64 + live_below(mask, k % WIDTH) as u64
     }
 
-    /// The weight of the live places below `k`, which never wraps: at most one touch for each level of the tree.
+    /// The weight of the live places below `k`, which never wraps: at most `h + 1` touches, where there are at most `2^h` places.
     pub fn sum_prefix<L: Ledger>(&self, k: usize, steps: &mut Steps<L>) -> u64
         requires built { IsBuilt self.now }
         requires within { k ≤ length self.now.places }
         ensures sum { result ≡ sum_by live_amount (take k self.now.places) }
-        ensures cost { (h : ℕ) → length self.now.places ≤ 2 ^ h → Spends steps.old steps.new 0 0 (2 * (h + 2)) }
-    {
-        self.below(k, steps).weight
-    }
-
-    /// The node over all places below `k`, added up from the halves of blocks that end there.
-    fn below<L: Ledger>(&self, k: usize, steps: &mut Steps<L>) -> Node
-        requires built { IsBuilt self.now }
-        requires within { k ≤ length self.now.places }
-        ensures over { IsOver self.now.places 0 k result }
         ensures cost { (h : ℕ) → length self.now.places ≤ 2 ^ h → Spends steps.old steps.new 0 0 (h + 1) }
     {
-        let mut level = level_above(self.places.len());
+        if k == self.len {
+            return self.total.weight;
+        }
+        if k == 0 {
+            return 0;
+        }
+        let weights = self.weights.at(k / WIDTH, steps);
+        let mask = self.masks.at(k / WIDTH, steps);
+        let before = self.below(k / WIDTH, steps).weight;
+        before + weight_below(&weights, mask, k % WIDTH)
+    }
+
+    /// The node over all places before an entry, added up from the halves of blocks that end there.
+    fn below<L: Ledger>(&self, entry: usize, steps: &mut Steps<L>) -> Node
+        requires built { IsBuilt self.now }
+        requires within { 16 * entry < length self.now.places }
+        requires small { entry ≤ 2 ^ 31 }
+        ensures over { IsOver self.now.places 0 (16 * entry) result }
+        ensures cost { (h : ℕ) → entry < 2 ^ h → Spends steps.old steps.new 0 0 h }
+    {
+        let mut height = height_above(entry);
         let mut start = 0;
         let mut sum = Node {
             count: 0,
             weight: 0,
         };
-        while level > 0 {
-            level -= 1;
-            let end = start + block_len(level);
-            if end <= k {
+        while height > 0 {
+            height -= 1;
+            let end = start + block_len(height);
+            if end <= entry {
                 let node = self.half(start, end, steps);
                 sum.count += node.count;
                 sum.weight += node.weight;
@@ -261,36 +338,43 @@ impl LiveCounts {
         sum
     }
 
-    /// The node over the first half of a block.
+    /// The node over the first half of a block of entries.
     #[inline]
     fn half<L: Ledger>(&self, start: usize, end: usize, steps: &mut Steps<L>) -> Node
         requires built { IsBuilt self.now }
         requires some { 0 < end }
-        requires within { end ≤ length self.now.places }
-        requires half { start + 2 ^ level_of end ≡ end }
-        ensures over { IsOver self.now.places start end result }
+        requires within { 16 * end < length self.now.places + 16 }
+        requires half { start + 2 ^ height_at end ≡ end }
+        ensures over { IsOver self.now.places (16 * start) (16 * end) result }
+
+        // The sums of any places fit.
+        ensures few { length self.now.places ≤ 2 ^ 31 }
+        ensures light { sum_by live_amount self.now.places ≤ length self.now.places * (2 ^ 32 - 1) }
         ensures cost { Spends steps.old steps.new 0 0 1 }
     {
         self.nodes.at(end - 1, steps)
     }
 
-    /// The live place with exactly `j` live places below it, or None where at most `j` are live: at most one touch for each
-    /// level of the tree.
+    /// The live place with exactly `j` live places below it, or None where at most `j` are live: at most `h + 1` touches, where
+    /// there are at most `2^h` places.
     pub fn kth_live<L: Ledger>(&self, j: usize, steps: &mut Steps<L>) -> Option<usize>
         requires built { IsBuilt self.now }
         ensures found { IfSome result (λ k. IsLive self.now.places k) }
         ensures rank { IfSome result (λ k. count_by is_live (take k self.now.places) ≡ j) }
         ensures none { IsNone result ↔ (count_by is_live self.now.places ≤ j) }
-        ensures cost { (h : ℕ) → length self.now.places ≤ 2 ^ h → Spends steps.old steps.new 0 0 (2 * (h + 2)) }
+        ensures cost { (h : ℕ) → length self.now.places ≤ 2 ^ h → Spends steps.old steps.new 0 0 (h + 1) }
     {
-        let len = self.places.len();
-        let mut level = level_above(len);
+        if j >= self.total.count as usize {
+            return None;
+        }
+        let last = (self.len - 1) / WIDTH;
+        let mut height = height_above(last);
         let mut start = 0;
         let mut rest = j;
-        while level > 0 {
-            level -= 1;
-            let end = start + block_len(level);
-            if end <= len {
+        while height > 0 {
+            height -= 1;
+            let end = start + block_len(height);
+            if end <= last {
                 let count = self.half(start, end, steps).count as usize;
                 if count <= rest {
                     rest -= count;
@@ -298,6 +382,7 @@ impl LiveCounts {
                 }
             }
         }
-        if start < len { Some(start) } else { None }
+        let mask = self.masks.at(start, steps);
+        Some(WIDTH * start + nth_live(mask, rest))
     }
 }

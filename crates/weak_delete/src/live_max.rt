@@ -3,13 +3,13 @@ ghost use Rattle.std.specs.Prelude.{◌≡◌, ℕ, ◌+◌, ◌-◌, ◌*◌, �
 ghost use Rattle.std.specs.List.{position_from};
 ghost use Rattle.query_laws.specs.StepLedger.{Spends};
 ghost use Rattle.weak_delete.specs.Places.{IsLive, is_live_at_least, live_place, cleared, nothing_put, IsBuilt};
-ghost use Rattle.weak_delete.specs.Levels.{IsMultiple};
+ghost use Rattle.row_blocks.specs.Blocks.{IsMultiple};
 ghost use Rattle.weak_delete.specs.Tournament.{rank_of, winner_rank, rank_at, IsGreatest, IsWinnerAt, AreWinnersBelow, IsBelowBound};
 
-use crate::level::{block_len, level_above};
 use crate::place::Place;
 use query_laws::NoMemory;
 use query_laws::step_ledger::{Row, Steps};
+use row_blocks::{block_len, height_above};
 use std::alloc::Global;
 use std::marker::Model;
 use std::sync::ledger::Ledger;
@@ -23,7 +23,7 @@ use std::sync::ledger::Ledger;
 pub struct LiveMax {
     places: Row<Place>,
     winners: Row<Option<u32>>,
-    level: u32,
+    height: u32,
     left: usize,
     sealed: bool,
 }
@@ -41,7 +41,7 @@ impl Model for LiveMax {
       left = s.left;
     } };
 
-    ghost invariant = { λ s. IsTournament s.places s.winners s.level s.left s.sealed };
+    ghost invariant = { λ s. IsTournament s.places s.winners s.height s.left s.sealed };
 }
 
 /// What a place brings into the tournament: its value while it is live.
@@ -80,19 +80,19 @@ fn winner_of<L: Ledger>(
     places: &Row<Place>,
     winners: &Row<Option<u32>>,
     start: usize,
-    level: u32,
+    height: u32,
     steps: &mut Steps<L>,
 ) -> Option<u32>
     requires same_length { length winners.now.items ≡ length places.now.items }
     requires few { length places.now.items ≤ 2 ^ 31 }
-    requires block { IsMultiple start level }
-    requires small { level ≤ 32 }
+    requires block { IsMultiple start height }
+    requires small { height ≤ 32 }
     requires within { start < length places.now.items }
-    requires built { AreWinnersBelow places.now.items winners.now.items level }
-    ensures greatest { IsGreatest places.now.items start (start + 2 ^ level) (winner_rank result) }
+    requires built { AreWinnersBelow places.now.items winners.now.items height }
+    ensures greatest { IsGreatest places.now.items start (start + 2 ^ height) (winner_rank result) }
     ensures cost { Spends steps.old steps.new 0 0 1 }
 {
-    let mut low = level;
+    let mut low = height;
     while low > 0 {
         let middle = start + block_len(low - 1);
         if middle < winners.len() {
@@ -108,24 +108,24 @@ fn play<L: Ledger>(
     places: &Row<Place>,
     winners: &mut Row<Option<u32>>,
     start: usize,
-    level: u32,
+    height: u32,
     steps: &mut Steps<L>,
 )
     requires same_length { length winners.old.items ≡ length places.now.items }
     requires few { length places.now.items ≤ 2 ^ 31 }
-    requires block { IsMultiple start (level + 1) }
-    requires small { level < 32 }
-    requires within { start + 2 ^ level < length places.now.items }
-    requires built { AreWinnersBelow places.now.items winners.old.items level }
-    ensures wins { IsWinnerAt places.now.items winners.new.items (start + 2 ^ level) }
-    ensures others { (k : ℕ) → k ≢ start + 2 ^ level → slice_index_or winners.new.items k None ≡ slice_index_or winners.old.items k None }
+    requires block { IsMultiple start (height + 1) }
+    requires small { height < 32 }
+    requires within { start + 2 ^ height < length places.now.items }
+    requires built { AreWinnersBelow places.now.items winners.old.items height }
+    ensures wins { IsWinnerAt places.now.items winners.new.items (start + 2 ^ height) }
+    ensures others { (k : ℕ) → k ≢ start + 2 ^ height → slice_index_or winners.new.items k None ≡ slice_index_or winners.old.items k None }
     ensures long { length winners.new.items ≡ length winners.old.items }
     ensures room { winners.new.capacity ≡ winners.old.capacity }
     ensures cost { Spends steps.old steps.new 0 0 3 }
 {
-    let middle = start + block_len(level);
-    let first = winner_of(places, winners, start, level, steps);
-    let second = winner_of(places, winners, middle, level, steps);
+    let middle = start + block_len(height);
+    let first = winner_of(places, winners, start, height, steps);
+    let second = winner_of(places, winners, middle, height, steps);
     winners.set(middle, greater(first, second), steps);
 }
 
@@ -140,7 +140,7 @@ impl LiveMax {
         Ok(LiveMax {
             places,
             winners,
-            level: 0,
+            height: 0,
             left: 0,
             sealed: false,
         })
@@ -153,7 +153,7 @@ impl LiveMax {
     {
         self.places.clear();
         self.winners.clear();
-        self.level = 0;
+        self.height = 0;
         self.left = 0;
         self.sealed = false;
     }
@@ -215,7 +215,7 @@ impl LiveMax {
         ensures sealed { self.new ≡ record self.old { sealed = true; left = self.new.left } }
         ensures bounded { self.new.left ≤ length self.new.places }
     {
-        self.level = 0;
+        self.height = 0;
         self.left = self.places.len().saturating_sub(1);
         self.sealed = true;
     }
@@ -227,13 +227,13 @@ impl LiveMax {
         ensures turned { self.new ≡ record self.old { left = self.old.left - 1 } }
         ensures cost { Spends steps.old steps.new 1 0 8 }
     {
-        let half = block_len(self.level);
+        let half = block_len(self.height);
         let blocks = (self.places.len() - 1) / half;
         let start = 2 * (blocks - self.left) * half;
-        play(&self.places, &mut self.winners, start, self.level, steps);
+        play(&self.places, &mut self.winners, start, self.height, steps);
         self.left -= 1;
         if self.left == blocks / 2 {
-            self.level += 1;
+            self.height += 1;
         }
         steps.turn();
     }
@@ -255,20 +255,20 @@ impl LiveMax {
             },
             steps,
         );
-        for level in 0..level_above(self.places.len()) {
-            let half = block_len(level);
+        for height in 0..height_above(self.places.len()) {
+            let half = block_len(height);
             let start = k / (2 * half) * (2 * half);
             if start + half >= self.places.len() {
                 continue;
             }
-            play(&self.places, &mut self.winners, start, level, steps);
+            play(&self.places, &mut self.winners, start, height, steps);
         }
     }
 
     /// The first live place from `from` on and below `to` whose value is at least `bound`.
     ///
     /// It goes up from `from` over blocks that grow, until one has such a winner, and down to the place in that block. So each
-    /// level costs at most two touches.
+    /// height costs at most two touches.
     pub fn next_at_least<L: Ledger>(
         &self,
         from: usize,
@@ -282,57 +282,57 @@ impl LiveMax {
         ensures first { result ≡ position_from (is_live_at_least bound) from (slice_range self.now.places from to) }
         ensures cost { (h : ℕ) → length self.now.places ≤ 2 ^ h → Spends steps.old steps.new 0 0 (6 * (h + 2)) }
     {
-        let top = level_above(self.places.len());
+        let top = height_above(self.places.len());
         let mut start = from;
-        for level in 0..top + 1 {
-            if level < top && start / block_len(level) % 2 == 0 {
+        for height in 0..top + 1 {
+            if height < top && start / block_len(height) % 2 == 0 {
                 continue;
             }
             if start >= to {
                 break;
             }
-            if reaches(self.winner(start, level, steps), bound) {
-                let k = self.first_in(start, level, bound, steps);
+            if reaches(self.winner(start, height, steps), bound) {
+                let k = self.first_in(start, height, bound, steps);
                 return if k < to { Some(k) } else { None };
             }
-            start += block_len(level);
+            start += block_len(height);
         }
         None
     }
 
     /// The winner of a block.
     #[inline]
-    fn winner<L: Ledger>(&self, start: usize, level: u32, steps: &mut Steps<L>) -> Option<u32>
+    fn winner<L: Ledger>(&self, start: usize, height: u32, steps: &mut Steps<L>) -> Option<u32>
         requires built { IsBuilt self.now }
-        requires block { IsMultiple start level }
-        requires small { level ≤ 32 }
+        requires block { IsMultiple start height }
+        requires small { height ≤ 32 }
         requires within { start < length self.now.places }
-        ensures greatest { IsGreatest self.now.places start (start + 2 ^ level) (winner_rank result) }
+        ensures greatest { IsGreatest self.now.places start (start + 2 ^ height) (winner_rank result) }
         ensures few { length self.now.places ≤ 2 ^ 31 }
         ensures cost { Spends steps.old steps.new 0 0 1 }
     {
-        winner_of(&self.places, &self.winners, start, level, steps)
+        winner_of(&self.places, &self.winners, start, height, steps)
     }
 
     /// The first place of a block that reaches the bound, where one of the block does.
     fn first_in<L: Ledger>(
         &self,
         start: usize,
-        level: u32,
+        height: u32,
         bound: u32,
         steps: &mut Steps<L>,
     ) -> usize
         requires built { IsBuilt self.now }
-        requires block { IsMultiple start level }
-        requires small { level ≤ 32 }
-        requires some { ¬ IsBelowBound self.now.places start (start + 2 ^ level) bound }
+        requires block { IsMultiple start height }
+        requires small { height ≤ 32 }
+        requires some { ¬ IsBelowBound self.now.places start (start + 2 ^ height) bound }
         ensures after { start ≤ result }
         ensures below { IsBelowBound self.now.places start result bound }
         ensures above { bound < rank_at self.now.places result }
-        ensures cost { Spends steps.old steps.new 0 0 level }
+        ensures cost { Spends steps.old steps.new 0 0 height }
     {
         let mut first = start;
-        let mut low = level;
+        let mut low = height;
         while low > 0 {
             low -= 1;
             if !reaches(self.winner(first, low, steps), bound) {

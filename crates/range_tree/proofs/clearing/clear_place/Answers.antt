@@ -10,7 +10,7 @@ use Rattle.range_tree.specs.declared.level.Level.{Level}
 use Rattle.range_tree.specs.Rows.{IsLevel, AreLevels, counted}
 use Rattle.range_tree.specs.Growing.{HasRoom}
 use Rattle.range_tree.proofs.HeightLemmas.{levels_for-small, levels_for-few}
-use Rattle.range_tree.proofs.Slots.{slice_get-set_other}
+use Rattle.row_blocks.proofs.Lists.{slice_get-set_other}
 use Rattle.range_tree.proofs.ClearingLemmas.{block_bounds, block_of, entry_found, entry_live, level_cleared, cleared_more}
 use Rattle.range_tree.proofs.clearing.clear_place.Goals as goal
 

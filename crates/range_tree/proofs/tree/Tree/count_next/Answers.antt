@@ -3,7 +3,7 @@ use Rattle.std.proofs.lemmas.Option.{slice_get-get_or, same_Some}
 use Rattle.std.proofs.lemmas.List.{length-set}
 use Rattle.weak_delete.specs.declared.place.Place.{Place}
 use Rattle.range_tree.specs.declared.level.Level.{Level}
-use Rattle.range_tree.proofs.Slots.{slice_get-set_same, slice_get-set_other}
+use Rattle.row_blocks.proofs.Lists.{slice_get-set_same, slice_get-set_other}
 use Rattle.range_tree.proofs.CountingGrowth.{grows, IsGrowing-counted, IsCopiedOnce}
 use Rattle.range_tree.proofs.tree.Tree.count_next.Goals as goal
 

@@ -1,19 +1,19 @@
-use Rattle.std.proofs.Common.{◌≡◌, ◌+◌, ◌-◌, ◌^◌, ◌<◌, ◌≤◌, take}
+use Rattle.std.proofs.Common.{◌≡◌, ◌+◌, ◌-◌, ◌*◌, ◌^◌, ◌<◌, ◌≤◌, take}
 use Rattle.std.specs.List.{count_by}
 use Rattle.query_laws.specs.StepLedger.{Spends}
 use Rattle.weak_delete.specs.Places.{is_live}
-use Rattle.weak_delete.specs.Levels.{IsMultiple}
+use Rattle.row_blocks.specs.Blocks.{IsMultiple}
 use Rattle.weak_delete.proofs.live_counts.LiveCounts.kth_live.Given as goal
 
-abbrev pub invariant-loop-level : goal.invariant-loop-level
-invariant-loop-level g l = record {
-  block : IsMultiple l.start l.level;
-  within : l.start ≤ l.len;
-  lower : l.level ≤ l.initial.level;
-  counted : count_by is_live (take l.start l.self.places) + l.rest ≡ l.j;
-  next : l.start + 2 ^ l.level ≤ l.len → l.j < count_by is_live (take (l.start + 2 ^ l.level) l.self.places);
-  spent : Spends l.initial.steps l.steps 0 0 (l.initial.level - l.level);
+abbrev pub invariant-loop-height : goal.invariant-loop-height
+invariant-loop-height g l = record {
+  block : IsMultiple l.start l.height;
+  within : l.start ≤ l.last;
+  lower : l.height ≤ l.initial.height;
+  counted : count_by is_live (take (16 * l.start) l.self.places) + l.rest ≡ l.j;
+  next : l.j < count_by is_live (take (16 * (l.start + 2 ^ l.height)) l.self.places);
+  spent : Spends l.initial.steps l.steps 0 0 (l.initial.height - l.height);
 }
 
-abbrev pub decreases-loop-level : goal.decreases-loop-level
-decreases-loop-level g l = l.level
+abbrev pub decreases-loop-height : goal.decreases-loop-height
+decreases-loop-height g l = l.height

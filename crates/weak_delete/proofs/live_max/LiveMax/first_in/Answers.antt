@@ -2,7 +2,7 @@ use Rattle.std.proofs.Common.{ℕ, ◌+◌, ◌-◌, ◌^◌, ◌<◌, ◌≤◌
 use Rattle.std.proofs.lemmas.Bool.{cases_lt}
 use Rattle.std.proofs.Math.Nat.{pow-le-pow_right, le_trans}
 use Rattle.query_laws.proofs.Counting.{Spends-then, Spends-within}
-use Rattle.weak_delete.proofs.Levels.{halved}
+use Rattle.row_blocks.proofs.Blocks.{halved}
 use Rattle.weak_delete.proofs.Winners.{inside_places, missed_from, reached_from}
 use Rattle.weak_delete.proofs.live_max.LiveMax.first_in.Goals as goal
 

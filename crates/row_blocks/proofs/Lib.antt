@@ -1,0 +1,4 @@
+pub mod Blocks
+pub mod Lists
+pub mod Searching
+pub mod Partitioning

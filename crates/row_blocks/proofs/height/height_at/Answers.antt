@@ -1,0 +1,5 @@
+use Rattle.row_blocks.proofs.Blocks.{height_at-is}
+use Rattle.row_blocks.proofs.height.height_at.Goals as goal
+
+pub returns-clause-value : goal.returns-clause-value
+returns-clause-value c = height_at-is c.args.end

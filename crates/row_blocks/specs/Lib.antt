@@ -1,0 +1,4 @@
+pub mod Blocks
+pub mod Heights
+pub mod Search
+pub mod Partitions
