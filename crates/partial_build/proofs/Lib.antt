@@ -1,0 +1,3 @@
+pub mod Stamps
+pub mod KeepingUp
+pub mod Clock

@@ -1,0 +1,112 @@
+-- What contracts see of a construction: a new part made of two older ones, some ticks at a time, while items of these still die.
+use Rattle.std.specs.Prelude.{◌≡◌, ◌≢◌, ℕ, ◌+◌, ◌-◌, ◌*◌, ◌^◌, ◌<◌, ◌≤◌, ◌&&◌, Bool, true, false, not, if◌then◌else◌, Option, Some, None, List, [], ◌++◌, length, map, All, AllPairs, ◌⊎◌, slice_get, slice_index_or}
+use Rattle.std.specs.List.{items_where_true}
+use Rattle.std.specs.Option.{is_some}
+use Rattle.query_laws.specs.Permuted.{Permuted}
+use Rattle.builder_trait.specs.Parts.{Contents, IsPart, has_stamp}
+use Rattle.ordered_merge.specs.Merging.{Merging, Merges, unbegun}
+use Rattle.partial_build.specs.NewPart.{Growth, put_of, IsAllLive}
+use Rattle.partial_build.specs.Quota.{quota}
+
+-- the level that the new part goes to; the ticks done; what was read of the two sources, and which of their items were taken; the
+-- new part, with those of its items that are marked; and the items that died in a source after they were taken, and wait to be
+-- marked
+pub record Construction (Item : Type 0) : Type 0 where
+  pub level : ℕ
+  pub ticks : ℕ
+  pub merge : Merging Item
+  pub part : Growth Item
+  pub waiting : List Item
+
+-- whether the item that was read at a place was taken
+abbrev pub is_taken : List (Option ℕ) → ℕ → Bool
+is_taken table k = is_some (slice_index_or table k None)
+
+module _ {Item : Type 0} where
+  -- half of the ticks: in these the part is built
+  abbrev pub half_of : Construction Item → ℕ
+  half_of c = 2 ^ (c.level - 1)
+
+  -- the turns that are left: those of the merge, and those of the builder, or the most that it may have where it isn't sealed
+  abbrev pub turns_left : ℕ → ℕ → Construction Item → ℕ
+  turns_left slope base c =
+      c.merge.left + (if c.part.is_sealed then c.part.left else 2 ^ (c.level - 1) * (slope * c.level + base))
+
+  -- Right after a tick, and before an item is noted: what is left can be done in the ticks to come.
+  pub record IsOnTime (slope base : ℕ) (c : Construction Item) : Type 0 where
+    pub in_time : turns_left slope base c ≤ (half_of c - c.ticks) * quota slope base c.level
+    pub few_waiting : length c.waiting ≤ c.ticks
+    pub few_to_come : length c.waiting ≤ 2 ^ c.level - c.ticks
+
+  -- the items have different stamps
+  abbrev pub AllStampsDiffer : (Item → ℕ) → List Item → Type 0
+  AllStampsDiffer stamp xs = AllPairs (λ x y. stamp x ≢ stamp y) xs
+
+  abbrev pub live_of : Contents Item → List Item
+  live_of part = items_where_true part.flags part.items
+
+  -- whether the item with a stamp is live in the new part, and doesn't wait to be marked there
+  abbrev pub stays : (Item → ℕ) → Contents Item → List Item → ℕ → Bool
+  stays stamp part waiting s = has_stamp stamp s (live_of part) && not (has_stamp stamp s waiting)
+
+  -- of what was read of a source, exactly that is live which was taken and stays
+  abbrev pub IsUpToDate : (Item → ℕ) → Contents Item → List Item → List (Option ℕ) → Contents Item → Type 0
+  IsUpToDate stamp part waiting table source =
+      (k : ℕ) (x : Item) → k < length table → slice_get source.items k ≡ Some x
+      → slice_get source.flags k ≡ Some (is_taken table k && stays stamp part waiting (stamp x))
+
+  -- the item was read of a source
+  abbrev pub IsReadOf : List (Option ℕ) → List Item → Item → Type 0
+  IsReadOf table xs x = (k : ℕ) × (k < length table) × (slice_get xs k ≡ Some x)
+
+  -- what was read of a and b is in the new part or waits, as a and b are now
+  pub record KeepsUp (stamp : Item → ℕ) (before : ℕ → Item → Item → Bool) (m : Merging Item) (part : Contents Item) (waiting : List Item)
+      (a b : Contents Item) : Type 0 where
+    pub merges : Merges stamp before m a b (put_of part)
+    pub valid : IsPart before a
+    pub other_valid : IsPart before b
+    pub apart : AllStampsDiffer stamp a.items
+    pub other_apart : AllStampsDiffer stamp b.items
+    pub up_to_date : IsUpToDate stamp part waiting m.a.table a
+    pub other_up_to_date : IsUpToDate stamp part waiting m.b.table b
+    pub noted : All (λ x. IsReadOf m.a.table a.items x ⊎ IsReadOf m.b.table b.items x) waiting
+
+  -- the construction of the new part of a and b, as these are now
+  abbrev pub Builds : (Item → ℕ) → (ℕ → Item → Item → Bool) → Construction Item → Contents Item → Contents Item → Type 0
+  Builds stamp before c a b = KeepsUp stamp before c.merge c.part.contents c.waiting a b
+
+  -- the items of a source that were dead when they were read
+  abbrev pub skipped_of : List (Option ℕ) → List Item → List Item
+  skipped_of table xs = items_where_true (map (λ e. not (is_some e)) table) xs
+
+  -- The new part of two sources: live are the items that live in these, and together with those that were skipped its items are theirs.
+  pub record IsPublished (c : Construction Item) (a b fresh : Contents Item) : Type 0 where
+    pub live : Permuted (live_of fresh) (live_of a ++ live_of b)
+    pub items : Permuted (fresh.items ++ (skipped_of c.merge.a.table a.items ++ skipped_of c.merge.b.table b.items)) (a.items ++ b.items)
+    pub level : fresh.at_level ≡ c.level
+
+-- Between any two calls: what is left can be done in time, where one more item may wait than right after a tick.
+pub record IsUnderConstruction {Item : Type 0} (slope base room : ℕ) (c : Construction Item) : Type 0 where
+  pub least : 1 ≤ c.level
+  pub most : c.level < 32
+  pub ticks_few : c.ticks ≤ 2 ^ c.level
+  pub at_level : c.part.contents.at_level ≡ c.level
+  pub flagged : length c.part.contents.flags ≡ length c.part.contents.items
+  pub wide : 2 ^ (c.level - 1) + 1 ≤ room
+  pub as_wide : c.merge.capacity ≡ 2 ^ (c.level - 1)
+  pub fresh : c.part.is_built ≡ false → IsAllLive c.part.contents
+  pub sealed : c.merge.left ≡ 0 → c.part.is_sealed ≡ true
+  pub unsealed : 0 < c.merge.left → (c.part.is_sealed ≡ false) × (c.part.is_built ≡ false)
+  pub to_turn : c.part.is_built ≡ false → c.part.is_sealed ≡ true → 0 < c.part.left
+  pub built : c.part.is_built ≡ true → c.part.left ≡ 0
+  pub in_time : turns_left slope base c ≤ (2 ^ (c.level - 1) - c.ticks) * quota slope base c.level
+  pub few_waiting : length c.waiting ≤ c.ticks + 1
+  pub few_to_come : length c.waiting ≤ 2 ^ c.level - c.ticks + 1
+
+-- room for a construction into a level, and nothing in it
+pub record AreTables {Item : Type 0} (level : ℕ) (m : Merging Item) (waiting : List Item) (room : ℕ) : Type 0 where
+  pub least : 1 ≤ level
+  pub most : level < 32
+  pub unbegun : m ≡ unbegun (2 ^ (level - 1))
+  pub none_waiting : waiting ≡ []
+  pub wide : 2 ^ (level - 1) + 1 ≤ room

@@ -1,0 +1,3 @@
+pub mod Quota
+pub mod NewPart
+pub mod Construction

@@ -1,0 +1,14 @@
+//! One construction, spread over many updates: two parts become one while both are still in use.
+//!
+//! A part of `2^i` items can't be made in one update. So its construction is spread over `2^i` ticks (Overmars and van Leeuwen
+//! 1981): in the first half of them the two sources are read and the part is built, a quota of turns a tick. An item of a source
+//! that dies after it was read is noted; once the part is built, each tick marks two of those that wait in the new part, so that
+//! none is left at the end.
+#![tactic(auto)]
+
+mod build;
+mod new_part;
+mod room;
+
+pub use build::Build;
+pub use room::{Room, Tables};
