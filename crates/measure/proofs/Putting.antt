@@ -1,5 +1,5 @@
 -- What each put of items in both orders takes.
-use Rattle.std.proofs.Common.{◌≡◌, ℕ, ◌+◌, ◌<◌, ◌≤◌, ◌^◌, Bool, IsTrue, List, [], ◌∷◌, ◌++◌, length, map, take, get_or, refl, sym, ap, ap₂, ◌∙◌, arith, subst, Some, slice_get, slice_index, length-take-le, All, AllPairs}
+use Rattle.std.proofs.Common.{◌≡◌, ℕ, ◌+◌, ◌<◌, ◌≤◌, ◌^◌, Bool, IsTrue, List, [], ◌∷◌, ◌++◌, length, map, take, get_or, refl, sym, ap, ap₂, ◌∙◌, arith, subst, Some, slice_get, length-take-le, All, AllPairs}
 use Rattle.std.proofs.lemmas.List.{get_or-take, take_more}
 use Rattle.std.proofs.lemmas.Option.{slice_get_within, get_or_from_slice_get, slice_get-get_or, slice_get-map}
 use Rattle.std.specs.Option.{option_map}
@@ -7,7 +7,6 @@ use Rattle.builder_trait.specs.Parts.{Contents, IsPart}
 use Rattle.builder_trait.specs.Builders.{Progress, FitsFirst, FitsSecond, with_put}
 use Rattle.query_laws.proofs.Permutations.{Permuted-length}
 use Rattle.builder_trait.proofs.Places.{slice_get-placed, length-placed}
-use Rattle.measure.specs.BothOrders.{contents_of}
 
 module _ {A : Type 0} (R : A → A → Type 0) where
   -- the item at an index comes after all before it

@@ -1,5 +1,5 @@
 -- Sorted items with different stamps rise.
-use Rattle.std.proofs.Common.{◌≡◌, ◌≢◌, ℕ, zero, suc, ◌+◌, ◌<◌, ◌≤◌, ◌^◌, ◌==◌, Bool, true, false, cond, IsTrue, List, [], ◌∷◌, length, map, get_or, refl, sym, ap, ap₂, subst, ◌∙◌, arith, inl, inr, ⊎_elim, Some, slice_get, All, AllPairs}
+use Rattle.std.proofs.Common.{◌≡◌, ◌≢◌, ℕ, zero, suc, ◌<◌, ◌≤◌, ◌^◌, ◌==◌, Bool, true, false, cond, IsTrue, List, [], ◌∷◌, length, map, get_or, refl, sym, ap, ap₂, subst, ◌∙◌, arith, inl, inr, ⊎_elim, Some, slice_get, All, AllPairs}
 use Rattle.std.proofs.lemmas.Bool.{cases_lt}
 use Rattle.std.proofs.lemmas.Option.{slice_get_within, get_or_from_slice_get}
 use Rattle.std.specs.Cmp.{IsStrictWeakOrder}
@@ -9,7 +9,7 @@ use Rattle.std.proofs.lemmas.List.{get_or-map, length-map, length-replicate}
 use Rattle.std.proofs.lemmas.List.Elements.{All-cons, All-head, All-tail}
 use Rattle.std.proofs.lemmas.List.Kept.{AllPairs-cons}
 use Rattle.std.proofs.lemmas.List.Sorted.{All-permutation, length_permutation, sorted_far}
-use Rattle.query_laws.specs.Orders.{before_by, before_in, IsStrictTotalOrder}
+use Rattle.query_laws.specs.Orders.{before_by, before_in}
 use Rattle.query_laws.specs.OrderLaws.{IsStrictTotalOrder-before_in}
 use Rattle.query_laws.specs.Permuted.{Permuted, nothing, same_head, swapped_heads, composed}
 use Rattle.query_laws.proofs.Permutations.{Permuted-from_IsPermutation, IsPermutation-from_Permuted}

@@ -46,7 +46,9 @@ pub fn check_parts<R: Print + AllocGlobal, L: Ledger>(
                 marked,
             } = checked_part(rt.alloc(), &mut generator, size, steps)?;
             let turns = steps.lap_turns();
-            println!(rt; "size {size} turns {turns} counts {counts} sums {sums} ids {ids} marked {marked}")?;
+            println!(rt;
+                "size {size} turns {turns} counts {counts} sums {sums} ids {ids} marked {marked}"
+            )?;
         }
     }
     Ok(())

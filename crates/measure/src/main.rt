@@ -56,7 +56,10 @@ fn run<R: Print + Clock + AllocGlobal, L: Ledger>(
     let mut steps = Steps::<L>::new(blank);
     match plan.job {
         Job::Part { is_timed } => {
-            let watch = Watch { rt, is_on: is_timed };
+            let watch = Watch {
+                rt,
+                is_on: is_timed,
+            };
             measuring::measure_part(&watch, plan.seed, plan.size, &mut steps)
         }
         Job::Check => checking::check_parts(rt, plan.seed, plan.size, &mut steps),

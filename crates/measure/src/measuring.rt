@@ -58,11 +58,7 @@ pub fn measure_part<R: Print + Clock + AllocGlobal, L: Ledger>(
 }
 
 /// So many rectangles.
-fn random_rects(
-    alloc: Global,
-    generator: &mut Generator,
-    n: usize,
-) -> Result<Vec<Rect>, AllocError>
+fn random_rects(alloc: Global, generator: &mut Generator, n: usize) -> Result<Vec<Rect>, AllocError>
     ensures { IfOk result (λ rects. vec_len rects ≡ n) }
 {
     let mut rects = Vec::with_capacity(alloc, n)?;
@@ -118,12 +114,7 @@ fn ask_about_each<
     P: Part<Item = Point> + Answers<Q>,
     R: Print + Clock + AllocGlobal,
     L: Ledger,
->(
-    watch: &Watch<'_, R>,
-    rects: &[Rect],
-    part: &P,
-    steps: &mut Steps<L>,
-) -> Result<(), Failure> {
+>(watch: &Watch<'_, R>, rects: &[Rect], part: &P, steps: &mut Steps<L>) -> Result<(), Failure> {
     let alloc = watch.rt.alloc();
     let mut times = Samples::new(alloc);
     let mut answers = 0u64;

@@ -45,7 +45,10 @@ impl PlainList {
     pub fn count(&self, rect: &Rect) -> u64
         ensures { result ≡ count_in rect.now self.now.points.items }
     {
-        self.points.iter().filter(|point| point.is_inside(rect)).count() as u64
+        self.points
+            .iter()
+            .filter(|point| point.is_inside(rect))
+            .count() as u64
     }
 
     /// What the points in a rectangle weigh together, at most 2^64 - 1.

@@ -25,6 +25,9 @@ impl fmt::Display for Summary {
             p999,
             max,
         } = *self;
-        write!(f, "count {count} mean {mean} p50 {p50} p99 {p99} p99.9 {p999} max {max}")
+        write!(
+            f,
+            "count {count} mean {mean} p50 {p50} p99 {p99} p99.9 {p999} max {max}"
+        )
     }
 }

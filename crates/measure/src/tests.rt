@@ -47,7 +47,10 @@ fn tells_of_numbers(rt: HostRuntime) -> Result<(), Fail> {
     };
     assert_eq!(rt; summary, wanted);
     let text = summary.to_string(rt.alloc())?;
-    assert_eq!(rt; text.as_str(), "count 1000 mean 500 p50 501 p99 991 p99.9 1000 max 1000");
+    assert_eq!(rt;
+        text.as_str(),
+        "count 1000 mean 500 p50 501 p99 991 p99.9 1000 max 1000"
+    );
     assert!(rt; Samples::new(rt.alloc()).summary().is_none());
     Ok(())
 }
@@ -85,7 +88,10 @@ fn scans_a_list(rt: HostRuntime) -> Result<(), Fail> {
     ];
     let mut list = PlainList::new(rt.alloc(), &points)?;
     assert_eq!(rt; [list.count(&rect()), list.sum(&rect())], [2, 7]);
-    assert_eq!(rt; list.list(rt.alloc(), &rect())?.as_slice(), [3, 7].as_slice());
+    assert_eq!(rt;
+        list.list(rt.alloc(), &rect())?.as_slice(),
+        [3, 7].as_slice()
+    );
     assert_eq!(rt; [list.mark(7), list.mark(7)], [true, false]);
     assert_eq!(rt; [list.count(&rect()), list.live() as u64], [1, 3]);
     Ok(())
@@ -112,7 +118,10 @@ fn names_the_case(rt: HostRuntime) -> Result<(), Fail> {
         return Ok(());
     };
     let text = failure.to_string(rt.alloc())?;
-    assert_eq!(rt; text.as_str(), "count of Rect { x1: 1, y1: 1, x2: 4, y2: 6 }: 1, and 0 by a plain list");
+    assert_eq!(rt;
+        text.as_str(),
+        "count of Rect { x1: 1, y1: 1, x2: 4, y2: 6 }: 1, and 0 by a plain list"
+    );
     Ok(())
 }
 

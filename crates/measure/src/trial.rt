@@ -105,6 +105,8 @@ fn expect_same<C: Debug, A: PartialEq + Debug>(
     if found == wanted {
         return Ok(());
     }
-    let text = format!(in alloc; "{question} of {case:?}: {found:?}, and {wanted:?} by a plain list")?;
+    let text = format!(in alloc;
+        "{question} of {case:?}: {found:?}, and {wanted:?} by a plain list"
+    )?;
     Err(Failure::Differs(text))
 }

@@ -34,10 +34,13 @@ pub fn command<'a>(alloc: Global) -> Result<Command<'a>, AllocError> {
     let part = Command::new(alloc, "part")
         .about("Build a range part of random points, put questions to it and mark points")
         .arg(time)?;
-    let check = Command::new(alloc, "check")
-        .about("Compare range parts with plain lists, at sizes up to the given one");
+    let check = Command::new(alloc, "check").about(
+        "Compare range parts with plain lists, at sizes up to the given one",
+    );
     Command::new(alloc, "measure")
-        .about("Measures the parts of Livemap and checks them against plain lists, over seeded items")
+        .about(
+            "Measures the parts of Livemap and checks them against plain lists, over seeded items",
+        )
         .subcommand_required(true)
         .subcommand(with_numbers(alloc, part, "4096")?)?
         .subcommand(with_numbers(alloc, check, "257")?)

@@ -1,4 +1,4 @@
-use Rattle.std.proofs.Common.{◌≡◌, ◌+◌, ◌++◌, ◌∷◌, [], map, take, Some, slice_get, get_or, sym, ap, ap₂, ◌∙◌, subst, refl, All}
+use Rattle.std.proofs.Common.{◌≡◌, ◌++◌, ◌∷◌, [], map, Some, slice_get, sym, ap, ◌∙◌, subst, refl, All}
 use Rattle.std.proofs.lemmas.List.{map-append}
 use Rattle.std.proofs.lemmas.List.Elements.{All-push}
 use Rattle.measure.proofs.Putting.{read-at, take-more_at}

@@ -1,4 +1,4 @@
-use Rattle.std.proofs.Common.{◌≡◌, ℕ, ◌<◌, vec_len, Some, slice_get, length, get_or}
+use Rattle.std.proofs.Common.{◌≡◌, ℕ, ◌<◌, vec_len, get_or}
 use Rattle.map_shapes.specs.declared.point.Point.{Point}
 use Rattle.measure.proofs.random.random_points.Given as goal
 

@@ -1,4 +1,4 @@
-use Rattle.std.proofs.Common.{◌≡◌, true, false, take, Some, slice_get, sym, ap, ◌∙◌, refl, arith}
+use Rattle.std.proofs.Common.{◌≡◌, true, false, Some, slice_get, sym, ap, ◌∙◌, refl}
 use Rattle.query_laws.specs.Sums.{capped_add}
 use Rattle.map_shapes.specs.Questions.{is_in}
 use Rattle.measure.proofs.Putting.{read-at}
