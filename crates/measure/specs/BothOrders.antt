@@ -7,13 +7,14 @@ module _ {Item : Type 0} where
   abbrev pub StampsDiffer : (Item → ℕ) → List Item → Type 0
   StampsDiffer stamp xs = AllPairs (λ x y. stamp x ≢ stamp y) xs
 
-  -- the part of these items, each live: in order 0, and in order 1 each with its place
+  -- the part of these items, each live: in order 0, and in order 1 each with its place; of the least level, until a builder has them
   abbrev pub contents_of : List Item → List (Item × ℕ) → Contents Item
   contents_of items entries = record {
     items = items;
     flags = replicate (length items) true;
     reordered = map (λ e. e.0) entries;
     places = map (λ e. e.1) entries;
+    at_level = 0;
   }
 
   -- items that make a part, none with another's stamp, and no more than a builder takes

@@ -145,7 +145,7 @@ fn put_in_second<B: Builder, L: Ledger>(
     ensures put { B.progress builder.new
         ≡ record (B.progress builder.old) { reordered = orders.now.reordered; places = orders.now.places } }
     ensures complete { length orders.now.reordered ≡ length orders.now.items }
-    ensures whole { all_live (B.progress builder.new) ≡ orders.now }
+    ensures whole { all_live (B.progress builder.new) ≡ record orders.now { at_level = (B.progress builder.new).at_level } }
     ensures cost { let n = length orders.now.items in Spends steps.old steps.new n 0 (8 * n) }
 {
     for (item, place) in orders.reordered.iter() {
@@ -167,7 +167,7 @@ pub fn filled<B: Builder, L: Ledger>(
       places = orders.now.places;
     }) }
     ensures complete { OnOk result (length orders.now.reordered ≡ length orders.now.items) }
-    ensures whole { IfOk result (λ builder. all_live (B.progress builder) ≡ orders.now) }
+    ensures whole { IfOk result (λ builder. all_live (B.progress builder) ≡ record orders.now { at_level = (B.progress builder).at_level }) }
     ensures least { IfOk result (λ builder. (level : ℕ) → length orders.now.items ≤ 2 ^ level
         → (B.progress builder).at_level ≤ level) }
     ensures cost { let n = length orders.now.items in OnOk result (Spends steps.old steps.new (2 * n) 0 (16 * n)) }
@@ -187,7 +187,8 @@ pub fn part_of<B: Builder, L: Ledger>(
     orders: &BothOrders<B::Item>,
     steps: &mut Steps<L>,
 ) -> Result<B::Part, NoMemory>
-    ensures whole { IfOk result (λ part. B.Part.Part.contents part ≡ orders.now) }
+    ensures whole { IfOk result (λ part. B.Part.Part.contents part
+        ≡ record orders.now { at_level = (B.Part.Part.contents part).at_level }) }
     ensures live { IfOk result (λ part. B.Part.Part.live_items part ≡ orders.now.items) }
     ensures cost { let n = length orders.now.items in let left = steps.new.turns - steps.old.turns - 2 * n in
         OnOk result (Spends steps.old steps.new (2 * n + left) 0 (16 * n + 16 * left)) }

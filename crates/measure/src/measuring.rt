@@ -74,7 +74,7 @@ fn build<R: Print + Clock + AllocGlobal, L: Ledger>(
     orders: &BothOrders<Point>,
     steps: &mut Steps<L>,
 ) -> Result<RangePart, Failure>
-    ensures { IfOk result (λ part. part ≡ orders.now) }
+    ensures { IfOk result (λ part. part ≡ record orders.now { at_level = part.at_level }) }
 {
     let alloc = watch.rt.alloc();
     let mut times = Samples::new(alloc);
