@@ -64,6 +64,11 @@ pub fn commands_are_read()
     ensures { (command : Command) → IsCommand command → parse (command_line command) ≡ Ok (Some command) }
 {}
 
+/// What a line says is a command: its name is one, and its numbers are within their limits and in order.
+pub fn read_commands_are_lawful()
+    ensures { (line : List ℕ) (command : Command) → parse line ≡ Ok (Some command) → IsCommand command }
+{}
+
 /// The greatest level is the greatest one whose power of two is at most twice the live items and ten more.
 pub fn greatest_level_is_greatest()
     ensures { (n : ℕ) → 2 * n + 10 < 2 ^ 64 →
