@@ -56,7 +56,7 @@ pub fn without_refused_memory()
 pub fn replies_are_lines()
     ensures one_line { (ledger : Bool) (reply : Reply) (cost : Cost) →
         (text : List ℕ) × (reply_line ledger reply cost ≡ text ++ 10 ∷ []) × (one_line text ≡ true) }
-    ensures refusals { (reply : Reply) → starts_with nat_eq (reply_text reply) (codes "no ") ≡ is_refusal reply }
+    ensures refusals { (reply : Reply) (rest : List ℕ) → starts_with nat_eq (reply_text reply ++ rest) (codes "no ") ≡ is_refusal reply }
 {}
 
 /// A command is read from its own line, whatever its numbers within their limits. Made scripts stand on it.
