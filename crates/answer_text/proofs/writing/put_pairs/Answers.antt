@@ -1,4 +1,4 @@
-use Rattle.std.proofs.Common.{ℕ, ◌≤◌, arith}
+use Rattle.std.proofs.Common.{arith}
 use Rattle.answer_text.specs.Texts.{found_text}
 use Rattle.answer_text.proofs.Pieces.{gathers_more, part_second, part_of_texts, err_any}
 use Rattle.answer_text.proofs.writing.put_pairs.Goals as goal
