@@ -1,12 +1,12 @@
 -- Bytes gathered one after the other.
-use Rattle.std.proofs.Common.{◌≡◌, ℕ, ◌+◌, ◌<◌, ◌≤◌, List, [], ◌∷◌, ◌++◌, length, take, drop, get_or, Option, Result, Ok, Err, OnOk, OnErr, arith, refl, sym, ap, ◌∙◌, subst, append_assoc, append-nil, length-append, take-append-drop}
+use Rattle.std.proofs.Common.{◌≡◌, ℕ, ◌+◌, ◌<◌, ◌≤◌, List, [], ◌∷◌, ◌++◌, length, take, drop, get_or, Option, Result, Ok, Err, OnOk, OnErr, arith, sym, ap, ◌∙◌, subst, append_assoc, append-nil, length-append, take-append-drop}
 use Rattle.std.specs.List.{flat_map}
 use Rattle.std.specs.Io.KnownBytes.{Appends}
 use Rattle.std.proofs.KnownBytes.{Appends-nil, Appends-trans}
 use Rattle.std.proofs.Math.Seq.{take-append-add}
 use Rattle.std.proofs.lemmas.List.{take-append-le, take_more}
 use Rattle.std.proofs.lemmas.List.Concat.{flat_map-append}
-use Rattle.map_io.specs.Parts.{AppendsPart}
+use Rattle.map_io.specs.ProperPrefix.{AppendsProperPrefix}
 use Rattle.answer_text.specs.Pieces.{Gathers}
 
 pub gathers_nothing : (written : Option (List ℕ)) (piece : List ℕ) → length piece < 64 → Gathers written written piece piece []
@@ -20,38 +20,38 @@ gathers_both o m n p q r a b g h = record {
   open_ = h.open_;
 }
 
--- a part of the front is a part of all
-pub part_longer : (o n : Option (List ℕ)) (a b : List ℕ) → AppendsPart o n a → AppendsPart o n (a ++ b)
-part_longer o n a b h = (h.0, omega (arith, h.1, length-append a b), subst (Appends o n) (sym (take-append-le h.0 a b (let le : h.0 ≤ length a = omega (arith, h.1) in le))) h.2)
+-- a proper prefix of the front is one of all
+pub prefix_longer : (o n : Option (List ℕ)) (a b : List ℕ) → AppendsProperPrefix o n a → AppendsProperPrefix o n (a ++ b)
+prefix_longer o n a b h = (h.0, omega (arith, h.1, length-append a b), subst (Appends o n) (sym (take-append-le h.0 a b (let le : h.0 ≤ length a = omega (arith, h.1) in le))) h.2)
 
-pub part_first : (o n : Option (List ℕ)) (p a b : List ℕ) → AppendsPart o n (p ++ a) → AppendsPart o n (p ++ (a ++ b))
-part_first o n p a b h = subst (AppendsPart o n) (append_assoc p a b) (part_longer o n (p ++ a) b h)
+pub prefix_first : (o n : Option (List ℕ)) (p a b : List ℕ) → AppendsProperPrefix o n (p ++ a) → AppendsProperPrefix o n (p ++ (a ++ b))
+prefix_first o n p a b h = subst (AppendsProperPrefix o n) (append_assoc p a b) (prefix_longer o n (p ++ a) b h)
 
--- a part behind what was gathered
-pub part_second : (o m n : Option (List ℕ)) (p q a b : List ℕ) → Gathers o m p q a → AppendsPart m n (q ++ b) → AppendsPart o n (p ++ (a ++ b))
-part_second o m n p q a b g h =
+-- a proper prefix after what was gathered
+pub prefix_second : (o m n : Option (List ℕ)) (p q a b : List ℕ) → Gathers o m p q a → AppendsProperPrefix m n (q ++ b) → AppendsProperPrefix o n (p ++ (a ++ b))
+prefix_second o m n p q a b g h =
     let all : p ++ (a ++ b) ≡ g.given ++ (q ++ b) = sym (append_assoc p a b) ∙ ap (λ (z : List ℕ). z ++ b) g.whole ∙ append_assoc g.given q b in
-    subst (AppendsPart o n) (sym all) (
+    subst (AppendsProperPrefix o n) (sym all) (
       length g.given + h.0,
       omega (arith, h.1, length-append g.given (q ++ b)),
       subst (Appends o n) (sym (take-append-add g.given (q ++ b) h.0)) (Appends-trans o m n g.given (take h.0 (q ++ b)) g.appended h.2),
     )
 
--- a part of the first of four texts, of the first two, and of the first three
-pub part_of_first : (o n : Option (List ℕ)) (p a b t e : List ℕ) → AppendsPart o n (p ++ a) → AppendsPart o n (p ++ (((a ++ b) ++ t) ++ e))
-part_of_first o n p a b t e h = part_first o n p ((a ++ b) ++ t) e (part_first o n p (a ++ b) t (part_first o n p a b h))
+-- a proper prefix of the first of four texts, of the first two, and of the first three
+pub prefix_of_first : (o n : Option (List ℕ)) (p a b t e : List ℕ) → AppendsProperPrefix o n (p ++ a) → AppendsProperPrefix o n (p ++ (((a ++ b) ++ t) ++ e))
+prefix_of_first o n p a b t e h = prefix_first o n p ((a ++ b) ++ t) e (prefix_first o n p (a ++ b) t (prefix_first o n p a b h))
 
-pub part_of_two : (o n : Option (List ℕ)) (p a b t e : List ℕ) → AppendsPart o n (p ++ (a ++ b)) → AppendsPart o n (p ++ (((a ++ b) ++ t) ++ e))
-part_of_two o n p a b t e h = part_first o n p ((a ++ b) ++ t) e (part_first o n p (a ++ b) t h)
+pub prefix_of_two : (o n : Option (List ℕ)) (p a b t e : List ℕ) → AppendsProperPrefix o n (p ++ (a ++ b)) → AppendsProperPrefix o n (p ++ (((a ++ b) ++ t) ++ e))
+prefix_of_two o n p a b t e h = prefix_first o n p ((a ++ b) ++ t) e (prefix_first o n p (a ++ b) t h)
 
 -- the piece is written last
 pub gathers_end : (o m n : Option (List ℕ)) (p q a : List ℕ) → Gathers o m p q a → Appends m n q → Appends o n (p ++ a)
 gathers_end o m n p q a g h = subst (Appends o n) (sym g.whole) (Appends-trans o m n g.given q g.appended h)
 
-pub part_end : (o m n : Option (List ℕ)) (p q a : List ℕ) → Gathers o m p q a → AppendsPart m n q → AppendsPart o n (p ++ a)
-part_end o m n p q a g h =
-    subst (λ (z : List ℕ). AppendsPart o n (p ++ z)) (append-nil a)
-    (part_second o m n p q a [] g (subst (AppendsPart m n) (sym (append-nil q)) h))
+pub prefix_end : (o m n : Option (List ℕ)) (p q a : List ℕ) → Gathers o m p q a → AppendsProperPrefix m n q → AppendsProperPrefix o n (p ++ a)
+prefix_end o m n p q a g h =
+    subst (λ (z : List ℕ). AppendsProperPrefix o n (p ++ z)) (append-nil a)
+    (prefix_second o m n p q a [] g (subst (AppendsProperPrefix m n) (sym (append-nil q)) h))
 
 -- ---- lists
 
@@ -65,13 +65,13 @@ pub gathers_more : {A : Type 0} (o m n : Option (List ℕ)) (p q r : List ℕ) (
 gathers_more o m n p q r f xs i d inside g h =
     subst (Gathers o n p r) (sym (more_texts f xs i d inside)) (gathers_both o m n p q r (flat_map f (take i xs)) (f (get_or xs i d)) g h)
 
--- a part of the texts so far is a part of all of them
-pub part_of_texts : {A : Type 0} (o n : Option (List ℕ)) (p : List ℕ) (f : A → List ℕ) (xs : List A) (i : ℕ) (d : A) → i < length xs → AppendsPart o n (p ++ (flat_map f (take i xs) ++ f (get_or xs i d))) → AppendsPart o n (p ++ flat_map f xs)
-part_of_texts o n p f xs i d inside h =
-    subst (λ (z : List ℕ). AppendsPart o n (p ++ z))
+-- a proper prefix of the texts so far is one of all of them
+pub prefix_of_texts : {A : Type 0} (o n : Option (List ℕ)) (p : List ℕ) (f : A → List ℕ) (xs : List A) (i : ℕ) (d : A) → i < length xs → AppendsProperPrefix o n (p ++ (flat_map f (take i xs) ++ f (get_or xs i d))) → AppendsProperPrefix o n (p ++ flat_map f xs)
+prefix_of_texts o n p f xs i d inside h =
+    subst (λ (z : List ℕ). AppendsProperPrefix o n (p ++ z))
     (sym (flat_map-append f (take (i + 1) xs) (drop (i + 1) xs)) ∙ ap (flat_map f) (take-append-drop (i + 1) xs))
-    (part_first o n p (flat_map f (take (i + 1) xs)) (flat_map f (drop (i + 1) xs))
-    (subst (λ (z : List ℕ). AppendsPart o n (p ++ z)) (sym (more_texts f xs i d inside)) h))
+    (prefix_first o n p (flat_map f (take (i + 1) xs)) (flat_map f (drop (i + 1) xs))
+    (subst (λ (z : List ℕ). AppendsProperPrefix o n (p ++ z)) (sym (more_texts f xs i d inside)) h))
 
 -- ---- what a call that may fail says
 

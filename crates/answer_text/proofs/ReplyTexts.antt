@@ -1,5 +1,5 @@
 -- A reply's text is its word and its numbers.
-use Rattle.std.proofs.Common.{◌≡◌, ℕ, Bool, List, [], ◌∷◌, ◌++◌, codes, decimal, Some, None, map, refl, sym, ap, ◌∙◌, append_assoc, append-nil}
+use Rattle.std.proofs.Common.{◌≡◌, ℕ, Bool, List, [], ◌∷◌, ◌++◌, codes, Some, None, map, refl, sym, ap, ◌∙◌, append-nil}
 use Rattle.std.specs.List.{flat_map}
 use Rattle.map_model.specs.Script.Reply.{spaced, numbers_or_none, found_numbers, reply_text, reply_line}
 use Rattle.map_model.specs.Script.Refusal.{refusal_text}

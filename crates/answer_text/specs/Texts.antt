@@ -1,10 +1,9 @@
 -- A reply's line by its parts: a word or two, the numbers behind it, and what it cost.
-use Rattle.std.specs.Prelude.{ℕ, List, [], ◌∷◌, ◌++◌, Bool, Option, Some, None, codes, map, flat_map, if◌then◌else◌}
-use Rattle.map_model.specs.Script.Reply.{spaced, numbers_or_none, found_or_none, peak_or_none, shape_numbers}
+use Rattle.std.specs.Prelude.{ℕ, List, [], ◌∷◌, Bool, Some, None, codes, flat_map, if◌then◌else◌}
+use Rattle.map_model.specs.Script.Reply.{spaced, numbers_or_none, shape_numbers}
 use Rattle.map_model.specs.Script.Cost.{cost_text}
 use Rattle.map_shapes.specs.declared.found.Found as shapes
 use Rattle.map_shapes.specs.Shape.{model_shape}
-use Rattle.map_shapes.specs.Found.{found_of, peak_of}
 use Rattle.answer_text.specs.declared.refusal.Refusal.{Refusal}
 use Rattle.answer_text.specs.declared.refusal.Refusal.TheVariants as causes
 use Rattle.answer_text.specs.declared.reply.Reply.{Reply}

@@ -2,7 +2,7 @@
 ghost use Rattle.std.specs.Prelude.{◌≡◌, ◌+◌, ◌<◌, ◌≤◌, ◌++◌, length, OnOk, OnErr};
 ghost use Rattle.std.specs.Io.KnownBytes.{Appends};
 ghost use Rattle.map_io.specs.Faults.{Rose};
-ghost use Rattle.map_io.specs.Parts.{AppendsPart};
+ghost use Rattle.map_io.specs.ProperPrefix.{AppendsProperPrefix};
 ghost use Rattle.answer_text.specs.Pieces.{Gathers};
 
 use arrayvec::ArrayVec;
@@ -19,9 +19,10 @@ pub fn put<K: Sink>(piece: &mut Piece, bytes: &[u8], sink: &mut K) -> Result<(),
     requires some_room { length piece.old.items < 64 }
     requires small { length bytes.now ≤ 64 }
     ensures all { OnOk result (Gathers (K.written sink.old) (K.written sink.new) piece.old.items piece.new.items bytes.now) }
-    ensures part { OnErr result (AppendsPart (K.written sink.old) (K.written sink.new) (piece.old.items ++ bytes.now)) }
+    ensures prefix { OnErr result (AppendsProperPrefix (K.written sink.old) (K.written sink.new) (piece.old.items ++ bytes.now)) }
     ensures kept { K.faults sink.old ≤ K.faults sink.new }
     ensures failed { OnErr result (Rose (K.faults sink.old) (K.faults sink.new)) }
+    ensures succeeded { OnOk result (K.faults sink.new ≡ K.faults sink.old) }
 {
     let room = LONGEST_PIECE - piece.len();
     if bytes.len() < room {
@@ -39,9 +40,10 @@ pub fn put<K: Sink>(piece: &mut Piece, bytes: &[u8], sink: &mut K) -> Result<(),
 /// Writes what is left in the piece.
 pub fn finish<K: Sink>(piece: &Piece, sink: &mut K) -> Result<(), WriteFault>
     ensures all { OnOk result (Appends (K.written sink.old) (K.written sink.new) piece.now.items) }
-    ensures part { OnErr result (AppendsPart (K.written sink.old) (K.written sink.new) piece.now.items) }
+    ensures prefix { OnErr result (AppendsProperPrefix (K.written sink.old) (K.written sink.new) piece.now.items) }
     ensures kept { K.faults sink.old ≤ K.faults sink.new }
     ensures failed { OnErr result (Rose (K.faults sink.old) (K.faults sink.new)) }
+    ensures succeeded { OnOk result (K.faults sink.new ≡ K.faults sink.old) }
 {
     write_all(sink, piece.as_slice())
 }

@@ -2,7 +2,7 @@
 ghost use Rattle.std.specs.Prelude.{◌≡◌, ◌<◌, ◌≤◌, ◌++◌, length, decimal, flat_map, OnOk, OnErr};
 ghost use Rattle.std.specs.Io.KnownBytes.{Appends};
 ghost use Rattle.map_io.specs.Faults.{Rose};
-ghost use Rattle.map_io.specs.Parts.{AppendsPart};
+ghost use Rattle.map_io.specs.ProperPrefix.{AppendsProperPrefix};
 ghost use Rattle.map_model.specs.Script.Reply.{spaced, numbers_or_none, shape_numbers, reply_line};
 ghost use Rattle.map_model.specs.Script.Cost as costs;
 ghost use Rattle.map_shapes.specs.Shape.{model_shape};
@@ -23,12 +23,13 @@ const NONE: &[u8] = b" none";
 /// Writes a reply's line with its line feed; with the ledger, what it cost stands at its end.
 ///
 /// The sink is handed pieces of 64 bytes, and at last what is left: a line of at most 64 bytes is one write. It takes no
-/// memory. `WriteFault` comes only where the sink failed in this call; a part of the line, not all of it, is written then.
+/// memory. `WriteFault` comes only where the sink failed in this call; a proper prefix of the line is written then.
 pub fn write_reply<K: Sink>(reply: &Reply, ledger: bool, sink: &mut K) -> Result<(), WriteFault>
     ensures all { OnOk result (Appends (K.written sink.old) (K.written sink.new) (reply_line ledger (reply_of reply.now) (cost_of reply.now))) }
-    ensures part { OnErr result (AppendsPart (K.written sink.old) (K.written sink.new) (reply_line ledger (reply_of reply.now) (cost_of reply.now))) }
+    ensures prefix { OnErr result (AppendsProperPrefix (K.written sink.old) (K.written sink.new) (reply_line ledger (reply_of reply.now) (cost_of reply.now))) }
     ensures kept { K.faults sink.old ≤ K.faults sink.new }
     ensures failed { OnErr result (Rose (K.faults sink.old) (K.faults sink.new)) }
+    ensures succeeded { OnOk result (K.faults sink.new ≡ K.faults sink.old) }
 {
     let mut piece = Piece::new();
     put(&mut piece, reply_word(reply), sink)?;
@@ -45,9 +46,10 @@ fn put_reply_numbers<K: Sink>(
 ) -> Result<(), WriteFault>
     requires { length piece.old.items < 64 }
     ensures all { OnOk result (Gathers (K.written sink.old) (K.written sink.new) piece.old.items piece.new.items (reply_numbers reply.now)) }
-    ensures part { OnErr result (AppendsPart (K.written sink.old) (K.written sink.new) (piece.old.items ++ reply_numbers reply.now)) }
+    ensures prefix { OnErr result (AppendsProperPrefix (K.written sink.old) (K.written sink.new) (piece.old.items ++ reply_numbers reply.now)) }
     ensures kept { K.faults sink.old ≤ K.faults sink.new }
     ensures failed { OnErr result (Rose (K.faults sink.old) (K.faults sink.new)) }
+    ensures succeeded { OnOk result (K.faults sink.new ≡ K.faults sink.old) }
 {
     match reply {
         Reply::Made | Reply::Updated { .. } => Ok(()),
@@ -90,9 +92,10 @@ fn put_refusal_numbers<K: Sink>(
 ) -> Result<(), WriteFault>
     requires { length piece.old.items < 64 }
     ensures all { OnOk result (Gathers (K.written sink.old) (K.written sink.new) piece.old.items piece.new.items (refusal_numbers cause)) }
-    ensures part { OnErr result (AppendsPart (K.written sink.old) (K.written sink.new) (piece.old.items ++ refusal_numbers cause)) }
+    ensures prefix { OnErr result (AppendsProperPrefix (K.written sink.old) (K.written sink.new) (piece.old.items ++ refusal_numbers cause)) }
     ensures kept { K.faults sink.old ≤ K.faults sink.new }
     ensures failed { OnErr result (Rose (K.faults sink.old) (K.faults sink.new)) }
+    ensures succeeded { OnOk result (K.faults sink.new ≡ K.faults sink.old) }
 {
     match cause {
         Refusal::Duplicate { id } | Refusal::Unknown { id } => put_numbers(piece, &[id], sink),
@@ -104,9 +107,10 @@ fn put_refusal_numbers<K: Sink>(
 fn put_ids<K: Sink>(piece: &mut Piece, ids: &[u64], sink: &mut K) -> Result<(), WriteFault>
     requires { length piece.old.items < 64 }
     ensures all { OnOk result (Gathers (K.written sink.old) (K.written sink.new) piece.old.items piece.new.items (numbers_or_none ids.now)) }
-    ensures part { OnErr result (AppendsPart (K.written sink.old) (K.written sink.new) (piece.old.items ++ numbers_or_none ids.now)) }
+    ensures prefix { OnErr result (AppendsProperPrefix (K.written sink.old) (K.written sink.new) (piece.old.items ++ numbers_or_none ids.now)) }
     ensures kept { K.faults sink.old ≤ K.faults sink.new }
     ensures failed { OnErr result (Rose (K.faults sink.old) (K.faults sink.new)) }
+    ensures succeeded { OnOk result (K.faults sink.new ≡ K.faults sink.old) }
 {
     if ids.is_empty() {
         put(piece, NONE, sink)
@@ -119,9 +123,10 @@ fn put_ids<K: Sink>(piece: &mut Piece, ids: &[u64], sink: &mut K) -> Result<(), 
 fn put_numbers<K: Sink>(piece: &mut Piece, numbers: &[u64], sink: &mut K) -> Result<(), WriteFault>
     requires { length piece.old.items < 64 }
     ensures all { OnOk result (Gathers (K.written sink.old) (K.written sink.new) piece.old.items piece.new.items (spaced_all numbers.now)) }
-    ensures part { OnErr result (AppendsPart (K.written sink.old) (K.written sink.new) (piece.old.items ++ spaced_all numbers.now)) }
+    ensures prefix { OnErr result (AppendsProperPrefix (K.written sink.old) (K.written sink.new) (piece.old.items ++ spaced_all numbers.now)) }
     ensures kept { K.faults sink.old ≤ K.faults sink.new }
     ensures failed { OnErr result (Rose (K.faults sink.old) (K.faults sink.new)) }
+    ensures succeeded { OnOk result (K.faults sink.new ≡ K.faults sink.old) }
 {
     for number in numbers {
         put_number(piece, *number, sink)?;
@@ -133,9 +138,10 @@ fn put_numbers<K: Sink>(piece: &mut Piece, numbers: &[u64], sink: &mut K) -> Res
 fn put_founds<K: Sink>(piece: &mut Piece, found: &[Found], sink: &mut K) -> Result<(), WriteFault>
     requires { length piece.old.items < 64 }
     ensures all { OnOk result (Gathers (K.written sink.old) (K.written sink.new) piece.old.items piece.new.items (founds_text found.now)) }
-    ensures part { OnErr result (AppendsPart (K.written sink.old) (K.written sink.new) (piece.old.items ++ founds_text found.now)) }
+    ensures prefix { OnErr result (AppendsProperPrefix (K.written sink.old) (K.written sink.new) (piece.old.items ++ founds_text found.now)) }
     ensures kept { K.faults sink.old ≤ K.faults sink.new }
     ensures failed { OnErr result (Rose (K.faults sink.old) (K.faults sink.new)) }
+    ensures succeeded { OnOk result (K.faults sink.new ≡ K.faults sink.old) }
 {
     if found.is_empty() {
         put(piece, NONE, sink)
@@ -147,9 +153,10 @@ fn put_founds<K: Sink>(piece: &mut Piece, found: &[Found], sink: &mut K) -> Resu
 fn put_pairs<K: Sink>(piece: &mut Piece, found: &[Found], sink: &mut K) -> Result<(), WriteFault>
     requires { length piece.old.items < 64 }
     ensures all { OnOk result (Gathers (K.written sink.old) (K.written sink.new) piece.old.items piece.new.items (flat_map found_text found.now)) }
-    ensures part { OnErr result (AppendsPart (K.written sink.old) (K.written sink.new) (piece.old.items ++ flat_map found_text found.now)) }
+    ensures prefix { OnErr result (AppendsProperPrefix (K.written sink.old) (K.written sink.new) (piece.old.items ++ flat_map found_text found.now)) }
     ensures kept { K.faults sink.old ≤ K.faults sink.new }
     ensures failed { OnErr result (Rose (K.faults sink.old) (K.faults sink.new)) }
+    ensures succeeded { OnOk result (K.faults sink.new ≡ K.faults sink.old) }
 {
     for point in found {
         put_numbers(piece, &[point.id, point.dist], sink)?;
@@ -166,9 +173,10 @@ fn put_tail<K: Sink>(
 ) -> Result<(), WriteFault>
     requires { length piece.old.items < 64 }
     ensures all { OnOk result (Gathers (K.written sink.old) (K.written sink.new) piece.old.items piece.new.items (tail_text ledger reply.now)) }
-    ensures part { OnErr result (AppendsPart (K.written sink.old) (K.written sink.new) (piece.old.items ++ tail_text ledger reply.now)) }
+    ensures prefix { OnErr result (AppendsProperPrefix (K.written sink.old) (K.written sink.new) (piece.old.items ++ tail_text ledger reply.now)) }
     ensures kept { K.faults sink.old ≤ K.faults sink.new }
     ensures failed { OnErr result (Rose (K.faults sink.old) (K.faults sink.new)) }
+    ensures succeeded { OnOk result (K.faults sink.new ≡ K.faults sink.old) }
 {
     if !ledger {
         return Ok(());
@@ -195,9 +203,10 @@ fn put_tail<K: Sink>(
 fn put_spent<K: Sink>(piece: &mut Piece, spent: Spent, sink: &mut K) -> Result<(), WriteFault>
     requires { length piece.old.items < 64 }
     ensures all { OnOk result (Gathers (K.written sink.old) (K.written sink.new) piece.old.items piece.new.items (costs.cost_text (costs.Updating (spent_of spent)))) }
-    ensures part { OnErr result (AppendsPart (K.written sink.old) (K.written sink.new) (piece.old.items ++ costs.cost_text (costs.Updating (spent_of spent)))) }
+    ensures prefix { OnErr result (AppendsProperPrefix (K.written sink.old) (K.written sink.new) (piece.old.items ++ costs.cost_text (costs.Updating (spent_of spent)))) }
     ensures kept { K.faults sink.old ≤ K.faults sink.new }
     ensures failed { OnErr result (Rose (K.faults sink.old) (K.faults sink.new)) }
+    ensures succeeded { OnOk result (K.faults sink.new ≡ K.faults sink.old) }
 {
     put_out_of(piece, b" turns", spent.turns, spent.turn_bound, sink)?;
     put_out_of(piece, b" marks", spent.marks, spent.mark_bound, sink)
@@ -206,9 +215,10 @@ fn put_spent<K: Sink>(piece: &mut Piece, spent: Spent, sink: &mut K) -> Result<(
 fn put_asked<K: Sink>(piece: &mut Piece, asked: Asked, sink: &mut K) -> Result<(), WriteFault>
     requires { length piece.old.items < 64 }
     ensures all { OnOk result (Gathers (K.written sink.old) (K.written sink.new) piece.old.items piece.new.items (costs.cost_text (costs.Asking (asked_of asked)))) }
-    ensures part { OnErr result (AppendsPart (K.written sink.old) (K.written sink.new) (piece.old.items ++ costs.cost_text (costs.Asking (asked_of asked)))) }
+    ensures prefix { OnErr result (AppendsProperPrefix (K.written sink.old) (K.written sink.new) (piece.old.items ++ costs.cost_text (costs.Asking (asked_of asked)))) }
     ensures kept { K.faults sink.old ≤ K.faults sink.new }
     ensures failed { OnErr result (Rose (K.faults sink.old) (K.faults sink.new)) }
+    ensures succeeded { OnOk result (K.faults sink.new ≡ K.faults sink.old) }
 {
     put_out_of(
         piece,
@@ -224,9 +234,10 @@ fn put_asked<K: Sink>(piece: &mut Piece, asked: Asked, sink: &mut K) -> Result<(
 fn put_number<K: Sink>(piece: &mut Piece, n: u64, sink: &mut K) -> Result<(), WriteFault>
     requires some_room { length piece.old.items < 64 }
     ensures all { OnOk result (Gathers (K.written sink.old) (K.written sink.new) piece.old.items piece.new.items (spaced n)) }
-    ensures part { OnErr result (AppendsPart (K.written sink.old) (K.written sink.new) (piece.old.items ++ (spaced n))) }
+    ensures prefix { OnErr result (AppendsProperPrefix (K.written sink.old) (K.written sink.new) (piece.old.items ++ (spaced n))) }
     ensures kept { K.faults sink.old ≤ K.faults sink.new }
     ensures failed { OnErr result (Rose (K.faults sink.old) (K.faults sink.new)) }
+    ensures succeeded { OnOk result (K.faults sink.new ≡ K.faults sink.old) }
 {
     put(piece, spaced(n).as_slice(), sink)
 }
@@ -242,9 +253,10 @@ fn put_out_of<K: Sink>(
     requires some_room { length piece.old.items < 64 }
     requires short { length label.now ≤ 8 }
     ensures all { OnOk result (Gathers (K.written sink.old) (K.written sink.new) piece.old.items piece.new.items (label.now ++ costs.out_of a b)) }
-    ensures part { OnErr result (AppendsPart (K.written sink.old) (K.written sink.new) (piece.old.items ++ (label.now ++ costs.out_of a b))) }
+    ensures prefix { OnErr result (AppendsProperPrefix (K.written sink.old) (K.written sink.new) (piece.old.items ++ (label.now ++ costs.out_of a b))) }
     ensures kept { K.faults sink.old ≤ K.faults sink.new }
     ensures failed { OnErr result (Rose (K.faults sink.old) (K.faults sink.new)) }
+    ensures succeeded { OnOk result (K.faults sink.new ≡ K.faults sink.old) }
 {
     put(piece, out_of(label, a, b).as_slice(), sink)
 }
@@ -259,9 +271,10 @@ fn put_labelled<K: Sink>(
     requires some_room { length piece.old.items < 64 }
     requires short { length label.now ≤ 16 }
     ensures all { OnOk result (Gathers (K.written sink.old) (K.written sink.new) piece.old.items piece.new.items (label.now ++ decimal n)) }
-    ensures part { OnErr result (AppendsPart (K.written sink.old) (K.written sink.new) (piece.old.items ++ (label.now ++ decimal n))) }
+    ensures prefix { OnErr result (AppendsProperPrefix (K.written sink.old) (K.written sink.new) (piece.old.items ++ (label.now ++ decimal n))) }
     ensures kept { K.faults sink.old ≤ K.faults sink.new }
     ensures failed { OnErr result (Rose (K.faults sink.old) (K.faults sink.new)) }
+    ensures succeeded { OnOk result (K.faults sink.new ≡ K.faults sink.old) }
 {
     put(piece, labelled(label, n).as_slice(), sink)
 }

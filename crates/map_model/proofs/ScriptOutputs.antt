@@ -1,9 +1,11 @@
 -- The laws of the output relation over a map of layers.
-use Rattle.std.proofs.Common.{◌≡◌, ℕ, ◌*◌, ◌≤◌, Bool, true, false, cond, not, nat_le, List, [], ◌∷◌, ◌++◌, codes, Option, Some, None, Ok, Err, IsTrue, ◌⊎◌, inl, inr, arith, refl, sym, ap, ◌∙◌, subst, append_assoc, append-nil, get_or, suc, Contains, length}
+use Rattle.std.proofs.Common.{◌≡◌, ℕ, ◌*◌, ◌≤◌, Bool, true, false, cond, not, nat_le, List, [], ◌∷◌, ◌++◌, codes, Option, Some, None, Ok, Err, IsTrue, ◌⊎◌, inl, inr, arith, refl, sym, ap, ◌∙◌, subst, append_assoc, append-nil, get_or, suc, Contains, length, nat_eq, count_by, add_assoc, add-zero, zero-add, length-append, take_at, le_of_lt, take, ◌<◌, ◌+◌}
 use Rattle.std.proofs.lemmas.Bool.{false≢true, and_parts, not-true, both_ways, eqb-false}
-use Rattle.std.proofs.lemmas.List.{append_cancel_left}
+use Rattle.std.proofs.lemmas.List.{append_cancel_left, get_or_at, take-append-le, get_or_append_left}
+use Rattle.std.proofs.lemmas.List.Sums.{sum_by-cons}
+use Rattle.std.specs.List.{starts_with}
 use Rattle.std.proofs.Math.Nat.{mul-le-mul_left, le_refl}
-use Rattle.map_model.specs.Text.{lines}
+use Rattle.map_model.specs.Text.{lines, refusals}
 use Rattle.map_model.proofs.TextLemmas.{lines-line}
 use Rattle.map_model.specs.Script.Shape.{Shape, Kind, kind_of}
 use Rattle.map_model.specs.Script.Index.{IndexSet, has, index_count}
@@ -18,8 +20,8 @@ use Rattle.map_model.specs.Script.Reply.{Updated, Answered, Refused, is_refusal,
 use Rattle.map_model.specs.Script.Machine.{Outcome, replied, refused, is_same_kind, is_taken, make_layer, add_to, drop_from, ask_of, got, get_from, size_of, recent_of, step}
 use Rattle.map_model.specs.Script.Grammar.{Parsed, parse}
 use Rattle.map_model.specs.Script.Output as outputs
-use Rattle.map_model.specs.Script.Output.{Told, Given, nothing, Executes, may_lack_memory, AnswersTo, Answers, written_for, Output, IsCost, adds, machine_reply, machine_state, line_for, machine_text, machine_end, asks_memory, never_lacks_memory}
-use Rattle.map_model.proofs.ScriptReplies.{told_text, told_one_line, rest_of_line}
+use Rattle.map_model.specs.Script.Output.{Told, Given, nothing, Executes, may_lack_memory, AnswersTo, Answers, written_for, refusal_count, Output, Interrupted, IsCost, adds, machine_reply, machine_state, line_for, machine_text, machine_end, asks_memory, never_lacks_memory}
+use Rattle.map_model.proofs.ScriptReplies.{told_text, told_one_line, begins_no, rest_of_line}
 
 -- ---- `no memory` is written for no other answer
 
@@ -151,6 +153,73 @@ Output-split ledger start end (line ∷ first) second written p =
 pub Output-push : (ledger : Bool) (start middle : State) (lines : List (List ℕ)) (line written : List ℕ) (given : Given) → Output ledger start lines written middle → Answers middle line given → Output ledger start (lines ++ line ∷ []) (written ++ written_for ledger given.told) given.state
 Output-push ledger start middle lines line written given p a =
     Output-append ledger start middle given.state lines (line ∷ []) written (written_for ledger given.told) p (given, a, [], sym (append-nil _), (refl, refl))
+
+-- ---- refusals
+
+-- What was written begins with `no ` once for each refusal.
+refusals-told : (ledger : Bool) (told : Option Told) (rest : List ℕ) → refusals (written_for ledger told ++ rest) ≡ refusal_count told + refusals rest
+refusals-told ledger None rest = omega arith
+refusals-told ledger (Some told) rest =
+    let text = told_text ledger told.reply told.cost in
+    let test : List ℕ → Bool = λ line. starts_with nat_eq line (codes "no ") in
+    ap (count_by test) (ap lines (append_assoc text (10 ∷ []) rest) ∙ lines-line text rest (told_one_line ledger told.reply told.cost))
+    ∙ sum_by-cons (λ line. cond (test line) 1 0) text (lines rest)
+    ∙ ap (λ b. cond b 1 0 + count_by test (lines rest)) (begins_no told.reply (cond ledger (cost_text told.cost) []))
+
+-- Behind an output, what is written refuses what it refuses alone.
+pub refusals-append_output : (ledger : Bool) (start end : State) (script : List (List ℕ)) (written more : List ℕ) → Output ledger start script written end → refusals (written ++ more) ≡ refusals written + refusals more
+refusals-append_output ledger start end [] written more p =
+    ap (λ (z : List ℕ). refusals (z ++ more)) p.0 ∙ sym (ap (λ (z : List ℕ). refusals z + refusals more) p.0 ∙ zero-add (refusals more))
+refusals-append_output ledger start end (line ∷ script) written more p =
+    let front = written_for ledger p.0.told in
+    let count = refusal_count p.0.told in
+    ap (λ (z : List ℕ). refusals (z ++ more)) p.3
+    ∙ ap refusals (append_assoc front p.2 more)
+    ∙ refusals-told ledger p.0.told (p.2 ++ more)
+    ∙ ap (λ n. count + n) (refusals-append_output ledger p.0.state end script p.2 more p.4)
+    ∙ sym (add_assoc count (refusals p.2) (refusals more))
+    ∙ ap (λ n. n + refusals more) (sym (refusals-told ledger p.0.told p.2))
+    ∙ ap (λ (z : List ℕ). refusals z + refusals more) (sym p.3)
+
+-- one answer more: what it refuses is added
+pub refusals-push : (ledger : Bool) (start end : State) (script : List (List ℕ)) (written : List ℕ) (told : Option Told) → Output ledger start script written end → refusals (written ++ written_for ledger told) ≡ refusals written + refusal_count told
+refusals-push ledger start end script written told p =
+    refusals-append_output ledger start end script written (written_for ledger told) p
+    ∙ ap (λ n. refusals written + n) (sym (ap refusals (append-nil (written_for ledger told))) ∙ refusals-told ledger told [] ∙ add-zero (refusal_count told))
+
+-- ---- outputs that were cut short
+
+-- Lines that are answered, and then one that writing stopped in.
+pub Interrupted-from : (ledger : Bool) (start before : State) (answered more script : List (List ℕ)) (line full : List ℕ) (given : Given) (part : ℕ) → script ≡ answered ++ line ∷ more → Output ledger start answered full before → Answers before line given → part < length (written_for ledger given.told) → Interrupted ledger start script (full ++ take part (written_for ledger given.told)) given.state
+Interrupted-from ledger start before answered more script line full given part e p a small = record {
+  answered = length answered;
+  has_next = subst (λ (ls : List (List ℕ)). length answered < length ls) (sym e) (omega (arith, length-append answered (line ∷ more)));
+  full = full;
+  before = before;
+  answers_before = subst (λ (ls : List (List ℕ)). Output ledger start ls full before) (sym (ap (take (length answered)) e ∙ take_at answered (line ∷ more) (length answered) refl)) p;
+  given = given;
+  answers_next = subst (λ (l : List ℕ). Answers before l given) (sym (ap (λ (ls : List (List ℕ)). get_or ls (length answered) []) e ∙ get_or_at answered line more [] (length answered) refl)) a;
+  executed = refl;
+  part = part;
+  is_part = small;
+  is_written = refl;
+}
+
+-- more lines behind those that writing stopped in
+pub Interrupted-append : (ledger : Bool) (start end : State) (script more : List (List ℕ)) (written : List ℕ) → Interrupted ledger start script written end → Interrupted ledger start (script ++ more) written end
+Interrupted-append ledger start end script more written h = record {
+  answered = h.answered;
+  has_next = omega (arith, h.has_next, length-append script more);
+  full = h.full;
+  before = h.before;
+  answers_before = subst (λ (ls : List (List ℕ)). Output ledger start ls h.full h.before) (sym (take-append-le h.answered script more (le_of_lt h.has_next))) h.answers_before;
+  given = h.given;
+  answers_next = subst (λ (l : List ℕ). Answers h.before l h.given) (sym (get_or_append_left script more [] h.answered h.has_next)) h.answers_next;
+  executed = h.executed;
+  part = h.part;
+  is_part = h.is_part;
+  is_written = h.is_written;
+}
 
 -- ---- the machine's own run
 

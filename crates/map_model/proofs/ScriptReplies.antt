@@ -90,37 +90,37 @@ told_one_line ledger reply cost =
     one_line-append (reply_text reply) (cond ledger (cost_text cost) []) (reply_one_line reply)
     (cond_both ledger (cost_text cost) [] (λ t. one_line t ≡ true) (λ _. cost_one_line cost) (λ _. refl))
 
-pub begins_no : (reply : Reply) → starts_with nat_eq (reply_text reply) (codes "no ") ≡ is_refusal reply
-begins_no Made = refl
-begins_no Updated = refl
-begins_no (Answered (Counted n)) = refl
-begins_no (Answered (Summed n)) = refl
-begins_no (Answered (Listed ids)) = refl
-begins_no (Answered (NearestOne found)) = refl
-begins_no (Answered (NearestOnes found)) = refl
-begins_no (Answered (ListedAbove ids)) = refl
-begins_no (Answered (Highest peak)) = refl
-begins_no (Answered (Stabbed ids)) = refl
-begins_no (Answered (StabCounted n)) = refl
-begins_no (Got shape) = refl
-begins_no (Sized n) = refl
-begins_no (Latest ids) = refl
-begins_no (Refused refusals.Line) = refl
-begins_no (Refused refusals.Command) = refl
-begins_no (Refused refusals.Fields) = refl
-begins_no (Refused refusals.Name) = refl
-begins_no (Refused refusals.Number) = refl
-begins_no (Refused refusals.Range) = refl
-begins_no (Refused refusals.Order) = refl
-begins_no (Refused refusals.NoLayer) = refl
-begins_no (Refused refusals.Kind) = refl
-begins_no (Refused refusals.Index) = refl
-begins_no (Refused refusals.Taken) = refl
-begins_no (Refused refusals.NoRoom) = refl
-begins_no (Refused (refusals.Duplicate id)) = refl
-begins_no (Refused (refusals.Unknown id)) = refl
-begins_no (Refused refusals.Full) = refl
-begins_no (Refused refusals.NoMemory) = refl
+pub begins_no : (reply : Reply) (rest : List ℕ) → starts_with nat_eq (reply_text reply ++ rest) (codes "no ") ≡ is_refusal reply
+begins_no Made rest = refl
+begins_no Updated rest = refl
+begins_no (Answered (Counted n)) rest = refl
+begins_no (Answered (Summed n)) rest = refl
+begins_no (Answered (Listed ids)) rest = refl
+begins_no (Answered (NearestOne found)) rest = refl
+begins_no (Answered (NearestOnes found)) rest = refl
+begins_no (Answered (ListedAbove ids)) rest = refl
+begins_no (Answered (Highest peak)) rest = refl
+begins_no (Answered (Stabbed ids)) rest = refl
+begins_no (Answered (StabCounted n)) rest = refl
+begins_no (Got shape) rest = refl
+begins_no (Sized n) rest = refl
+begins_no (Latest ids) rest = refl
+begins_no (Refused refusals.Line) rest = refl
+begins_no (Refused refusals.Command) rest = refl
+begins_no (Refused refusals.Fields) rest = refl
+begins_no (Refused refusals.Name) rest = refl
+begins_no (Refused refusals.Number) rest = refl
+begins_no (Refused refusals.Range) rest = refl
+begins_no (Refused refusals.Order) rest = refl
+begins_no (Refused refusals.NoLayer) rest = refl
+begins_no (Refused refusals.Kind) rest = refl
+begins_no (Refused refusals.Index) rest = refl
+begins_no (Refused refusals.Taken) rest = refl
+begins_no (Refused refusals.NoRoom) rest = refl
+begins_no (Refused (refusals.Duplicate id)) rest = refl
+begins_no (Refused (refusals.Unknown id)) rest = refl
+begins_no (Refused refusals.Full) rest = refl
+begins_no (Refused refusals.NoMemory) rest = refl
 
 -- What follows two lines is the same where the lines with it are.
 pub rest_of_line : (s t x y : List ℕ) → one_line s ≡ true → one_line t ≡ true → (s ++ 10 ∷ []) ++ x ≡ (t ++ 10 ∷ []) ++ y → (s ≡ t) × (x ≡ y)

@@ -56,12 +56,17 @@ pub fn without_refused_memory()
 pub fn replies_are_lines()
     ensures one_line { (ledger : Bool) (reply : Reply) (cost : Cost) →
         (text : List ℕ) × (reply_line ledger reply cost ≡ text ++ 10 ∷ []) × (one_line text ≡ true) }
-    ensures refusals { (reply : Reply) → starts_with nat_eq (reply_text reply) (codes "no ") ≡ is_refusal reply }
+    ensures refusals { (reply : Reply) (rest : List ℕ) → starts_with nat_eq (reply_text reply ++ rest) (codes "no ") ≡ is_refusal reply }
 {}
 
 /// A command is read from its own line, whatever its numbers within their limits. Made scripts stand on it.
 pub fn commands_are_read()
     ensures { (command : Command) → IsCommand command → parse (command_line command) ≡ Ok (Some command) }
+{}
+
+/// What a line says is a command: its name is one, and its numbers are within their limits and in order.
+pub fn read_commands_are_lawful()
+    ensures { (line : List ℕ) (command : Command) → parse line ≡ Ok (Some command) → IsCommand command }
 {}
 
 /// The greatest level is the greatest one whose power of two is at most twice the live items and ten more.

@@ -1,5 +1,5 @@
 -- What is found in a table whose rows are those of their verbs.
-use Rattle.std.proofs.Common.{◌≡◌, ℕ, Bool, true, false, cond, List, [], ◌∷◌, Option, Some, None, map, Bor, bytes_eq, refl, sym, ap, ◌∙◌, subst, inl, inr, IfSome, option_map}
+use Rattle.std.proofs.Common.{◌≡◌, ℕ, cond, List, [], ◌∷◌, Option, Some, None, map, Bor, bytes_eq, refl, sym, ap, ◌∙◌, subst, inl, inr, IfSome, option_map}
 use Rattle.std.specs.List.{find}
 use Rattle.std.proofs.lemmas.Bool.{cases_Bool}
 use Rattle.map_model.specs.Script.Form as model

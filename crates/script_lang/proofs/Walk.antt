@@ -1,18 +1,17 @@
 -- One walk over the words of a form meets the first fault of its steps.
-use Rattle.std.proofs.Common.{◌≡◌, ℕ, suc, ◌+◌, ◌-◌, ◌<◌, ◌≤◌, Bool, true, false, cond, not, ◌&&◌, nat_le, nat_eq, List, [], ◌∷◌, ◌++◌, codes, length, drop, Option, Some, None, Result, Ok, Err, bytes_eq, map, count_by, arith, refl, sym, ap, ◌∙◌, subst, inl, inr, length-drop}
+use Rattle.std.proofs.Common.{◌≡◌, ℕ, ◌+◌, ◌-◌, ◌<◌, ◌≤◌, Bool, true, false, cond, not, ◌&&◌, nat_le, nat_eq, List, [], ◌∷◌, codes, length, drop, Option, Some, None, Result, Ok, Err, bytes_eq, count_by, arith, refl, sym, ap, ◌∙◌, inl, inr, length-drop}
 use Rattle.std.proofs.lemmas.List.{length-map}
 use Rattle.std.proofs.lemmas.List.Sums.{count_by-le-length}
 use Rattle.std.specs.List.{list_all}
-use Rattle.std.specs.Str.{all_ascii_digits}
 use Rattle.std.specs.Str.Parse.{digits_value}
-use Rattle.std.proofs.lemmas.Bool.{cases_Bool, cases_lt, cond_both}
+use Rattle.std.proofs.lemmas.Bool.{cases_Bool, cases_lt}
 use Rattle.std.proofs.lemmas.Bool.Decides.{nat_tests}
-use Rattle.map_model.specs.Grammar.{is_filled, is_name, name_field}
+use Rattle.map_model.specs.Grammar.{is_name, name_field}
 use Rattle.map_model.specs.Script.Shape as shapes
 use Rattle.map_model.specs.Script.Index.{no_indexes}
 use Rattle.map_model.specs.Script.LineFault as faults
 use Rattle.map_model.specs.Script.Form as model
-use Rattle.map_model.specs.Script.Grammar.{Values, Parsed, named, is_digits, is_within, is_in_range, all_fields, has_words, with_value, with_values, command_of, takes_word, is_distinct, index_set, parse_indexes, parse_kind, parse_fields, parse_form}
+use Rattle.map_model.specs.Script.Grammar.{Values, Parsed, named, is_digits, is_in_range, all_fields, has_words, with_value, with_values, command_of, takes_word, is_distinct, parse_indexes, parse_kind, parse_fields, parse_form}
 use Rattle.script_lang.specs.declared.form.Field.{Field}
 use Rattle.script_lang.specs.declared.form.Field.TheVariants.{Id, Coordinate, Amount}
 use Rattle.script_lang.specs.declared.form.Form.{Form}
@@ -20,8 +19,8 @@ use Rattle.script_lang.specs.declared.numbers.Numbers.{Numbers}
 use Rattle.script_lang.specs.declared.line_fault.LineFault.{LineFault}
 use Rattle.script_lang.specs.declared.line_fault.LineFault.TheVariants as errors
 use Rattle.script_lang.specs.LineFault.{fault_of}
-use Rattle.script_lang.specs.Form.{field_of, fields_of, form_of, limits_of_field, is_coordinate, verb_of}
-use Rattle.script_lang.specs.Numbers.{no_numbers, with_number, number_in, first_fault, with_read, with_word, with_words}
+use Rattle.script_lang.specs.Form.{field_of, fields_of, form_of, is_coordinate, verb_of}
+use Rattle.script_lang.specs.Numbers.{no_numbers, with_number, first_fault, with_read, with_word, with_words}
 use Rattle.script_lang.specs.Parsing.{has_end, Layer, indexes_in, layer_words, layer_in}
 
 -- ---- numbers

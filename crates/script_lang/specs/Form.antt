@@ -1,5 +1,5 @@
 -- Forms as the definitions have them.
-use Rattle.std.specs.Prelude.{◌≡◌, ℕ, ◌-◌, ◌^◌, Bool, true, false, ⊤, List, [], ◌∷◌, map, bytes_eq}
+use Rattle.std.specs.Prelude.{◌≡◌, ℕ, Bool, true, false, ⊤, List, [], ◌∷◌, map, bytes_eq}
 use Rattle.map_model.specs.Script.Form as model
 use Rattle.script_lang.specs.declared.form.Field.{Field}
 use Rattle.script_lang.specs.declared.form.Field.TheVariants as fields

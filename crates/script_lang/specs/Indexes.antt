@@ -1,5 +1,5 @@
 -- The kind and the indexes that words say.
-use Rattle.std.specs.Prelude.{ℕ, Bool, true, ◌&&◌, not, List, [], ◌∷◌, Option, Some, None, option_and_then, bytes_eq, codes, if◌then◌else◌}
+use Rattle.std.specs.Prelude.{ℕ, true, ◌&&◌, not, List, [], ◌∷◌, Option, Some, None, option_and_then, bytes_eq, codes, if◌then◌else◌}
 use Rattle.map_shapes.specs.declared.kind.Kind.{Kind}
 use Rattle.map_shapes.specs.declared.kind.Kind.TheVariants.{Points, Segments}
 use Rattle.map_shapes.specs.declared.index_set.IndexSet.{IndexSet}

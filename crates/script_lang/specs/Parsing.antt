@@ -1,5 +1,5 @@
 -- The end of a line, and the kind and the indexes of a layer.
-use Rattle.std.specs.Prelude.{◌==◌, ◌≡◌, ℕ, Bool, true, false, ◌&&◌, List, [], ◌∷◌, length, Option, Some, None, Result, Ok, Err, nat_le, bytes_eq, codes, if◌then◌else◌}
+use Rattle.std.specs.Prelude.{◌==◌, ℕ, Bool, true, false, ◌&&◌, List, [], ◌∷◌, length, Result, Ok, Err, nat_le, bytes_eq, codes, if◌then◌else◌}
 use Rattle.std.specs.List.{list_all}
 use Rattle.map_model.specs.Script.Index as indexes
 use Rattle.map_model.specs.Script.Shape as shapes

@@ -1,5 +1,5 @@
 // The numbers of a line.
-ghost use Rattle.std.specs.Prelude.{◌≡◌, ◌+◌, ◌≤◌, ◌<◌, ◌-◌, ◌^◌, IfOk, length, count_by, option_map};
+ghost use Rattle.std.specs.Prelude.{◌≡◌, ◌+◌, ◌≤◌, ◌<◌, ◌-◌, ◌^◌, IfOk, length, count_by, option_map, true};
 ghost use Rattle.std.specs.List.{list_all};
 ghost use Rattle.std.specs.Char.{is_ascii_digit};
 ghost use Rattle.map_model.specs.Grammar.{words, number_field};
@@ -99,13 +99,11 @@ fn read_number(word: &[u8], limits: Limits) -> Result<u64, LineFault>
     }
 }
 
-/// The number that one or more digits write, where it fits 64 bits.
+/// The number that digits write: `None` where there is none, or where the number takes more than 64 bits.
 fn decimal_value(word: &[u8]) -> Option<u64>
+    requires { list_all is_ascii_digit word.now ≡ true }
     ensures { result ≡ number_field (2 ^ 64 - 1) word.now }
 {
-    if !has_digits(word) {
-        return None;
-    }
     let text = str::from_utf8(word).ok()?;
     text.parse::<u64>().ok()
 }

@@ -1,5 +1,5 @@
 -- What may be written for lines over a map of layers, and the map that they lead to.
-use Rattle.std.specs.Prelude.{◌≡◌, ℕ, ◌<◌, Bool, true, false, ◌&&◌, not, ◌⊎◌, IsTrue, List, [], ◌∷◌, ◌++◌, length, take, Option, Some, None, Ok, Err, slice_index_or}
+use Rattle.std.specs.Prelude.{if◌then◌else◌, ◌≡◌, ℕ, ◌<◌, Bool, true, false, ◌&&◌, not, ◌⊎◌, IsTrue, List, [], ◌∷◌, ◌++◌, length, take, Option, Some, None, Ok, Err, slice_index_or}
 use Rattle.map_model.specs.Script.State.{Layer, State, layer_named}
 use Rattle.map_model.specs.Script.Refusal.{NoMemory, refusal_of_fault}
 use Rattle.map_model.specs.Script.Command.{Command, MakeLayer, Add, Drop, Ask, Get, Size, Recent, name_of, takes_memory}
@@ -78,6 +78,11 @@ Answers state line given = AnswersTo state (parse line) given
 abbrev pub written_for : Bool → Option Told → List ℕ
 written_for ledger None = []
 written_for ledger (Some told) = reply_line ledger told.reply told.cost
+
+-- one, where a line is refused
+abbrev pub refusal_count : Option Told → ℕ
+refusal_count None = 0
+refusal_count (Some told) = if is_refusal told.reply then 1 else 0
 
 -- ---- lines
 

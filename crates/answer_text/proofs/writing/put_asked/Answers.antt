@@ -1,8 +1,8 @@
 use Rattle.std.proofs.Common.{◌≡◌, ℕ, List, ◌++◌, codes, decimal, subst}
 use Rattle.map_model.specs.Script.Cost.{out_of}
-use Rattle.map_io.specs.Parts.{AppendsPart}
+use Rattle.map_io.specs.ProperPrefix.{AppendsProperPrefix}
 use Rattle.answer_text.specs.Pieces.{Gathers}
-use Rattle.answer_text.proofs.Pieces.{gathers_both, part_first, part_second, ok_weaker, err_weaker, err_any}
+use Rattle.answer_text.proofs.Pieces.{gathers_both, prefix_first, prefix_second, ok_weaker, err_weaker, err_any}
 use Rattle.answer_text.proofs.writing.put_asked.Goals as goal
 
 -- the two texts of a question's cost
@@ -12,12 +12,12 @@ parts_text parts bound = codes " parts" ++ out_of parts bound
 touches_text : ℕ → List ℕ
 touches_text touches = codes " touches " ++ decimal touches
 
-pub returns-in_err-put_out_of-clause-part : goal.returns-in_err-put_out_of-clause-part
+pub returns-in_err-put_out_of-clause-prefix : goal.returns-in_err-put_out_of-clause-prefix
 unfolding parts_text touches_text
-returns-in_err-put_out_of-clause-part g c =
+returns-in_err-put_out_of-clause-prefix g c =
     let told : parts_text c.from.result c.from-2.result ++ touches_text c.args.asked.touches ≡ parts_text c.args.asked.parts c.args.asked.part_bound ++ touches_text c.args.asked.touches = λ i. parts_text (c.from.ensures i) (c.from-2.ensures i) ++ touches_text c.args.asked.touches in
-    err_any c.from_residual.result _ (subst (λ (t : List ℕ). AppendsPart (g.K.Sink.written c.args.sink.now) (g.K.Sink.written c.put_out_of.new.sink) (c.args.piece.now.items ++ t)) told
-    (part_first _ _ c.args.piece.now.items (parts_text c.from.result c.from-2.result) (touches_text c.args.asked.touches) c.in_err-put_out_of.ensures.part))
+    err_any c.from_residual.result _ (subst (λ (t : List ℕ). AppendsProperPrefix (g.K.Sink.written c.args.sink.now) (g.K.Sink.written c.put_out_of.new.sink) (c.args.piece.now.items ++ t)) told
+    (prefix_first _ _ c.args.piece.now.items (parts_text c.from.result c.from-2.result) (touches_text c.args.asked.touches) c.in_err-put_out_of.ensures.prefix))
 
 pub returns-clause-all : goal.returns-clause-all
 unfolding parts_text touches_text
@@ -26,9 +26,9 @@ returns-clause-all g c =
     ok_weaker c.put_labelled.result _ _ (λ more. subst (Gathers (g.K.Sink.written c.args.sink.now) (g.K.Sink.written c.put_labelled.new.sink) c.args.piece.now.items c.put_labelled.new.piece.items) told
     (gathers_both _ _ _ _ _ _ (parts_text c.from.result c.from-2.result) (touches_text c.args.asked.touches) c.in_ok-put_out_of.ensures.all more)) c.put_labelled.ensures.all
 
-pub returns-clause-part : goal.returns-clause-part
+pub returns-clause-prefix : goal.returns-clause-prefix
 unfolding parts_text touches_text
-returns-clause-part g c =
+returns-clause-prefix g c =
     let told : parts_text c.from.result c.from-2.result ++ touches_text c.args.asked.touches ≡ parts_text c.args.asked.parts c.args.asked.part_bound ++ touches_text c.args.asked.touches = λ i. parts_text (c.from.ensures i) (c.from-2.ensures i) ++ touches_text c.args.asked.touches in
-    err_weaker c.put_labelled.result _ _ (λ more. subst (λ (t : List ℕ). AppendsPart (g.K.Sink.written c.args.sink.now) (g.K.Sink.written c.put_labelled.new.sink) (c.args.piece.now.items ++ t)) told
-    (part_second _ _ _ _ _ (parts_text c.from.result c.from-2.result) (touches_text c.args.asked.touches) c.in_ok-put_out_of.ensures.all more)) c.put_labelled.ensures.part
+    err_weaker c.put_labelled.result _ _ (λ more. subst (λ (t : List ℕ). AppendsProperPrefix (g.K.Sink.written c.args.sink.now) (g.K.Sink.written c.put_labelled.new.sink) (c.args.piece.now.items ++ t)) told
+    (prefix_second _ _ _ _ _ (parts_text c.from.result c.from-2.result) (touches_text c.args.asked.touches) c.in_ok-put_out_of.ensures.all more)) c.put_labelled.ensures.prefix

@@ -1,4 +1,4 @@
-use Rattle.std.proofs.Common.{◌≡◌, Some, None, sym, ap, ◌∙◌, option_map}
+use Rattle.std.proofs.Common.{Some, sym, ap, ◌∙◌, option_map}
 use Rattle.map_model.specs.Grammar.{words}
 use Rattle.map_shapes.specs.IndexSet.{index_set_of}
 use Rattle.script_lang.specs.Indexes.{with_index_words}

@@ -1,4 +1,4 @@
-use Rattle.std.proofs.Common.{sym, ap, ◌∙◌, option_map, None}
+use Rattle.std.proofs.Common.{sym, ap, ◌∙◌, option_map}
 use Rattle.script_lang.proofs.Reading.{none_left}
 use Rattle.script_lang.proofs.numbers.read_numbers.Goals as goal
 

@@ -1,12 +1,10 @@
 use Rattle.std.proofs.lemmas.Result.{err_from_is_err_and}
-use Rattle.std.proofs.Common.{◌≡◌, Ok, Err, Some, None, sym, ap, ◌∙◌}
+use Rattle.std.proofs.Common.{Ok, Err, Some, None, sym, ap, ◌∙◌}
 use Rattle.map_model.specs.Grammar.{words}
-use Rattle.map_model.specs.Script.LineFault as faults
 use Rattle.script_lang.specs.Form.{verb_of, form_of}
 use Rattle.script_lang.specs.LineFault.{fault_of}
-use Rattle.script_lang.specs.Command.{parsed_command}
 use Rattle.script_lang.specs.Parsing.{layer_of}
-use Rattle.script_lang.proofs.Walk.{few_coordinates, walk_to, end_missing, name_missing, behind_name, order_missing, layer_reached, finished, layered, values_in}
+use Rattle.script_lang.proofs.Walk.{few_coordinates, walk_to, end_missing, name_missing, behind_name, order_missing, layer_reached, finished}
 use Rattle.script_lang.proofs.parsing.read_form.Goals as goal
 
 pub read_numbers-requires : goal.read_numbers-requires
