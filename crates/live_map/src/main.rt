@@ -13,9 +13,9 @@ ghost use Rattle.live_map.specs.Run.{code_of};
 
 use map_io::{StdSink, StdSource};
 pub use run::{Status, run};
+use std::io::ErrorKind;
 use std::process::ExitCode;
 use std::rt::Env;
-use std::io::ErrorKind;
 use std::{env, io};
 
 /// The exit status where no memory is found for the arguments.
@@ -31,12 +31,7 @@ fn main(rt: HostRuntime) -> ExitCode {
     };
     let mut source = StdSource::new(rt.stdin());
     let mut sink = StdSink::new(rt.stdout());
-    exit_code(run(
-        rt.alloc(),
-        words_of(&arguments),
-        &mut source,
-        &mut sink,
-    ))
+    exit_code(run(rt.alloc(), words_of(&arguments), &mut source, &mut sink))
 }
 
 /// The list of arguments, of which the first is the program's name.

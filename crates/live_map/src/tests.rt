@@ -125,11 +125,7 @@ fn scripts_are_answered(rt: HostRuntime) -> Result<(), Fail> {
 }
 
 /// A run with a word, and what it wrote.
-fn run_with_a_word(
-    alloc: Global,
-    space: usize,
-    piece: usize,
-) -> Result<(Status, Vec<u8>), Fail>
+fn run_with_a_word(alloc: Global, space: usize, piece: usize) -> Result<(Status, Vec<u8>), Fail>
     requires { 1 ≤ piece }
 {
     let words = [String::from_str(alloc, "x")?];

@@ -79,8 +79,8 @@ pub HasDistinctKeys-with_item_in : (name : List ℕ) (item : Item) (into : Layer
 HasDistinctKeys-with_item_in name item into [] found fresh h = h
 HasDistinctKeys-with_item_in name item into (layer ∷ layers) found fresh h =
     elim (bytes_eq layer.name name) as (λ b. bytes_eq layer.name name ≡ b → (if b then Some layer else layer_named name layers) ≡ Some into → HasDistinctKeys ((if b then with_item item layer else layer) ∷ with_item_in name item layers)) [
-      true ↦ λ same is. put_in_first name item layer layers ((bytes_eq-Decides layer.name name).0 same) (subst (λ l. is_live item.id l.items ≡ false) (ap (λ found. unwrap_or found layer) (sym is)) fresh) h
-    | false ↦ λ other is. HasDistinctKeys-cons layer (with_item_in name item layers) (names_kept name item (λ n. layer.name ≢ n) layers (names_apart layer layers h)) (ids_apart layer layers h)
+      | true ↦ λ same is. put_in_first name item layer layers ((bytes_eq-Decides layer.name name).0 same) (subst (λ l. is_live item.id l.items ≡ false) (ap (λ found. unwrap_or found layer) (sym is)) fresh) h
+      | false ↦ λ other is. HasDistinctKeys-cons layer (with_item_in name item layers) (names_kept name item (λ n. layer.name ≢ n) layers (names_apart layer layers h)) (ids_apart layer layers h)
           (HasDistinctKeys-with_item_in name item into layers is fresh (HasDistinctKeys-rest layer layers h))
     ] refl found
 
@@ -90,8 +90,8 @@ HasDistinctKeys-add_to : (state : State) (name : List ℕ) (item : Item) (found 
 HasDistinctKeys-add_to state name item None is h = h
 HasDistinctKeys-add_to state name item (Some layer) is h =
     elim (is_live item.id layer.items) as (λ b. is_live item.id layer.items ≡ b → HasDistinctKeys (if b then refused state (Duplicate item.id) else record { state = with_item_in name item state; reply = Updated }).state) [
-      true ↦ λ live. h
-    | false ↦ λ fresh. HasDistinctKeys-with_item_in name item layer state is fresh h
+      | true ↦ λ live. h
+      | false ↦ λ fresh. HasDistinctKeys-with_item_in name item layer state is fresh h
     ] refl
 
 HasDistinctKeys-count_of : (state : State) (rect : Rect) (found : Option Layer) → HasDistinctKeys state → HasDistinctKeys (count_of state rect found).state

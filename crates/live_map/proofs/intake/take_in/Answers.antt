@@ -8,5 +8,8 @@ returns-in_err-ending-clause-no_memory g c =
     let p = err_from_is_err_and c.from_residual.result c.from_residual.ensures.1 in
     let more = c.in_err-ending.ensures.taken in
     let text = c.loop-ending.text.items in
-    rw p.1 (c.loop-ending.text.items ++ more.0, Consumes-trans (g.S.Source.rest c.args.source.now) (g.S.Source.rest c.loop-ending.source) (g.S.Source.rest c.take_piece.new.source) c.loop-ending.text.items more.0 c.loop-ending.invariant.taken more.1,
-    omega (arith, length-append text more.0, more.2, c.loop-ending.invariant.fits))
+    rw p.1 (
+      c.loop-ending.text.items ++ more.0,
+      Consumes-trans (g.S.Source.rest c.args.source.now) (g.S.Source.rest c.loop-ending.source) (g.S.Source.rest c.take_piece.new.source) c.loop-ending.text.items more.0 c.loop-ending.invariant.taken more.1,
+      omega (arith, length-append text more.0, more.2, c.loop-ending.invariant.fits),
+    )

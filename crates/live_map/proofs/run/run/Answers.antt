@@ -27,6 +27,6 @@ returns-in-Ok-clause-past_limit g c =
     let Causes : List ℕ → Type 0 = λ taken. length taken ≡ script_limit + 1 → (c.answer.result ≡ TooLong) ⊎ ((c.answer.result ≡ WriteFault) ⊎ (c.answer.result ≡ NoMemory)) in
     told_ending c.in-Ok.ending c.take_in.new.text.items _ _ Causes c.in-Ok.ensures.taken
     (λ taken is many. elim is [
-      inl within ↦ absurd (omega arith)
-    | inr past ↦ too_long_status c.in-Ok.ending c.deref.result.now (g.K.Sink.written c.args.sink.now) (g.K.Sink.written c.answer.new.sink) c.answer.result c.answer.ensures.answered past.1
+      | inl within ↦ absurd (omega arith)
+      | inr past ↦ too_long_status c.in-Ok.ending c.deref.result.now (g.K.Sink.written c.args.sink.now) (g.K.Sink.written c.answer.new.sink) c.answer.result c.answer.ensures.answered past.1
     ])
