@@ -1,5 +1,6 @@
 -- The refinement: what each operation on the nodes and the ends makes of their list.
 use Rattle.std.proofs.Common.{◌↔◌, ◌≡◌, ◌≢◌, ℕ, ◌+◌, Bool, true, false, List, [], ◌∷◌, ◌++◌, Option, Some, None, refl, sym, ap, ◌∙◌, arith, subst, append-nil, length-append, reverse, add-zero}
+use Rattle.std.proofs.lemmas.Bool.{true_from_ne_false, false_from_ne_true}
 use Rattle.std.proofs.lemmas.Bool.Decides.{nat_tests}
 use Rattle.std.specs.Option.{option_map_or}
 use Rattle.slab.proofs.SlabLemmas.{vacant_after_removal}
@@ -8,7 +9,7 @@ use Rattle.id_chain.specs.declared.node.Node.{Node}
 use Rattle.id_chain.specs.Chain.{Entry, is_linked, before, after, first_or, last_or, first_handle, last_handle}
 use Rattle.id_chain.specs.Linking.{walk_back, IsRun, IsChainOf, Refines, list_of, SetsNext, SetsPrev, IsNodeOf}
 use Rattle.id_chain.proofs.Links.{ContainsKey-some}
-use Rattle.id_chain.proofs.Entries.{not_false, not_true, last_handle-linked, first_handle-linked, item_at-linked, split_at, no_end, linked_head, linked_tail, unlinked_parts, unlinked_both, unlinked_head, unlinked_more, first_or-append, last_or-append, last_or-other, first_or-other, Apart-parts, HandlesDiffer-append}
+use Rattle.id_chain.proofs.Entries.{last_handle-linked, first_handle-linked, item_at-linked, split_at, no_end, linked_head, linked_tail, unlinked_parts, unlinked_both, unlinked_head, unlinked_more, first_or-append, last_or-append, last_or-other, first_or-other, Apart-parts, Apart-without, HandlesDiffer-append}
 use Rattle.id_chain.proofs.Runs.{walk-run, walk_back-run, IsRun-parts, IsRun-append, IsRun-same, IsRun-next, IsRun-prev, node_at, linked_apart, run_linked, vacant_unlinked, first_or-linked, last_or-linked}
 
 module _ {I : Type 0} where
@@ -64,17 +65,14 @@ module _ {I : Type 0} where
           front = chain.differ;
           back = (refl, tt);
           front_only = λ other linked. grind (arith, nat_tests, linked_apart place other es unlinked linked);
-          back_only = λ other linked.
-              let same : place ≡ other = grind (arith, nat_tests) in
-              ap (λ p. is_linked p es) (sym same) ∙ unlinked;
+          back_only = λ other linked. grind (arith, nat_tests);
         });
         full = omega (arith, length-append es (record { handle = place; item = item } ∷ []), chain.full, len, sets.len);
         only = λ other none.
             let parts = unlinked_parts other es _ none in
-            let before : is_linked other es ≡ false = parts.0 in
-            let apart : other ≢ place = λ same. (unlinked_head other (record { handle = place; item = item }) [] parts.1).0 (sym same) in
-            let not_last : ¬ (last ≡ Some other) = λ same. no_end (last_or-other other None es before (sym chain.last_is ∙ same)) in
-            sets.others other not_last ∙ updates.others other apart ∙ chain.only other before;
+            let apart : other ≢ place = λ same. grind (arith, nat_tests) in
+            let not_last : ¬ (last ≡ Some other) = λ same. no_end (last_or-other other None es parts.0 (sym chain.last_is ∙ same)) in
+            sets.others other not_last ∙ updates.others other apart ∙ chain.only other parts.0;
       }
 
   pub unlinked : (old nodes mid new : Slab (Node I)) (first last prev next : Option ℕ) (front : List (Entry I)) (e : Entry I) (back : List (Entry I))
@@ -88,17 +86,13 @@ module _ {I : Type 0} where
       → IsChainOf new (option_map_or (λ _. first) prev next) (option_map_or (λ _. last) next prev) (front ++ back)
   unlinked old nodes mid new first last prev next front e back chain updates len prev_is next_is sets_next sets_prev =
       let apart = Apart-parts front (e ∷ back) chain.differ in
-      let e_after : is_linked e.handle back ≡ false = apart.back.0 in
       let e_before : is_linked e.handle front ≡ false = apart.back_only e.handle (linked_head e back) in
-      let back_apart : (other : ℕ) → is_linked other back ≡ true → is_linked other front ≡ false =
-      λ other linked. apart.back_only other (linked_tail other e back linked) in
-      let front_apart : (other : ℕ) → is_linked other front ≡ true → is_linked other back ≡ false =
-      λ other linked. (unlinked_head other e back (apart.front_only other linked)).1 in
+      let both = Apart-without front e back apart in
       let parts = IsRun-parts (get old) None front (e ∷ back) None chain.run in
       let front_kept : IsRun (get nodes) None front (Some e.handle) =
       IsRun-same (get old) (get nodes) None front (Some e.handle) (λ other linked. updates.others other (linked_apart e.handle other front e_before linked)) parts.0 in
       let back_kept : IsRun (get nodes) (Some e.handle) back None =
-      IsRun-same (get old) (get nodes) (Some e.handle) back None (λ other linked. updates.others other (linked_apart e.handle other back e_after linked)) parts.1.1 in
+      IsRun-same (get old) (get nodes) (Some e.handle) back None (λ other linked. updates.others other (linked_apart e.handle other back apart.back.0 linked)) parts.1.1 in
       let not_prev : (other : ℕ) → is_linked other front ≡ false → ¬ (prev ≡ Some other) =
       λ other none same. no_end (last_or-other other None front none (sym prev_is ∙ same)) in
       let not_next : (other : ℕ) → is_linked other back ≡ false → ¬ (next ≡ Some other) =
@@ -106,9 +100,9 @@ module _ {I : Type 0} where
       let front_next : IsRun (get mid) None front next =
       IsRun-next nodes mid None front (Some e.handle) next apart.front (rw prev_is at sets_next) front_kept in
       let back_next : IsRun (get mid) (Some e.handle) back None =
-      IsRun-same (get nodes) (get mid) (Some e.handle) back None (λ other linked. sets_next.others other (not_prev other (back_apart other linked))) back_kept in
+      IsRun-same (get nodes) (get mid) (Some e.handle) back None (λ other linked. sets_next.others other (not_prev other (both.back_only other linked))) back_kept in
       let front_done : IsRun (get new) None front next =
-      IsRun-same (get mid) (get new) None front next (λ other linked. sets_prev.others other (not_next other (front_apart other linked))) front_next in
+      IsRun-same (get mid) (get new) None front next (λ other linked. sets_prev.others other (not_next other (both.front_only other linked))) front_next in
       let back_done : IsRun (get new) prev back None =
       IsRun-prev mid new (Some e.handle) back None prev apart.back.1 (rw next_is at sets_prev) back_next in
       record {
@@ -119,12 +113,7 @@ module _ {I : Type 0} where
             let ends : last ≡ last_or (Some e.handle) back = chain.last_is ∙ last_or-append None front (e ∷ back) in
             rw (ends, prev_is, next_is) (last_or-linked back (Some e.handle) (last_handle front) ∙ sym (last_or-append None front back));
         run = IsRun-append (get new) None front back None (rw next_is at front_done) (rw prev_is at back_done);
-        differ = HandlesDiffer-append front back (record {
-          front = apart.front;
-          back = apart.back.1;
-          front_only = front_apart;
-          back_only = back_apart;
-        });
+        differ = HandlesDiffer-append front back both;
         full = omega (arith, length-append front back, length-append front (e ∷ back), chain.full, len, sets_next.len, sets_prev.len);
         only = λ other none.
             let parts = unlinked_parts other front back none in
@@ -182,13 +171,10 @@ module _ {I : Type 0} where
 
   pub has_is : (nodes : Slab (Node I)) (first last : Option ℕ) (es : List (Entry I)) (handle : ℕ) (b : Bool) → IsChainOf nodes first last es
       → ((b ≡ true) ↔ ContainsKey nodes handle) → b ≡ is_linked handle es
-  has_is nodes first last es handle true chain is = sym (not_false _ (λ none.
-      let clash : ContainsKey nodes handle = is.0 refl in
+  has_is nodes first last es handle true chain is = sym (true_from_ne_false _ (λ none.
       let vacant = chain.only handle none in
-      (let none_is : false ≡ true = rw vacant at clash in cc)))
-  has_is nodes first last es handle false chain is = sym (not_true _ (λ linked.
-      let clash : false ≡ true = is.1 (linked_present nodes first last es handle chain linked) in
-      cc))
+      let clash : false ≡ true = rw vacant at (is.0 refl) in cc))
+  has_is nodes first last es handle false chain is = sym (false_from_ne_true _ (λ linked. let clash = is.1 (linked_present nodes first last es handle chain linked) in cc))
 
   -- the last node is there still once a new one is inserted
   pub present_last : (old nodes : Slab (Node I)) (first last : Option ℕ) (es : List (Entry I)) (place : ℕ) (slot : Option (Node I)) → IsChainOf old first last es

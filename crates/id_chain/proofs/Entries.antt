@@ -1,20 +1,12 @@
 -- Lemmas on lists of entries, for this crate and its callers.
 use Rattle.std.proofs.Common.{◌≡◌, ◌⊎◌, ℕ, ◌||◌, Bool, true, false, List, [], ◌∷◌, ◌++◌, Option, Some, None, refl, sym, ap, ◌∙◌, inl, inr, arith}
-use Rattle.std.proofs.lemmas.Bool.{cases_eq}
+use Rattle.std.proofs.lemmas.Bool.{cases_eq, true_from_ne_false}
 use Rattle.std.proofs.lemmas.Bool.Decides.{nat_tests}
 use Rattle.std.proofs.lemmas.Grind.{common_steps}
 use Rattle.id_chain.specs.Chain.{Entry, is_linked, HandlesDiffer, item_at, before, after, first_or, last_or, first_handle, last_handle}
 
-pub no_end : {n : ℕ} → None ≡ Some n → ⊥
+pub no_end : {A : Type 0} {x : A} → None ≡ Some x → ⊥
 no_end same = cc
-
-pub not_true : (b : Bool) → ¬ (b ≡ true) → b ≡ false
-not_true true other = absurd (other refl)
-not_true false other = refl
-
-pub not_false : (b : Bool) → ¬ (b ≡ false) → b ≡ true
-not_false true other = refl
-not_false false other = absurd (other refl)
 
 module _ {I : Type 0} where
   -- a list is empty, or has a last entry
@@ -60,8 +52,7 @@ module _ {I : Type 0} where
   -- a handle that isn't among the entries is the last of them only where there are none, and it is before them
   pub last_or-other : (handle : ℕ) (prev : Option ℕ) (es : List (Entry I)) → is_linked handle es ≡ false → last_or prev es ≡ Some handle → prev ≡ Some handle
   last_or-other handle prev [] other last = last
-  last_or-other handle prev (e ∷ es) other last =
-      absurd (grind (arith, nat_tests, last_or-other handle (Some e.handle) es))
+  last_or-other handle prev (e ∷ es) other last = absurd (grind (arith, nat_tests, last_or-other handle (Some e.handle) es))
 
   pub first_or-other : (handle : ℕ) (es : List (Entry I)) (next : Option ℕ) → is_linked handle es ≡ false → first_or es next ≡ Some handle → next ≡ Some handle
   first_or-other handle [] next other first = first
@@ -90,6 +81,15 @@ module _ {I : Type 0} where
         front_only = λ handle h. grind (arith, nat_tests, rest.front_only handle);
         back_only = λ handle h. grind (arith, nat_tests, rest.back_only handle);
       }
+
+  -- the second part without its first entry
+  pub Apart-without : (xs : List (Entry I)) (e : Entry I) (ys : List (Entry I)) → Apart xs (e ∷ ys) → Apart xs ys
+  Apart-without xs e ys apart = record {
+    front = apart.front;
+    back = apart.back.1;
+    front_only = λ handle h. grind (arith, nat_tests, apart.front_only handle);
+    back_only = λ handle h. grind (arith, nat_tests, apart.back_only handle);
+  }
 
   pub HandlesDiffer-append : (xs ys : List (Entry I)) → Apart xs ys → HandlesDiffer (xs ++ ys)
   HandlesDiffer-append [] ys apart = apart.back
@@ -134,7 +134,7 @@ module _ {I : Type 0} where
 
   -- a handle at an end is linked
   pub last_handle-linked : (es : List (Entry I)) (handle : ℕ) → last_handle es ≡ Some handle → is_linked handle es ≡ true
-  last_handle-linked es handle last = not_false _ (λ none. no_end (last_or-other handle None es none last))
+  last_handle-linked es handle last = true_from_ne_false _ (λ none. no_end (last_or-other handle None es none last))
 
   pub first_handle-linked : (es : List (Entry I)) (handle : ℕ) → first_handle es ≡ Some handle → is_linked handle es ≡ true
-  first_handle-linked es handle first = not_false _ (λ none. no_end (first_or-other handle es None none first))
+  first_handle-linked es handle first = true_from_ne_false _ (λ none. no_end (first_or-other handle es None none first))

@@ -1,6 +1,6 @@
 -- Runs of linked nodes.
 use Rattle.std.proofs.Common.{◌≡◌, ◌≢◌, ℕ, suc, ◌+◌, true, false, List, [], ◌∷◌, ◌++◌, length, Option, Some, None, refl, sym, ap, ◌∙◌, inl, inr, arith, append_assoc, zero-add, reverse}
-use Rattle.std.proofs.lemmas.Bool.{cases_eq}
+use Rattle.std.proofs.lemmas.Bool.{cases_eq, false_from_ne_true}
 use Rattle.std.proofs.lemmas.Bool.Decides.{nat_tests}
 use Rattle.std.proofs.lemmas.Grind.{reverse_onto}
 use Rattle.std.specs.Option.{option_map_or}
@@ -8,7 +8,7 @@ use Rattle.slab.specs.Slab.{Slab, get}
 use Rattle.id_chain.specs.declared.node.Node.{Node}
 use Rattle.id_chain.specs.Chain.{Entry, is_linked, HandlesDiffer, first_or, last_or}
 use Rattle.id_chain.specs.Linking.{walk, walk_back, IsRun, SetsNext, SetsPrev}
-use Rattle.id_chain.proofs.Entries.{not_true, first_or-append, last_or-other, last_or-some}
+use Rattle.id_chain.proofs.Entries.{no_end, first_or-append, last_or-other, last_or-some}
 
 module _ {I : Type 0} where
   -- the walk by `next` over a run gives its entries
@@ -48,16 +48,10 @@ module _ {I : Type 0} where
       (same e.handle (grind (arith, nat_tests)) ∙ run.0, IsRun-same at now (Some e.handle) es next (λ place linked. same place (grind (arith, nat_tests))) run.1)
 
   last_not_first : (e f : Entry I) (es : List (Entry I)) → is_linked e.handle (f ∷ es) ≡ false → last_or (Some f.handle) es ≡ Some e.handle → ⊥
-  last_not_first e f es other last =
-      let before : Some f.handle ≡ Some e.handle = last_or-other e.handle (Some f.handle) es (grind (arith, nat_tests)) last in
-      let same : f.handle ≡ e.handle = cc in
-      grind (arith, nat_tests)
+  last_not_first e f es other last = grind (arith, nat_tests, last_or-other e.handle (Some f.handle) es)
 
   first_not_later : (e : Entry I) (es : List (Entry I)) (place : ℕ) → is_linked e.handle es ≡ false → is_linked place es ≡ true → Some e.handle ≡ Some place → ⊥
-  first_not_later e es place other linked first =
-      let same : e.handle ≡ place = cc in
-      let clash : false ≡ true = sym other ∙ ap (λ p. is_linked p es) same ∙ linked in
-      cc
+  first_not_later e es place other linked first = grind (arith, nat_tests)
 
   -- the last node of a run is linked to what follows now
   pub IsRun-next : (old new : Slab (Node I)) (prev : Option ℕ) (es : List (Entry I)) (next to : Option ℕ) → HandlesDiffer es
@@ -98,10 +92,8 @@ module _ {I : Type 0} where
   -- no run comes by a place with no node
   pub vacant_unlinked : (at : ℕ → Option (Node I)) (prev : Option ℕ) (es : List (Entry I)) (next : Option ℕ) (place : ℕ) → IsRun at prev es next → at place ≡ None
       → is_linked place es ≡ false
-  vacant_unlinked at prev es next place run vacant = not_true _ (λ linked.
-      let found = run_linked at prev es next place run linked in
-      let clash : None ≡ Some found.0 = sym vacant ∙ found.1 in
-      cc)
+  vacant_unlinked at prev es next place run vacant = false_from_ne_true _ (λ linked.
+      let found = run_linked at prev es next place run linked in no_end (sym vacant ∙ found.1))
 
   -- the first handle is set where nothing is before, and the last where nothing follows
   pub first_or-linked : (es : List (Entry I)) (old next : Option ℕ) → option_map_or (λ _. first_or es old) (last_or None es) next ≡ first_or es next

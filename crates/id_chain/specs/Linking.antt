@@ -33,7 +33,7 @@ module _ {I : Type 0} where
     pub full : length es ≡ slab_len nodes
     pub only : (place : ℕ) → is_linked place es ≡ false → get nodes place ≡ None
 
-  -- the list that the fields stand for: the walk by `next` from the first place, over as many nodes as there are
+  -- the list of the fields: the walk by `next` from the first place, over as many nodes as there are
   abbrev pub list_of : Slab (Node I) → Option ℕ → List (Entry I)
   list_of nodes first = walk (get nodes) (slab_len nodes) first
 

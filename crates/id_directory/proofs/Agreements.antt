@@ -2,14 +2,14 @@
 use Rattle.std.proofs.Common.{◌≡◌, ℕ, ◌+◌, Bool, true, false, if◌then◌else◌, List, [], ◌∷◌, ◌++◌, Option, Some, None, refl, sym, ap, ◌∙◌, subst, arith, inl, inr}
 use Rattle.std.specs.declared.cmp.Ordering.{Ordering}
 use Rattle.std.specs.declared.cmp.Ordering.TheVariants.{Less, Equal, Greater}
-use Rattle.std.proofs.lemmas.Bool.{cases_eq}
+use Rattle.std.proofs.lemmas.Bool.{cases_eq, false_from_ne_true}
 use Rattle.std.proofs.lemmas.Map.Lookups.{exact_unsigned}
 use Rattle.std.specs.Ordering.{nat_cmp, is_eq}
 use Rattle.std.specs.Option.{option_map_or}
 use Rattle.std.specs.BTreeMap.{BTreeMap, get, is_at, UpdatesBy}
 use Rattle.id_chain.specs.Chain.{Entry, is_linked, HandlesDiffer, before, after}
 use Rattle.id_chain.specs.StampsRise.{StampsRise}
-use Rattle.id_chain.proofs.Entries.{not_true, Apart-parts, HandlesDiffer-append, linked_tail, unlinked_head, unlinked_more}
+use Rattle.id_chain.proofs.Entries.{Apart-parts, Apart-without, HandlesDiffer-append, unlinked_more}
 use Rattle.id_chain.proofs.Stamps.{StampsRise-append, StampsRise-without}
 use Rattle.id_directory.specs.Directory.{DirectoryState, handle_of, without, IdsDiffer}
 use Rattle.id_directory.specs.Agreement.{is_pending, slot_of, Agrees}
@@ -21,7 +21,7 @@ equal_answer Equal test = refl
 equal_answer Greater test = absurd (cc)
 
 pub is_at-other : (id q : ℕ) → ¬ (id ≡ q) → is_at (nat_cmp id) q ≡ false
-is_at-other id q apart = not_true _ (λ test. apart (exact_unsigned id q (equal_answer (nat_cmp id q) test)))
+is_at-other id q apart = false_from_ne_true _ (λ test. apart (exact_unsigned id q (equal_answer (nat_cmp id q) test)))
 
 -- a slot with a handle is that of an item
 slot_handle : (found : Option ℕ) (waits : Bool) (handle : ℕ) → option_map_or (λ h. Some (Some h)) found (if waits then Some None else None) ≡ Some (Some handle)
@@ -42,14 +42,7 @@ module _ {I : Type 0} (id_of stamp : I → ℕ) where
       slot_handle (handle_of id_of id es) (is_pending id pending) handle (sym (agrees.found id) ∙ slot)
 
   differ_without : (front : List (Entry I)) (e : Entry I) (back : List (Entry I)) → HandlesDiffer (front ++ e ∷ back) → HandlesDiffer (front ++ back)
-  differ_without front e back differ =
-      let apart = Apart-parts front (e ∷ back) differ in
-      HandlesDiffer-append front back (record {
-        front = apart.front;
-        back = apart.back.1;
-        front_only = λ handle linked. (unlinked_head handle e back (apart.front_only handle linked)).1;
-        back_only = λ handle linked. apart.back_only handle (linked_tail handle e back linked);
-      })
+  differ_without front e back differ = HandlesDiffer-append front back (Apart-without front e back (Apart-parts front (e ∷ back) differ))
 
   pub Agrees-removed : (handles new : BTreeMap ℕ (Option ℕ)) (es : List (Entry I)) (spare spare' adds : ℕ) (pending : Option ℕ) (id handle : ℕ)
       → Agrees id_of stamp handles es spare adds pending → pending ≡ None → handle_of id_of id es ≡ Some handle
@@ -103,8 +96,8 @@ module _ {I : Type 0} (id_of stamp : I → ℕ) where
         handles_differ = HandlesDiffer-append es (e ∷ []) (record {
           front = agrees.handles_differ;
           back = (refl, tt);
-          front_only = λ other linked. not_true _ (λ there. clash other linked there);
-          back_only = λ other linked. not_true _ (λ there. clash other there linked);
+          front_only = λ other linked. false_from_ne_true _ (λ there. clash other linked there);
+          back_only = λ other linked. false_from_ne_true _ (λ there. clash other there linked);
         });
         rising =
             let P : ℕ → Type 0 = λ n. StampsRise stamp 0 (es ++ e ∷ []) (n + 1) in

@@ -69,7 +69,7 @@ module _ {I : Type 0} (id_of : I → ℕ) where
     | inr other ↦ let test = other_test _ _ other in handle_of-here front e back (rw test at none)
   ]
 
-  -- where no identifier stands twice, it is found no more once its entry is taken out
+  -- where no identifier is there twice, it is found no more once its entry is taken out
   pub handle_of-removed : (front : List (Entry I)) (e : Entry I) (back : List (Entry I)) → IdsDiffer id_of (front ++ e ∷ back)
       → handle_of id_of (id_of e.item) (front ++ back) ≡ None
   handle_of-removed [] e back differ = differ.0

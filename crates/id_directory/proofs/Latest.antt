@@ -33,7 +33,7 @@ module _ {I : Type 0} (id_of : I → ℕ) where
 
   by_parts : (es : List (Entry I)) (count handle : ℕ) (item : I) (front back : List (Entry I)) → HandlesDiffer es
       → es ≡ front ++ record { handle = handle; item = item } ∷ back → length back ≡ count → StepsBack es count handle item
-  by_parts es count handle item front back differ whole behind =
+  by_parts es count handle item front back differ whole later =
       let e : Entry I = record { handle = handle; item = item } in
       let apart = Apart-parts front (e ∷ back) (let P : List (Entry I) → Type 0 = HandlesDiffer in subst P whole differ) in
       let not_before : is_linked handle front ≡ false = apart.back_only handle (linked_head e back) in
@@ -43,7 +43,7 @@ module _ {I : Type 0} (id_of : I → ℕ) where
         linked = ap (is_linked handle) whole ∙ is_linked-append handle front (e ∷ back) ∙ rw (not_before, linked_head e back) refl;
         item_is = ap (item_at handle) whole ∙ item_at-split handle item front back not_before;
         within = omega arith;
-        latest = rw (sym behind, whole) (latest-split front e back);
+        latest = rw (sym later, whole) (latest-split front e back);
         prev = ap last_handle (ap (before handle) whole ∙ before-split handle item front back not_before
             ∙ sym (ap (λ n. take n es) shorter ∙ ap (take (length front)) whole ∙ take-append_seam front (e ∷ back)));
       }
@@ -63,8 +63,8 @@ module _ {I : Type 0} (id_of : I → ℕ) where
         ∙ ap (λ h. front ++ record { handle = h; item = some.1.item } ∷ back) here in
         let taken : length front + 1 ≡ length es - count =
         sym (length-append front (some.1 ∷ [])) ∙ ap length (sym some.2) ∙ length-take (length es - count) es ∙ omega arith in
-        let behind : length back ≡ count = length-drop (length es - count) es ∙ omega arith in
-        (some.1.item, by_parts es count handle some.1.item front back differ whole behind)
+        let later : length back ≡ count = length-drop (length es - count) es ∙ omega arith in
+        (some.1.item, by_parts es count handle some.1.item front back differ whole later)
   ]
 
   -- at the front the walk stays

@@ -38,7 +38,7 @@ module _ {I : Type 0} (id_of : I → ℕ) where
   without id [] = []
   without id (e ∷ es) = if id_of e.item == id then es else e ∷ without id es
 
-  -- no identifier stands twice
+  -- no two entries have the same identifier
   abbrev pub IdsDiffer : List (Entry I) → Type 0
   IdsDiffer [] = Unit {0}
   IdsDiffer (e ∷ es) = (handle_of (id_of e.item) es ≡ None) × IdsDiffer es

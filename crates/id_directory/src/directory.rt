@@ -105,7 +105,7 @@ impl<I: Named> Directory<I> {
         handle
     }
 
-    /// Takes out the item with this identifier. Its handle is no longer good.
+    /// Takes out the item with this identifier. Its handle isn't linked any more.
     pub fn remove(&mut self, id: u64) -> I
         requires none_pending { self.old.pending ≡ None }
         requires present { IsSome (handle_of I.id id self.old.entries) }

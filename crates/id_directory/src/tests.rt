@@ -50,7 +50,7 @@ fn finds_and_lists(rt: HostRuntime) -> Result<(), Fail> {
     Ok(())
 }
 
-/// Whether the first stands before the second and the second not before the first, in each of the orders.
+/// Whether the first is before the second and the second not before the first, in each of the orders.
 fn stands_before<I: Item>(first: &I, second: &I) -> [bool; 2] {
     [
         first.before(0, second) && !second.before(0, first),

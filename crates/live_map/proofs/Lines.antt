@@ -121,7 +121,7 @@ stopped_last start now now' written w w' text rest given p unended some e prefix
     stopped start now now' written w w' p.answered [] (lines text) rest p.bytes given
     (p.all ∙ ap (λ (ls : List (List ℕ)). p.answered ++ ls) (one_last rest unended some)) p.output p.appended e prefix
 
--- more text behind the whole lines that writing stopped in
+-- more text after the whole lines that writing stopped in
 pub stopped_in_more : (start now : SessionState) (written w : Option (List ℕ)) (text more : List ℕ) → IsStopped start written (whole_lines text) now w → IsStopped start written (lines (text ++ more)) now w
 stopped_in_more start now written w text more s =
     let r = lines_begin_whole text more in record {

@@ -45,7 +45,7 @@ pub fn answer_whole_lines<K: Sink>(
     Ok(())
 }
 
-/// Answers the lines of a text that a line feed ended, and gives what stands behind the last of them.
+/// Answers the lines of a text that a line feed ended, and gives what comes after the last of them.
 fn answer_ended_lines<'a, K: Sink>(
     session: &mut Session,
     text: &'a [u8],
@@ -67,7 +67,7 @@ fn answer_ended_lines<'a, K: Sink>(
     Ok(rest)
 }
 
-/// The first line that a line feed ends, and what stands behind the line feed.
+/// The first line that a line feed ends, and what comes after the line feed.
 fn split_line(text: &[u8]) -> Option<(&[u8], &[u8])>
     ensures { MatchOption result (one_line text.now ≡ true)
         (λ found. (text.now ≡ found.0.now ++ 10 ∷ found.1.now) × (one_line found.0.now ≡ true)) }

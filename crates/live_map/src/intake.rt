@@ -66,7 +66,7 @@ fn take_piece<S: Source>(text: &mut Vec<u8>, source: &mut S) -> Result<Option<En
     Ok(None)
 }
 
-/// How many bytes a read asks for: what fits a piece and the script, and one more behind the longest script.
+/// How many bytes a read asks for: what fits a piece and the script, and one more after the longest script.
 fn piece_len(taken: usize) -> usize
     requires { taken ≤ script_limit }
     ensures { result ≡ max 1 (min 4096 (script_limit - taken)) }

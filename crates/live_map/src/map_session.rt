@@ -78,8 +78,9 @@ impl Session {
 
     /// Executes a line that comes without its line feed, and writes its answer.
     ///
-    /// `WriteFault` comes only where the sink failed in this call. The line was executed then, and counts; a proper
-    /// prefix of its answer is written, and the session can be used again.
+    /// `WriteFault` comes only where the sink failed in this call. The line was executed then, and counts, and the session
+    /// can be used again. Of a sink that tells its bytes, a proper prefix of the answer was written; one that doesn't, as
+    /// `StdSink`, may have written all of it before its flush failed.
     ///
     /// Looks at every point of the layer that the line names.
     pub fn line<K: Sink>(&mut self, line: &[u8], sink: &mut K) -> Result<Done, WriteFault>

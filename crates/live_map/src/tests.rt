@@ -37,7 +37,7 @@ fn failing_calls(alloc: Global, call: u64) -> Result<Vec<u64>, AllocError>
 }
 
 /// What a script is answered, with its status.
-fn answered(
+fn run_script(
     alloc: Global,
     script: &[u8],
     reads: Plan,
@@ -114,10 +114,10 @@ const ROWS: [(&[u8], &[u8], Status); 12] = [
 fn scripts_are_answered(rt: HostRuntime) -> Result<(), Fail> {
     let alloc = rt.alloc();
     for (script, wanted, status) in ROWS {
-        let (ended, written) = answered(alloc, script, WHOLE, WHOLE)?;
+        let (ended, written) = run_script(alloc, script, WHOLE, WHOLE)?;
         assert_eq!(rt; ended, status);
         assert_eq!(rt; written.as_slice(), wanted);
-        let (ended, written) = answered(alloc, script, BYTEWISE, BYTEWISE)?;
+        let (ended, written) = run_script(alloc, script, BYTEWISE, BYTEWISE)?;
         assert_eq!(rt; ended, status);
         assert_eq!(rt; written.as_slice(), wanted);
     }
@@ -125,11 +125,7 @@ fn scripts_are_answered(rt: HostRuntime) -> Result<(), Fail> {
 }
 
 /// A run with a word, and what it wrote.
-fn answered_with_a_word(
-    alloc: Global,
-    space: usize,
-    piece: usize,
-) -> Result<(Status, Vec<u8>), Fail>
+fn run_with_a_word(alloc: Global, space: usize, piece: usize) -> Result<(Status, Vec<u8>), Fail>
     requires { 1 ≤ piece }
 {
     let words = [String::from_str(alloc, "x")?];
@@ -166,16 +162,16 @@ fn main_hands_on_words_and_statuses(rt: HostRuntime) -> Result<(), Fail> {
 fn words_are_refused(rt: HostRuntime) -> Result<(), Fail> {
     let alloc = rt.alloc();
     let usage: &[u8] = b"usage: livemap [--ledger] [--make SEED] [--size N]\n";
-    let (status, written) = answered_with_a_word(alloc, 64, 4096)?;
+    let (status, written) = run_with_a_word(alloc, 64, 4096)?;
     assert_eq!(rt; status, Status::Usage);
     assert_eq!(rt; status.code(), 2);
     assert_eq!(rt; written.as_slice(), usage);
-    let (status, written) = answered_with_a_word(alloc, 64, 1)?;
+    let (status, written) = run_with_a_word(alloc, 64, 1)?;
     assert_eq!(rt; status, Status::Usage);
     assert_eq!(rt; written.as_slice(), usage);
 
     // No room for the line: a proper prefix of it is written.
-    let (status, written) = answered_with_a_word(alloc, 5, 4096)?;
+    let (status, written) = run_with_a_word(alloc, 5, 4096)?;
     assert_eq!(rt; status, Status::WriteFault);
     assert_eq!(rt; written.as_slice(), b"usage".as_slice());
     Ok(())
@@ -199,7 +195,7 @@ fn lines_have_256_bytes_at_most(rt: HostRuntime) -> Result<(), Fail> {
         (258, b"no command\n".as_slice()),
         (1000, b"no command\n".as_slice()),
     ] {
-        let (_, written) = answered(alloc, &comment(alloc, len)?, WHOLE, WHOLE)?;
+        let (_, written) = run_script(alloc, &comment(alloc, len)?, WHOLE, WHOLE)?;
         assert_eq!(rt; written.as_slice(), wanted, "{len} bytes");
     }
     Ok(())
@@ -268,7 +264,7 @@ fn a_failing_source_leaves_the_whole_lines(rt: HostRuntime) -> Result<(), Fail> 
         let reads = script.len().div_ceil(piece) as u64;
         for failing in 1..=reads.saturating_add(1) {
             let taken = piece.saturating_mul(failing as usize - 1).min(script.len());
-            let (status, written) = answered(alloc, &script, Plan { piece, failing }, WHOLE)?;
+            let (status, written) = run_script(alloc, &script, Plan { piece, failing }, WHOLE)?;
             assert_eq!(rt; status, Status::ReadFault, "call {failing} at {piece}");
             assert_eq!(rt;
                 written.as_slice(),
@@ -293,7 +289,7 @@ fn a_failing_sink_keeps_the_front(rt: HostRuntime) -> Result<(), Fail> {
             } else {
                 Status::Refusals
             };
-            let (status, written) = answered(alloc, &script, WHOLE, Plan { piece, failing })?;
+            let (status, written) = run_script(alloc, &script, WHOLE, Plan { piece, failing })?;
             assert_eq!(rt; status, wanted, "call {failing} at {piece}");
             assert_eq!(rt;
                 written.as_slice(),
@@ -314,7 +310,7 @@ fn a_source_fails_in_the_fourth_line(rt: HostRuntime) -> Result<(), Fail> {
         piece: 30,
         failing: 4,
     };
-    let (status, written) = answered(rt.alloc(), script, reads, WHOLE)?;
+    let (status, written) = run_script(rt.alloc(), script, reads, WHOLE)?;
     assert_eq!(rt; status, Status::ReadFault);
     assert_eq!(rt; status.code(), 3);
     assert_eq!(rt; written.as_slice(), b"ok\nok\nok\n".as_slice());

@@ -100,6 +100,6 @@ next_is_call n number x xs rest next e same fits rising =
     let is : x ≡ n + 1 = omega arith in
     next ∙ ap (λ y. y ∷ rest) is
 
--- what stands behind it rises after it
+-- what comes after it rises after it
 pub RisesAfter-rest : (n : ℕ) (xs rest : List ℕ) → xs ≡ (n + 1) ∷ rest → RisesAfter n xs → RisesAfter (n + 1) rest
 RisesAfter-rest n xs rest next rising = let split : RisesAfter n ((n + 1) ∷ rest) = subst (RisesAfter n) next rising in split.1

@@ -1,6 +1,6 @@
 -- What a count of faults does in a call that fails.
 use Rattle.std.specs.Prelude.{ℕ, ◌-◌, ◌^◌, ◌<◌}
 
--- the count rose, or it stands at its last value, 2 ^ 64 - 1, which no count passes
+-- the count rose, or it has its last value, 2 ^ 64 - 1, which no count passes
 abbrev pub Rose : ℕ → ℕ → Type 0
 Rose old new = new < 2 ^ 64 - 1 → old < new

@@ -11,9 +11,9 @@ pub record MemSinkState : Type 0 where
   pub piece : ℕ
   -- the numbers of the failing calls that are still to come
   pub failing : List ℕ
-  -- the calls so far; it stands still at 2^64 - 1
+  -- the calls so far; it stays at 2^64 - 1
   pub calls : ℕ
-  -- the failed calls so far; it stands still at 2^64 - 1
+  -- the failed calls so far; it stays at 2^64 - 1
   pub faults : ℕ
 
 -- after a call

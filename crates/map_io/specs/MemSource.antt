@@ -9,9 +9,9 @@ pub record MemSourceState : Type 0 where
   pub piece : ℕ
   -- the numbers of the failing calls that are still to come
   pub failing : List ℕ
-  -- the calls so far; it stands still at 2^64 - 1
+  -- the calls so far; it stays at 2^64 - 1
   pub calls : ℕ
-  -- the failing calls so far; it stands still at 2^64 - 1
+  -- the failing calls so far; it stays at 2^64 - 1
   pub faults : ℕ
 
 -- after a call

@@ -17,7 +17,7 @@ pub trait Sink {
     /// The bytes taken so far, where the sink tells them.
     ghost written: { Self → Option (List ℕ) };
 
-    /// How often the outside has failed; it never falls and stands still at 2^64 - 1.
+    /// How often the outside has failed; it never falls, and stays at 2^64 - 1 once it is there.
     ghost faults: { Self → ℕ };
 
     /// Takes bytes from the front of `piece`, at least one, and says how many.
@@ -36,7 +36,8 @@ pub trait Sink {
 
 /// Hands all bytes to the sink, in as many calls as it asks for.
 ///
-/// It stops at the first call that fails, and no call is tried again. No bytes take no call.
+/// It stops at the first call that fails, and no call is tried again. No bytes take no call. After `WriteFault` a sink that
+/// tells its bytes has a proper prefix of them; one that doesn't may have taken them all.
 pub fn write_all<K: Sink>(sink: &mut K, bytes: &[u8]) -> Result<(), WriteFault>
     ensures all { OnOk result (Appends (K.written sink.old) (K.written sink.new) bytes.now) }
 

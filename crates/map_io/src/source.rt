@@ -27,13 +27,13 @@ pub trait Source {
     /// The bytes not yet taken, where the source tells them.
     ghost rest: { Self → Option (List ℕ) };
 
-    /// How often the outside has failed; it never falls and stands still at 2^64 - 1.
+    /// How often the outside has failed; it never falls, and stays at 2^64 - 1 once it is there.
     ghost faults: { Self → ℕ };
 
     /// Takes the next bytes and puts them at the front of `into`.
     ///
     /// `Ok(0)` means the end. A call may take fewer bytes than are left and fit. After `Failed`,
-    /// which took nothing, the same bytes can be asked for again; what stands in `into` then is
+    /// which took nothing, the same bytes can be asked for again; what `into` holds then is
     /// not said.
     fn read(&mut self, into: &mut [u8]) -> Result<usize, Failed>
         requires { 0 < length into.old }

@@ -142,7 +142,7 @@ Interrupted-from start before answered more script line full given taken e p a s
   is_written = refl;
 }
 
--- more lines behind those that writing stopped in
+-- more lines after those that writing stopped in
 pub Interrupted-append : (start end : State) (script more : List (List ℕ)) (written : List ℕ) → Interrupted start script written end → Interrupted start (script ++ more) written end
 Interrupted-append start end script more written h = record {
   answered = h.answered;

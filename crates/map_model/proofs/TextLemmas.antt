@@ -39,7 +39,7 @@ whole_lines-rest (byte ∷ text) h =
     let parts = and_parts (not (nat_eq byte 10)) (one_line text) h in
     ap (λ b. cond b ([] ∷ whole_lines text) (onto_first_if_any byte (whole_lines text))) (not-true (nat_eq byte 10) parts.0) ∙ ap (onto_first_if_any byte) (whole_lines-rest text parts.1)
 
--- what stands before a line feed begins with a line
+-- what is before a line feed begins with a line
 has_line : (text : List ℕ) → (line : List ℕ) × (more : List (List ℕ)) × (lines (text ++ 10 ∷ []) ≡ line ∷ more)
 has_line [] = ([], [], refl)
 has_line (byte ∷ text) =
@@ -49,7 +49,7 @@ has_line (byte ∷ text) =
       | inr no' ↦ (byte ∷ r.0, r.1, ap (λ b. cond b ([] ∷ lines (text ++ 10 ∷ [])) (onto_first byte (lines (text ++ 10 ∷ [])))) no' ∙ ap (onto_first byte) r.2)
     ]
 
--- The lines of a text that a line feed ends, with another text behind it, are the lines of both.
+-- The lines of a text that a line feed ends, with another text after it, are the lines of both.
 pub lines-append : (text rest : List ℕ) → lines ((text ++ 10 ∷ []) ++ rest) ≡ lines (text ++ 10 ∷ []) ++ lines rest
 lines-append [] rest = refl
 lines-append (byte ∷ text) rest =
@@ -115,7 +115,7 @@ refusals-append (Some reply) rest =
     ∙ sum_by-cons (λ line. cond (test line) 1 0) (reply_text reply) (lines rest)
     ∙ ap (λ b. cond b 1 0 + count_by test (lines rest)) (begins_no reply)
 
--- The whole lines of a text are the first lines of the text with more behind it.
+-- The whole lines of a text are the first lines of the text with more after it.
 pub lines_begin_whole : (text more : List ℕ) → (tail : List (List ℕ)) × (lines (text ++ more) ≡ whole_lines text ++ tail)
 lines_begin_whole [] more = (lines more, refl)
 lines_begin_whole (byte ∷ text) more =

@@ -25,7 +25,7 @@ prefix_len-le p (byte ∷ text) =
       | inr no' ↦ subst (λ b. cond b (1 + prefix_len p text) 0 ≤ suc (length text)) (sym no') (omega arith)
     ]
 
--- no blank stands behind the blanks at the front
+-- no blank comes right after the blanks at the front
 pub first_behind_blanks : (text : List ℕ) (byte : ℕ) (rest : List ℕ) → drop (prefix_len is_blank text) text ≡ byte ∷ rest → is_blank byte ≡ false
 first_behind_blanks [] byte rest e = cc
 first_behind_blanks (first ∷ text) byte rest e = elim (cases_Bool (is_blank first)) [
@@ -35,7 +35,7 @@ first_behind_blanks (first ∷ text) byte rest e = elim (cases_Bool (is_blank fi
       sym (ap is_blank same) ∙ filled
 ]
 
--- the first part of a text between blanks, and what the words behind it are
+-- the first part of a text between blanks, and what the words after it are
 first_part : (text : List ℕ) → (more : List (List ℕ)) × (slice_split is_blank text ≡ take (prefix_len is_word_byte text) text ∷ more) × (words (drop (prefix_len is_word_byte text) text) ≡ filter is_filled more)
 first_part [] = ([], refl, refl)
 first_part (byte ∷ text) = elim (cases_Bool (is_blank byte)) [

@@ -1,7 +1,7 @@
 //! What a map is, what a script's line says and what it is answered: the definitions that every other crate's
 //! contracts speak of, and the laws that hold of them.
 //!
-//! The definitions stand in `specs/`; `docs/DEFINITIONS.md` reads them aloud. Each function here is a law: it does
+//! The definitions are in `specs/`; `docs/DEFINITIONS.md` reads them aloud. Each function here is a law: it does
 //! nothing, and its contract holds of every map, every script and everything that may be written for it.
 #![tactic(auto)]
 

@@ -1,4 +1,4 @@
--- The map that a vector of points stands for.
+-- The map of a layer that is kept as a vector of points.
 use Rattle.std.specs.Prelude.{[], ◌∷◌, map, Option, Some, None}
 use Rattle.map_model.specs.State.{Layer, State}
 use Rattle.map_shapes.specs.Point.{item_of}

@@ -16,22 +16,22 @@ pub fn execute(map: &mut ScannedMap, command: Command) -> Reply
     match command {
         Command::Layer { name } => match map.create(name) {
             Ok(()) => Reply::Made,
-            Err(CreateFault::NoRoom) => refused(Refusal::Command),
+            Err(CreateFault::NoRoom) => refusal(Refusal::Command),
         },
         Command::Add { name, id, x, y, w } => match map.add_point(&name, id, x, y, w) {
             Ok(()) => Reply::Updated,
-            Err(UpdateFault::NoLayer) => refused(Refusal::NoLayer),
-            Err(UpdateFault::Duplicate(id)) => refused(Refusal::Duplicate { id }),
-            Err(UpdateFault::NoMemory) => refused(Refusal::NoMemory),
+            Err(UpdateFault::NoLayer) => refusal(Refusal::NoLayer),
+            Err(UpdateFault::Duplicate(id)) => refusal(Refusal::Duplicate { id }),
+            Err(UpdateFault::NoMemory) => refusal(Refusal::NoMemory),
         },
         Command::Count { name, rect } => match map.count(&name, &rect) {
             Ok(n) => Reply::Count { n },
-            Err(AskFault::NoLayer) => refused(Refusal::NoLayer),
+            Err(AskFault::NoLayer) => refusal(Refusal::NoLayer),
         },
     }
 }
 
-fn refused(cause: Refusal) -> Reply
+fn refusal(cause: Refusal) -> Reply
     ensures { result ≡ Reply.Refused cause }
 {
     Reply::Refused { cause }

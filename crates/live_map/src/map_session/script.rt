@@ -198,7 +198,7 @@ fn two_words(text: &[u8]) -> Option<(&[u8], &[u8], &[u8])>
     Some((first, second, rest))
 }
 
-/// The first word of the text, and what stands behind it.
+/// The first word of the text, and what comes after it.
 fn split_word(text: &[u8]) -> Option<(&[u8], &[u8])>
     ensures { MatchOption result (words text.now ≡ []) (λ found. words text.now ≡ found.0.now ∷ words found.1.now) }
 {

@@ -1,4 +1,4 @@
--- The copied bytes and those behind them are what was left.
+-- The copied bytes and those after them are what was left.
 use Rattle.std.proofs.Common.{◌≡◌, ◌+◌, ◌-◌, ◌≤◌, ◌++◌, length, take, drop, sym, ap, ◌∙◌, drop_of_length-le, length-take-le, arith}
 use Rattle.map_io.proofs.StreamLaws.{take-copied}
 use Rattle.map_io.proofs.mem_source.MemSourceSource.read.Goals as goal
