@@ -182,21 +182,6 @@ module _ {Item : Type 0} {stamp : Item → ℕ} {before : ℕ → Item → Item 
       };
     }
 
-    -- nor how many turns the builder has left
-    pub Merges-open : (is_sealed : Bool) (left : ℕ) → is_sealed ≡ false → Merges stamp before m part other (record b { is_sealed = is_sealed; left = left })
-    Merges-open is_sealed left open_still = record {
-      sources = h.sources;
-      unsealed = open_still;
-      to_go = h.to_go;
-      taking = h.taking;
-      retaking = record {
-        front = h.retaking.front;
-        in_turn = h.retaking.in_turn;
-        put = h.retaking.put;
-        placed = h.retaking.placed;
-      };
-    }
-
     pub Merges-marked : (dead : ℕ) → Merges stamp before m (marked stamp dead part) other b
     Merges-marked dead = Merges-flags (marked stamp dead part).flags other.flags
 

@@ -289,6 +289,13 @@ module _ {Item : Type 0} {stamp : Item → ℕ} {before : ℕ → Item → Item 
     pub OwnsStamp-waiting : OwnsStamp stamp x part.items
     OwnsStamp-waiting = OwnsStamp-read h x (All-last (λ y. IsReadOf m.a.table a.items y ⊎ IsReadOf m.b.table b.items y) waiting x h.noted)
 
+  -- the new part has at most as many items as there is room for
+  pub few_items : {m : Merging Item} {part : Contents Item} {waiting : List Item} {a b : Contents Item} {n : ℕ} → KeepsUp stamp before m part waiting a b
+      → part.at_level ≡ n → length part.items ≤ 2 ^ n
+  few_items {part = part} h level =
+      subst (λ n. length part.items ≤ 2 ^ n) level
+      (omega (arith, h.merges.taking.counted, taken_le h.merges, h.merges.sources.room, h.merges.taking.front.within, h.merges.taking.front.within_other))
+
   -- all is read, nothing waits, and the part is what it is
   module _ (c : Construction Item) (a b : Contents Item) (order : IsStrictTotalOrder stamp (before 0)) (h : Builds stamp before c a b)
       (none : c.waiting ≡ []) (ended : c.merge.left ≡ 0) (flagged : length c.part.contents.flags ≡ length c.part.contents.items)
@@ -351,15 +358,9 @@ module _ {Item : Type 0} {stamp : Item → ℕ} {before : ℕ → Item → Item 
           (skipped_of c.merge.a.table a.items) (skipped_of c.merge.b.table b.items))
           (Permuted-append (Permuted-skipped c.merge.a.table a.items (read_whole h.merges h.valid h.other_valid ended).0)
           (Permuted-skipped c.merge.b.table b.items (read_whole h.merges h.valid h.other_valid ended).1)));
+      few = few_items h at_level;
       level = at_level;
     }
-
-  -- the new part has at most as many items as there is room for
-  pub few_items : {m : Merging Item} {part : Contents Item} {waiting : List Item} {a b : Contents Item} {n : ℕ} → KeepsUp stamp before m part waiting a b
-      → part.at_level ≡ n → length part.items ≤ 2 ^ n
-  few_items {part = part} h level =
-      subst (λ n. length part.items ≤ 2 ^ n) level
-      (omega (arith, h.merges.taking.counted, taken_le h.merges, h.merges.sources.room, h.merges.taking.front.within, h.merges.taking.front.within_other))
 
   -- what contracts see of a construction, and as its fields are
   module _ {c seen : Construction Item} (is : c ≡ seen) {a b : Contents Item} where

@@ -83,6 +83,7 @@ module _ {Item : Type 0} where
   pub record IsPublished (c : Construction Item) (a b fresh : Contents Item) : Type 0 where
     pub live : Permuted (live_of fresh) (live_of a ++ live_of b)
     pub items : Permuted (fresh.items ++ (skipped_of c.merge.a.table a.items ++ skipped_of c.merge.b.table b.items)) (a.items ++ b.items)
+    pub few : length fresh.items ≤ 2 ^ c.level
     pub level : fresh.at_level ≡ c.level
 
 -- Between any two calls: what is left can be done in time, where one more item may wait than right after a tick.

@@ -1,12 +1,11 @@
 //! The construction itself.
 ghost use Rattle.std.specs.Prelude.{◌≡◌, ℕ, ◌+◌, ◌-◌, ◌*◌, ◌<◌, ◌≤◌, ◌^◌, [], ◌∷◌, ◌++◌, Bool, false, true, min, length, if◌then◌else◌, Some, slice_get, vec_capacity};
-ghost use Rattle.std.specs.List.{items_where_true};
 ghost use Rattle.query_laws.specs.StepLedger.{Spends};
 ghost use Rattle.builder_trait.specs.Parts.{Contents, marked};
 ghost use Rattle.builder_trait.specs.Builders.{begun, all_live};
 ghost use Rattle.ordered_merge.specs.Merging.{unbegun, is_passed};
 ghost use Rattle.partial_build.specs.Quota.{quota};
-ghost use Rattle.partial_build.specs.Construction.{Builds, IsOnTime, IsPublished, turns_left};
+ghost use Rattle.partial_build.specs.Construction.{Builds, IsOnTime, IsPublished, live_of, turns_left};
 
 use crate::new_part::NewPart;
 use crate::room::Tables;
@@ -149,8 +148,10 @@ impl<B: Builder> Build<B> {
         ensures cost { let marks = steps.new.marks - steps.old.marks in
             Spends steps.old steps.new 0 marks (marks * B.Part.Part.mark_touches self.old.level) }
     {
-        if self.part.is_built() {
-            self.mark_next(steps);
+        if !self.part.is_built() {
+            return;
+        }
+        for _drained in 0..MARKS {
             self.mark_next(steps);
         }
     }
@@ -205,8 +206,7 @@ impl<B: Builder> Build<B> {
         // Whichever the sources are.
         ensures published { (a b : Contents B.Item) → Builds B.Item.stamp B.Item.before self a b
             → IsPublished self a b (B.Part.Part.contents result.0) }
-        ensures live { (a b : Contents B.Item) → Builds B.Item.stamp B.Item.before self a b
-            → B.Part.Part.live_items result.0 ≡ items_where_true self.part.contents.flags self.part.contents.items }
+        ensures live { B.Part.Part.live_items result.0 ≡ live_of self.part.contents }
         ensures tables { result.1 ≡ self.level }
     {
         let Build {

@@ -12,3 +12,6 @@ mod room;
 
 pub use build::Build;
 pub use room::{Room, Tables};
+
+#[cfg(test)]
+mod tests;
