@@ -103,7 +103,7 @@ fn writes_numbers(rt: HostRuntime) -> Result<(), Fail> {
 }
 
 #[test]
-fn writes_places(rt: HostRuntime) -> Result<(), Fail> {
+fn writes_the_nearest(rt: HostRuntime) -> Result<(), Fail> {
     let asked = asked();
     let tail = b" parts 5/15 touches 99";
     let near = Found {
@@ -147,6 +147,13 @@ fn writes_places(rt: HostRuntime) -> Result<(), Fail> {
         b"nearest 4 1 9 1",
         tail,
     )?;
+    Ok(())
+}
+
+#[test]
+fn writes_the_highest(rt: HostRuntime) -> Result<(), Fail> {
+    let asked = asked();
+    let tail = b" parts 5/15 touches 99";
     check(
         &rt,
         rt.alloc(),
@@ -201,6 +208,11 @@ fn writes_identifiers(rt: HostRuntime) -> Result<(), Fail> {
         b"stab 1 2",
         tail,
     )?;
+    Ok(())
+}
+
+#[test]
+fn writes_the_recent(rt: HostRuntime) -> Result<(), Fail> {
     let mut recent = Recent::new();
     check(
         &rt,

@@ -93,12 +93,19 @@ impl<B: Builder> Build<B> {
         ensures cost { let turns = steps.new.turns - steps.old.turns in let marks = steps.new.marks - steps.old.marks in
             Spends steps.old steps.new turns marks (16 * turns + marks * B.Part.Part.mark_touches self.old.level) }
     {
-        let quota = B::SLOPE * self.level as u64 + B::BASE + 4;
+        let quota = self.quota();
         let reading = quota.min(self.merge.left());
         self.read(reading, a, b, steps);
         self.grow(quota - reading, steps);
         self.drain(steps);
         self.ticks += 1;
+    }
+
+    /// The most turns of a tick.
+    fn quota(&self) -> u64
+        ensures { result ≡ quota B.SLOPE B.BASE self.now.level }
+    {
+        B::SLOPE * self.level as u64 + B::BASE + 4
     }
 
     /// Reads so many items of the sources.

@@ -48,7 +48,7 @@ fn reads_updates(rt: HostRuntime) {
 }
 
 #[test]
-fn reads_questions(rt: HostRuntime) {
+fn reads_questions_of_rectangles(rt: HostRuntime) {
     assert!(rt;
         matches!(parse(b"count a 1 2 3 4"), Ok(Some(Command::Count { rect, .. })) if rect.x1 == 1 && rect.y1 == 2 && rect.x2 == 3 && rect.y2 == 4)
     );
@@ -58,6 +58,10 @@ fn reads_questions(rt: HostRuntime) {
     assert!(rt;
         matches!(parse(b"list a 1 2 3 4"), Ok(Some(Command::List { rect, .. })) if rect.x2 == 3)
     );
+}
+
+#[test]
+fn reads_questions_of_places(rt: HostRuntime) {
     assert!(rt;
         matches!(
             parse(b"near a 1 2"),
@@ -92,6 +96,10 @@ fn reads_questions(rt: HostRuntime) {
             Ok(Some(Command::Top { x1: 1, x2: 2, .. }))
         )
     );
+}
+
+#[test]
+fn reads_questions_of_segments(rt: HostRuntime) {
     assert!(rt; matches!(parse(b"stab a 1"), Ok(Some(Command::Stab { x: 1, .. }))));
     assert!(rt;
         matches!(
@@ -99,6 +107,10 @@ fn reads_questions(rt: HostRuntime) {
             Ok(Some(Command::StabCount { x: 1, .. }))
         )
     );
+}
+
+#[test]
+fn reads_questions_of_layers(rt: HostRuntime) {
     assert!(rt;
         matches!(
             parse(b"get a 0000000000018446744073709551615"),

@@ -1,8 +1,8 @@
-use Rattle.std.proofs.Common.{◌≡◌, ℕ, ◌+◌, ◌-◌, ◌*◌, ◌^◌, ◌∙◌, if◌then◌else◌, min, inl, inr, ap, sym, subst, arith, length, ⊎_elim}
+use Rattle.std.proofs.Common.{◌≡◌, ℕ, ◌+◌, ◌-◌, ◌^◌, ◌∙◌, if◌then◌else◌, min, inl, inr, ap, sym, subst, arith, length, ⊎_elim}
 use Rattle.std.proofs.lemmas.Bool.{cases_lt}
 use Rattle.partial_build.specs.Quota.{quota}
 use Rattle.partial_build.specs.Construction.{Construction, turns_left}
-use Rattle.partial_build.proofs.Clock.{twice, quota_is, built_ended, ended_built, IsTicked, IsTicked-paid}
+use Rattle.partial_build.proofs.Clock.{twice, built_ended, ended_built, IsTicked, IsTicked-paid}
 use Rattle.partial_build.proofs.build.Build.tick.Given.{Over}
 use Rattle.partial_build.proofs.build.Build.tick.Goals as goal
 
@@ -33,9 +33,7 @@ ticked g c =
     let built : (seen g c).part.is_built ≡ c.grow.new.self.part.is_built =
     ap (λ v. v.part.is_built) c.self-2.view_is ∙ ap (λ v. v.part.is_built) c.drain.ensures.same in
     let q = quota g.B.Builder.SLOPE g.B.Builder.BASE inside.level in
-    let per_tick : q ≡ c.SLOPE.result * inside.level + c.BASE.result + 4 =
-    quota_is g.B.Builder.SLOPE g.B.Builder.BASE inside.level c.self.invariant.least
-    ∙ ap (λ s. s * inside.level + g.B.Builder.BASE + 4) (sym c.SLOPE.ensures) ∙ ap (λ b. c.SLOPE.result * inside.level + b + 4) (sym c.BASE.ensures) in
+    let per_tick : c.quota-quota.result ≡ q = c.quota-quota.ensures ∙ ap (λ v. quota g.B.Builder.SLOPE g.B.Builder.BASE v.level) (sym c.self.view_is) in
     let marks = c.drain.new.steps.marks - c.grow.new.steps.marks in
     subst (λ l. IsTicked (2 ^ (l - 1)) c.self-2.inside.ticks (quota g.B.Builder.SLOPE g.B.Builder.BASE l) (left (seen g c)) (length c.self-2.inside.waiting.items))
     (sym level)
@@ -47,9 +45,9 @@ ticked g c =
     c.self.invariant.few_waiting
     (omega (arith, c.self.invariant.few_to_come, twice inside.level c.self.invariant.least))
     (⊎_elim
-    (λ less. inr (built_ended c.self-2.invariant (built ∙ c.grow.ensures.all_turns less)))
+    (λ less. inr (built_ended c.self-2.invariant (built ∙ c.grow.ensures.all_turns (omega (arith, less, per_tick)))))
     (λ full. inl (omega (arith, after, per_tick, full, c.grow.ensures.left, c.read.ensures.fewer)))
-    (cases_lt (c.grow.new.steps.turns - c.read.new.steps.turns) (c.SLOPE.result * inside.level + c.BASE.result + 4 - c.min-reading.result)))
+    (cases_lt (c.min-reading.result + (c.grow.new.steps.turns - c.read.new.steps.turns)) q))
     (omega (arith, waits, c.drain.ensures.drained, ap (λ v. length v.waiting) c.self-2.view_is))
     (λ ended. c.drain.ensures.marks
     ∙ ap (λ b. if b then min 2 (length c.grow.new.self.waiting) else 0) (sym built ∙ ended_built c.self-2.invariant ended)
