@@ -1,25 +1,13 @@
 //! Measures the parts of Livemap and checks them against plain lists, over seeded items.
 #![tactic(auto)]
 
-mod both_orders;
-mod checking;
-mod failure;
-mod generator;
-mod measuring;
-mod plain_list;
-mod questions;
-mod random;
-mod samples;
-mod summary;
-mod trial;
-mod watch;
 mod words;
 
 ghost use Rattle.std.specs.Prelude.{◌≡◌};
 
-use crate::failure::Failure;
-use crate::watch::Watch;
 use crate::words::{Job, Plan, command, plan_of};
+use map_samples::{Failure, Watch};
+use part_trials::{check_parts, measure_part};
 use query_laws::step_ledger::{SHARES, Steps, blank};
 use std::env;
 use std::marker::Brand;
@@ -60,9 +48,9 @@ fn run<R: Print + Clock + AllocGlobal, L: Ledger>(
                 rt,
                 is_on: is_timed,
             };
-            measuring::measure_part(&watch, plan.seed, plan.size, &mut steps)
+            measure_part(&watch, plan.seed, plan.size, &mut steps)
         }
-        Job::Check => checking::check_parts(rt, plan.seed, plan.size, &mut steps),
+        Job::Check => check_parts(rt, plan.seed, plan.size, &mut steps),
     }
 }
 

@@ -1,0 +1,4 @@
+pub mod Sorting
+pub mod Putting
+pub mod Scanning
+pub mod Stamps

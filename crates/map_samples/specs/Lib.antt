@@ -1,0 +1,3 @@
+pub mod Generator
+pub mod BothOrders
+pub mod Samples

@@ -1,0 +1,56 @@
+//! Times of calls, where they are wanted.
+use crate::failure::Failure;
+use crate::samples::Samples;
+use std::io;
+use std::time::{Clock, Duration, Instant};
+
+/// Reads the clock of a runtime where times are wanted, and never otherwise.
+#[derive_where(Clone, Copy)]
+pub struct Watch<'a, R: Clock> {
+    pub rt: &'a R,
+    pub is_on: bool,
+}
+
+impl<R: Clock> Watch<'_, R> {
+    /// The time at which a call begins.
+    #[inline]
+    pub fn start(&self) -> io::Result<Option<Instant>> {
+        if !self.is_on {
+            return Ok(None);
+        }
+        Ok(Some(Instant::now(self.rt)?))
+    }
+
+    /// Takes in the nanoseconds since a call began.
+    #[inline]
+    pub fn stop(&self, begun: Option<Instant>, times: &mut Samples) -> Result<(), Failure> {
+        if let Some(begun) = begun {
+            times.push(nanoseconds(begun.elapsed(self.rt)?))?;
+        }
+        Ok(())
+    }
+}
+
+impl<R: Clock + Print> Watch<'_, R> {
+    /// Prints what is told of the times of a call, where there are any.
+    pub fn report(&self, word: &str, times: Samples) -> Result<(), Failure> {
+        if let Some(summary) = times.summary() {
+            println!(self.rt; "{word} {summary}")?;
+        }
+        Ok(())
+    }
+
+    /// Prints the mean of all times over a number of parts, rounded down, where times are wanted.
+    pub fn report_mean(&self, word: &str, times: &Samples, parts: u64) -> Result<(), Failure> {
+        if self.is_on && parts > 0 {
+            let mean = times.total() / parts;
+            println!(self.rt; "{word} mean {mean}")?;
+        }
+        Ok(())
+    }
+}
+
+/// A duration in nanoseconds, or 2^64 - 1 where it is longer.
+fn nanoseconds(duration: Duration) -> u64 {
+    u64::try_from(duration.as_nanos()).unwrap_or(u64::MAX)
+}
