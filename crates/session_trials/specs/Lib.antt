@@ -1,0 +1,4 @@
+pub mod Samples
+pub mod Updates
+pub mod Words
+pub mod Examples

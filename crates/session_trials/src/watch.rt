@@ -1,0 +1,35 @@
+//! Times of calls, where they are wanted.
+use std::io;
+use std::time::{Clock, Duration, Instant};
+
+/// Reads the clock of a runtime where times are wanted, and never otherwise.
+#[derive_where(Clone, Copy)]
+pub struct Watch<'a, R: Clock> {
+    pub rt: &'a R,
+    pub is_on: bool,
+}
+
+impl<R: Clock> Watch<'_, R> {
+    /// The time at which a call begins.
+    #[inline]
+    pub fn start(&self) -> io::Result<Option<Instant>> {
+        if !self.is_on {
+            return Ok(None);
+        }
+        Ok(Some(Instant::now(self.rt)?))
+    }
+
+    /// The nanoseconds since a call began, and 0 where times aren't wanted.
+    #[inline]
+    pub fn since(&self, begun: Option<Instant>) -> io::Result<u64> {
+        let Some(begun) = begun else {
+            return Ok(0);
+        };
+        Ok(nanoseconds(begun.elapsed(self.rt)?))
+    }
+}
+
+/// A duration in nanoseconds, or 2^64 - 1 where it is longer.
+fn nanoseconds(duration: Duration) -> u64 {
+    u64::try_from(duration.as_nanos()).unwrap_or(u64::MAX)
+}
