@@ -10,8 +10,9 @@ use Rattle.live_map.specs.declared.intake.Ending.{Ending}
 use Rattle.live_map.specs.declared.intake.Ending.TheVariants.{End, Fault, TooLong}
 use Rattle.live_map.specs.declared.run.Status.{Status}
 use Rattle.live_map.specs.declared.run.Status.TheVariants as statuses
-use Rattle.live_map.specs.Run.{script_limit, Told, ToldTaken, TakenIn, IsOutput, IsInterrupted, IsStopped, script_of, AnswersText}
-use Rattle.live_map.specs.Session.{SessionState, new_session}
+use Rattle.map_session.specs.Answering.{IsStopped, IsOutput, IsInterrupted}
+use Rattle.live_map.specs.Run.{script_limit, Told, ToldTaken, TakenIn, script_of, AnswersText}
+use Rattle.map_session.specs.Session.{SessionState, new_session}
 
 -- what is told holds of any bytes that were taken and appended
 pub told : (rest rest' written written' : Option (List ℕ)) (taken bytes : List ℕ) (P : List ℕ → List ℕ → List ℕ → Type 0) → Consumes rest rest' taken → Appends written written' bytes → ((left : List ℕ) → P left taken bytes) → Told rest rest' written written' P

@@ -1,5 +1,2 @@
-pub mod Script
-pub mod Replies
-pub mod Session
 pub mod Run
 pub mod Intake

@@ -2,11 +2,8 @@
 use Rattle.std.specs.Prelude.{◌≡◌, ℕ, ◌+◌, ◌<◌, ◌≤◌, ⊤, List, [], ◌∷◌, ◌++◌, length, take, Option, Some, None, codes}
 use Rattle.std.specs.Io.KnownBytes.{Appends, Consumes, IsAtEnd}
 use Rattle.map_io.specs.ProperPrefix.{AppendsProperPrefix}
-use Rattle.map_model.specs.State.{empty_map}
 use Rattle.map_model.specs.Text.{lines, whole_lines, refusals}
-use Rattle.map_model.specs.Output.{Output, Interrupted}
-use Rattle.map_model.specs.State.{State}
-use Rattle.live_map.specs.Session.{SessionState}
+use Rattle.map_session.specs.Answering.{IsOutput, IsInterrupted}
 use Rattle.live_map.specs.declared.intake.Ending.{Ending}
 use Rattle.live_map.specs.declared.intake.Ending.TheVariants as endings
 use Rattle.live_map.specs.declared.run.Status.{Status}
@@ -27,14 +24,6 @@ code_of ReadFault = 3
 code_of WriteFault = 4
 code_of TooLong = 5
 code_of NoMemory = 6
-
--- these bytes may be written for these lines, from the empty map on
-abbrev pub IsOutput : List (List ℕ) → List ℕ → Type 0
-IsOutput script written = (end : State) × Output empty_map script written end
-
--- writing stopped inside the answer to one of these lines
-abbrev pub IsInterrupted : List (List ℕ) → List ℕ → Type 0
-IsInterrupted script written = (end : State) × Interrupted empty_map script written end
 
 -- Where a source and a sink tell their bytes: P holds of what the source had left, of the bytes that were taken from
 -- it, and of those that were appended to the sink.
@@ -62,30 +51,6 @@ abbrev pub TakesWithin : ℕ → Option (List ℕ) → Option (List ℕ) → Typ
 TakesWithin n rest rest' = (bytes : List ℕ) × Consumes rest rest' bytes × (length bytes ≤ n)
 
 -- ---- answering
-
--- Lines at the front of a text were answered, and the rest of the text is left.
-pub record Progress (start : SessionState) (written : Option (List ℕ)) (text rest : List ℕ) (now : SessionState) (written' : Option (List ℕ)) : Type 0 where
-  pub answered : List (List ℕ)
-  pub bytes : List ℕ
-  pub all : lines text ≡ answered ++ lines rest
-  pub whole : whole_lines text ≡ answered ++ whole_lines rest
-  pub output : Output start.map answered bytes now.map
-  pub appended : Appends written written' bytes
-  pub refused : now.refused ≡ start.refused + refusals bytes
-  pub counted : now.lines + length rest ≤ start.lines + length text
-
--- These lines were answered in full.
-pub record IsAnswered (start : SessionState) (written : Option (List ℕ)) (script : List (List ℕ)) (now : SessionState) (written' : Option (List ℕ)) : Type 0 where
-  pub bytes : List ℕ
-  pub output : Output start.map script bytes now.map
-  pub appended : Appends written written' bytes
-  pub refused : now.refused ≡ start.refused + refusals bytes
-
--- Writing stopped inside the answer to one of these lines.
-pub record IsStopped (start : SessionState) (written : Option (List ℕ)) (script : List (List ℕ)) (now : SessionState) (written' : Option (List ℕ)) : Type 0 where
-  pub bytes : List ℕ
-  pub interrupted : Interrupted start.map script bytes now.map
-  pub appended : Appends written written' bytes
 
 -- the lines that are answered, by how the taking in ended
 abbrev pub script_of : Ending → List ℕ → List (List ℕ)

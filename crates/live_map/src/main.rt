@@ -1,9 +1,7 @@
 //! Livemap: a live map index. It reads a script from its standard input and writes the answer to each line.
 #![tactic(auto)]
 
-mod answering;
 mod intake;
-pub mod map_session;
 mod run;
 
 ghost use Rattle.std.specs.Prelude.{◌≡◌, ◌≢◌, drop};

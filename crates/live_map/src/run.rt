@@ -3,12 +3,12 @@ ghost use Rattle.std.specs.Prelude.{◌≡◌, ◌≢◌, ◌⊎◌, ◌+◌, �
 ghost use Rattle.map_io.specs.Faults.{Rose};
 ghost use Rattle.map_io.specs.ProperPrefix.{IsProperPrefix};
 ghost use Rattle.map_model.specs.Text.{lines, whole_lines, refusals};
-ghost use Rattle.live_map.specs.Run.{script_limit, usage_line, code_of, Told, ToldTaken, IsOutput, IsInterrupted, AnswersText, WritesUsage};
+ghost use Rattle.live_map.specs.Run.{script_limit, usage_line, code_of, Told, ToldTaken, AnswersText, WritesUsage};
+ghost use Rattle.map_session.specs.Answering.{IsOutput, IsInterrupted};
 
-use crate::answering::{answer_lines, answer_whole_lines};
 use crate::intake::{Ending, take_in};
-use crate::map_session::Session;
 use map_io::{Sink, Source, WriteFault, write_all};
+use map_session::{Session, answer_lines, answer_whole_lines};
 use std::alloc::{AllocError, Global};
 
 const USAGE: &[u8] = b"usage: livemap [--ledger] [--make SEED] [--size N]\n";

@@ -3,8 +3,7 @@ ghost use Rattle.std.specs.Prelude.{ℕ, ◌<◌, ◌≤◌, All, IfOk};
 ghost use Rattle.std.specs.List.Sorted.{IsStrictlyIncreasing};
 
 use super::*;
-use crate::map_session::{Done, Session};
-use map_io::{MemSink, MemSource, WriteFault};
+use map_io::{MemSink, MemSource};
 use std::alloc::{AllocError, Global};
 use std::test::Fail;
 
@@ -314,27 +313,5 @@ fn a_source_fails_in_the_fourth_line(rt: HostRuntime) -> Result<(), Fail> {
     assert_eq!(rt; status, Status::ReadFault);
     assert_eq!(rt; status.code(), 3);
     assert_eq!(rt; written.as_slice(), b"ok\nok\nok\n".as_slice());
-    Ok(())
-}
-
-#[test]
-fn a_session_outlives_a_fault(rt: HostRuntime) -> Result<(), Fail> {
-    let alloc = rt.alloc();
-    let mut session = Session::new(alloc);
-    let mut failing = MemSink::new(vec![in alloc; 0u8; 9]?, 9, failing_calls(alloc, 1)?);
-    assert_eq!(rt;
-        session.line(b"layer a points range", &mut failing),
-        Err(WriteFault)
-    );
-    let mut sink = MemSink::new(vec![in alloc; 0u8; 99]?, 9, Vec::new(alloc));
-    assert_eq!(rt;
-        session.line(b"count a 0 0 9 9", &mut sink),
-        Ok(Done::Answered)
-    );
-    assert_eq!(rt; session.line(b"fly a", &mut sink), Ok(Done::Refused));
-    assert_eq!(rt; session.line(b"#", &mut sink), Ok(Done::Silent));
-    assert_eq!(rt; sink.written(), b"count 0\nno command\n".as_slice());
-    assert_eq!(rt; session.lines(), 4);
-    assert_eq!(rt; session.refused(), 1);
     Ok(())
 }

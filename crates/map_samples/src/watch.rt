@@ -21,11 +21,20 @@ impl<R: Clock> Watch<'_, R> {
         Ok(Some(Instant::now(self.rt)?))
     }
 
-    /// Takes in the nanoseconds since a call began.
+    /// The nanoseconds since a call began, and 0 where times aren't wanted.
+    #[inline]
+    pub fn since(&self, begun: Option<Instant>) -> io::Result<u64> {
+        let Some(begun) = begun else {
+            return Ok(0);
+        };
+        Ok(nanoseconds(begun.elapsed(self.rt)?))
+    }
+
+    /// Takes in the nanoseconds since a call began, where times are wanted.
     #[inline]
     pub fn stop(&self, begun: Option<Instant>, times: &mut Samples) -> Result<(), Failure> {
-        if let Some(begun) = begun {
-            times.push(nanoseconds(begun.elapsed(self.rt)?))?;
+        if begun.is_some() {
+            times.push(self.since(begun)?)?;
         }
         Ok(())
     }

@@ -1,0 +1,13 @@
+use Rattle.std.proofs.Common.{◌≡◌, length}
+use Rattle.map_session.specs.Answering.{Progress}
+use Rattle.map_session.proofs.answering.answer_ended_lines.Given as goal
+
+-- the lines so far are answered, the rest of the text is left, and no call failed
+abbrev pub invariant-loop-line : goal.invariant-loop-line
+invariant-loop-line g l = record {
+  progress : Progress l.initial.session (g.K.Sink.written l.initial.sink) l.text l.rest l.session (g.K.Sink.written l.sink);
+  succeeded : g.K.Sink.faults l.sink ≡ g.K.Sink.faults l.initial.sink;
+}
+
+abbrev pub decreases-loop-line : goal.decreases-loop-line
+decreases-loop-line g l = length l.rest

@@ -1,0 +1,4 @@
+pub mod Script
+pub mod Replies
+pub mod Session
+pub mod Answering

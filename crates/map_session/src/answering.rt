@@ -1,0 +1,77 @@
+// Answering a text, line by line.
+ghost use Rattle.std.specs.Prelude.{◌≡◌, ◌+◌, ◌<◌, ◌≤◌, ◌^◌, ◌++◌, ◌∷◌, true, length, MatchOption, MatchResult, OnOk, OnErr, IfOk};
+ghost use Rattle.map_io.specs.Faults.{Rose};
+ghost use Rattle.map_model.specs.Text.{lines, whole_lines, one_line};
+ghost use Rattle.map_session.specs.Answering.{Progress, IsAnswered, IsStopped};
+
+use crate::Session;
+use map_io::{Sink, WriteFault};
+use memchr::memchr;
+
+/// Answers every line of a text, a last one without a line feed too.
+pub fn answer_lines<K: Sink>(
+    session: &mut Session,
+    text: &[u8],
+    sink: &mut K,
+) -> Result<(), WriteFault>
+    requires { session.old.lines + length text.now < 2 ^ 40 }
+    ensures answered { OnOk result (IsAnswered session.old (K.written sink.old) (lines text.now) session.new (K.written sink.new)) }
+    ensures stopped { OnErr result (IsStopped session.old (K.written sink.old) (lines text.now) session.new (K.written sink.new)) }
+    ensures kept { K.faults sink.old ≤ K.faults sink.new }
+    ensures failed { OnErr result (Rose (K.faults sink.old) (K.faults sink.new)) }
+    ensures succeeded { OnOk result (K.faults sink.new ≡ K.faults sink.old) }
+{
+    let rest = answer_ended_lines(session, text, sink)?;
+    if !rest.is_empty() {
+        session.line(rest, sink)?;
+    }
+    Ok(())
+}
+
+/// Answers the lines of a text that a line feed ended.
+pub fn answer_whole_lines<K: Sink>(
+    session: &mut Session,
+    text: &[u8],
+    sink: &mut K,
+) -> Result<(), WriteFault>
+    requires { session.old.lines + length text.now < 2 ^ 40 }
+    ensures answered { OnOk result (IsAnswered session.old (K.written sink.old) (whole_lines text.now) session.new (K.written sink.new)) }
+    ensures stopped { OnErr result (IsStopped session.old (K.written sink.old) (whole_lines text.now) session.new (K.written sink.new)) }
+    ensures kept { K.faults sink.old ≤ K.faults sink.new }
+    ensures failed { OnErr result (Rose (K.faults sink.old) (K.faults sink.new)) }
+    ensures succeeded { OnOk result (K.faults sink.new ≡ K.faults sink.old) }
+{
+    answer_ended_lines(session, text, sink)?;
+    Ok(())
+}
+
+/// Answers the lines of a text that a line feed ended, and gives what comes after the last of them.
+fn answer_ended_lines<'a, K: Sink>(
+    session: &mut Session,
+    text: &'a [u8],
+    sink: &mut K,
+) -> Result<&'a [u8], WriteFault>
+    requires { session.old.lines + length text.now < 2 ^ 40 }
+    ensures progress { IfOk result (λ rest. Progress session.old (K.written sink.old) text.now rest.now session.new (K.written sink.new)) }
+    ensures unended { IfOk result (λ rest. one_line rest.now ≡ true) }
+    ensures stopped { OnErr result (IsStopped session.old (K.written sink.old) (whole_lines text.now) session.new (K.written sink.new)) }
+    ensures kept { K.faults sink.old ≤ K.faults sink.new }
+    ensures failed { OnErr result (Rose (K.faults sink.old) (K.faults sink.new)) }
+    ensures succeeded { OnOk result (K.faults sink.new ≡ K.faults sink.old) }
+{
+    let mut rest = text;
+    while let Some((line, after)) = split_line(rest) {
+        session.line(line, sink)?;
+        rest = after;
+    }
+    Ok(rest)
+}
+
+/// The first line of a text that a line feed ends, and what comes after the line feed: `None` where there is no line feed.
+pub fn split_line(text: &[u8]) -> Option<(&[u8], &[u8])>
+    ensures { MatchOption result (one_line text.now ≡ true)
+        (λ found. (text.now ≡ found.0.now ++ 10 ∷ found.1.now) × (one_line found.0.now ≡ true)) }
+{
+    let end = memchr(b'\n', text)?;
+    Some((&text[..end], &text[end + 1..]))
+}

@@ -1,0 +1,3 @@
+pub mod Updates
+pub mod Words
+pub mod Examples

@@ -1,0 +1,80 @@
+//! Example scripts beside the answers that are expected.
+ghost use Rattle.std.specs.Prelude.{◌≡◌, ◌<◌, ◌^◌, true, false, length, Ok};
+ghost use Rattle.map_model.specs.Text.{lines};
+ghost use Rattle.map_session.specs.Answering.{IsOutput};
+ghost use Rattle.session_trials.specs.Examples.{IsAnsweredOtherwise};
+
+use map_io::{MemSink, WriteFault};
+use map_samples::Failure;
+use map_session::{Session, answer_lines};
+use std::alloc::{AllocError, Global};
+use std::fs;
+use std::rt::Files;
+
+/// A script has fewer bytes than this.
+const MOST_BYTES: usize = 1 << 40;
+
+/// Runs each script `NAME.livemap` of a folder by a session of its own, and compares its answers with the file `NAME.out`.
+///
+/// Prints a line for each example. `Differs` where the answers aren't those of the file.
+pub fn check_examples<R: Print + Files + AllocGlobal + Clone + Drop>(
+    rt: &R,
+    folder: &str,
+) -> Result<(), Failure> {
+    let mut names = script_names(rt, folder)?;
+    names.sort_unstable();
+    for name in &names {
+        check_example(rt, folder, name.as_str())?;
+        println!(rt; "example {name}")?;
+    }
+    Ok(())
+}
+
+/// The names of the scripts of a folder, without their ending.
+fn script_names<R: Files + AllocGlobal + Clone + Drop>(
+    rt: &R,
+    folder: &str,
+) -> Result<Vec<String>, Failure> {
+    let mut names = Vec::new(rt.alloc());
+    for entry in fs::read_dir(rt, folder)? {
+        let entry = entry?;
+        if let Some(name) = entry.file_name().strip_suffix(".livemap") {
+            names.push(String::from_str(rt.alloc(), name)?)?;
+        }
+    }
+    Ok(names)
+}
+
+/// Compares the answers to one script with those of its file.
+fn check_example<R: Files + AllocGlobal>(rt: &R, folder: &str, name: &str) -> Result<(), Failure> {
+    let alloc = rt.alloc();
+    let script = fs::read(rt, format!(in alloc; "{folder}/{name}.livemap")?.as_str())?;
+    let wanted = fs::read(rt, format!(in alloc; "{folder}/{name}.out")?.as_str())?;
+    if script.len() >= MOST_BYTES {
+        return Err(Failure::TooLong);
+    }
+    if has_answers(alloc, &script, &wanted)? {
+        return Ok(());
+    }
+    let text = format!(in alloc;
+        "the answers to {folder}/{name}.livemap aren't those of {name}.out"
+    )?;
+    Err(Failure::Differs(text))
+}
+
+/// Whether the lines of a script are answered, from an empty map on, by these bytes.
+///
+/// Takes as much memory as they have, and what the map takes.
+pub fn has_answers(alloc: Global, script: &[u8], wanted: &[u8]) -> Result<bool, AllocError>
+    requires { length script.now < 2 ^ 40 }
+    ensures same { result ≡ Ok true → IsOutput (lines script.now) wanted.now }
+    ensures differs { result ≡ Ok false → IsAnsweredOtherwise (lines script.now) wanted.now }
+{
+    let space = vec![in alloc; 0u8; wanted.len()]?;
+    let mut sink = MemSink::new(space, usize::MAX, Vec::new(alloc));
+    let mut session = Session::new(alloc);
+    match answer_lines(&mut session, script, &mut sink) {
+        Ok(()) => Ok(sink.written() == wanted),
+        Err(WriteFault) => Ok(false),
+    }
+}

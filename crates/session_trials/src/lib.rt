@@ -1,0 +1,14 @@
+//! Scripts by the session: what their commands cost, and whether their answers are the expected ones.
+#![tactic(auto)]
+
+mod examples;
+mod null_sink;
+mod script;
+mod timed;
+
+pub use examples::{check_examples, has_answers};
+pub use script::{measure_script, run_script};
+pub use timed::{Timed, times_of, times_of_updates};
+
+#[cfg(test)]
+mod tests;
