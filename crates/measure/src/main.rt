@@ -1,17 +1,19 @@
-//! Measures the parts of Livemap and checks them against plain lists, over seeded items.
+//! Measures the parts of Livemap and checks them against plain lists, over seeded items and scripts.
 #![tactic(auto)]
 
 mod words;
 
 ghost use Rattle.std.specs.Prelude.{◌≡◌};
 
-use crate::words::{Job, Plan, command, plan_of};
+use crate::words::{Job, command, job_of};
 use map_samples::{Failure, Watch};
 use part_trials::{check_parts, measure_part};
 use query_laws::step_ledger::{SHARES, Steps, blank};
+use session_trials::{check_examples, measure_script};
 use std::env;
 use std::marker::Brand;
 use std::process::ExitCode;
+use std::rt::Files;
 use std::sync::ledger::{Blank, Ledger};
 use std::time::Clock;
 
@@ -25,16 +27,16 @@ fn main(rt: HostRuntime) -> anyhow::Result<ExitCode> {
             return Ok(ExitCode::from(error.exit_code() as u8));
         }
     };
-    if let Some(plan) = plan_of(&matches) {
-        run::<HostRuntime, Brand>(&rt, &plan, blank())?;
+    if let Some(job) = job_of(&matches) {
+        run::<HostRuntime, Brand>(&rt, &job, blank())?;
     }
     Ok(ExitCode::SUCCESS)
 }
 
 /// Does what the words ask for.
-fn run<R: Print + Clock + AllocGlobal, L: Ledger>(
+fn run<R: Print + Clock + Files + AllocGlobal + Clone + Drop, L: Ledger>(
     rt: &R,
-    plan: &Plan,
+    job: &Job<'_>,
     blank: Blank,
 ) -> Result<(), Failure>
     requires name { blank.name ≡ L.name }
@@ -42,15 +44,36 @@ fn run<R: Print + Clock + AllocGlobal, L: Ledger>(
     requires shares { blank.parts ≡ SHARES }
 {
     let mut steps = Steps::<L>::new(blank);
-    match plan.job {
-        Job::Part { is_timed } => {
+    match *job {
+        Job::Part {
+            seed,
+            size,
+            is_timed,
+        } => {
             let watch = Watch {
                 rt,
                 is_on: is_timed,
             };
-            measure_part(&watch, plan.seed, plan.size, &mut steps)
+            measure_part(&watch, seed, size.number, &mut steps)
         }
-        Job::Check => check_parts(rt, plan.seed, plan.size, &mut steps),
+        Job::Check {
+            seed,
+            size,
+            examples,
+        } => {
+            check_parts(rt, seed, size.number, &mut steps)?;
+            match examples {
+                Some(folder) => check_examples(rt, folder),
+                None => Ok(()),
+            }
+        }
+        Job::Script { path, is_timed } => {
+            let watch = Watch {
+                rt,
+                is_on: is_timed,
+            };
+            measure_script(&watch, path)
+        }
     }
 }
 

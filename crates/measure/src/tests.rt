@@ -1,27 +1,92 @@
-//! Words of the command line, and one timed run.
+//! Words of the command line, and timed runs.
 use crate::run;
-use crate::words::{Job, Plan, command, plan_of};
+use crate::words::{Job, Size, command, job_of};
 use query_laws::step_ledger::blank;
+use std::fs;
 use std::marker::Brand;
 use std::test::Fail;
 
 #[test]
-fn reads_words(rt: HostRuntime) -> Result<(), Fail> {
+fn reads_words_of_a_part(rt: HostRuntime) -> Result<(), Fail> {
     let words = ["measure", "part", "--time", "--seed", "7", "--size", "16"];
     let matches = command(rt.alloc())?.try_get_matches_from(&words)?;
-    let plan = plan_of(&matches).ok_or("a plan")?;
-    assert_eq!(rt; [plan.seed, plan.size as u64], [7, 16]);
-    assert!(rt; matches!(plan.job, Job::Part { is_timed: true }));
+    let Some(
+        Job::Part {
+            seed,
+            size,
+            is_timed,
+        },
+    ) = job_of(&matches)
+    else {
+        assert!(rt; false, "a part");
+        return Ok(());
+    };
+    assert_eq!(rt; (seed, size.number, is_timed), (7, 16, true));
+    Ok(())
+}
+
+#[test]
+fn reads_words_of_a_check(rt: HostRuntime) -> Result<(), Fail> {
+    for (words, wanted) in [
+        (["measure", "check"].as_slice(), None),
+        (
+            ["measure", "check", "--examples", "here"].as_slice(),
+            Some("here"),
+        ),
+    ] {
+        let matches = command(rt.alloc())?.try_get_matches_from(words)?;
+        let Some(
+            Job::Check {
+                seed,
+                size,
+                examples,
+            },
+        ) = job_of(&matches)
+        else {
+            assert!(rt; false, "a check");
+            return Ok(());
+        };
+        assert_eq!(rt; (seed, size.number, examples), (1, 257, wanted));
+    }
+    Ok(())
+}
+
+#[test]
+fn reads_words_of_a_script(rt: HostRuntime) -> Result<(), Fail> {
+    let words = ["measure", "script", "a.livemap"];
+    let matches = command(rt.alloc())?.try_get_matches_from(&words)?;
+    let Some(Job::Script { path, is_timed }) = job_of(&matches) else {
+        assert!(rt; false, "a script");
+        return Ok(());
+    };
+    assert_eq!(rt; (path, is_timed), ("a.livemap", false));
     Ok(())
 }
 
 #[test]
 fn measures_with_times(rt: HostRuntime) -> Result<(), Fail> {
-    let plan = Plan {
-        job: Job::Part { is_timed: true },
+    let job = Job::Part {
         seed: 1,
-        size: 33,
+        size: Size { number: 33 },
+        is_timed: true,
     };
-    run::<HostRuntime, Brand>(&rt, &plan, blank())?;
+    run::<HostRuntime, Brand>(&rt, &job, blank())?;
+    Ok(())
+}
+
+/// A script in the folder that the test runs in.
+#[test]
+fn measures_a_script(rt: HostRuntime) -> Result<(), Fail> {
+    fs::write(
+        &rt,
+        "timed.livemap",
+        "layer a points range\nadd a 1 2 3 4\n",
+    )?;
+    let job = Job::Script {
+        path: "timed.livemap",
+        is_timed: true,
+    };
+    run::<HostRuntime, Brand>(&rt, &job, blank())?;
+    fs::remove_file(&rt, "timed.livemap")?;
     Ok(())
 }

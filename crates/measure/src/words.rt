@@ -7,77 +7,131 @@ use std::alloc::{AllocError, Global};
 /// The most points: 2^20.
 const MOST: usize = 1_048_576;
 
-/// What is asked for.
+/// A number of points.
 #[derive(Clone, Copy, Debug)]
-pub enum Job {
-    /// What a range part costs, with times or without.
-    Part { is_timed: bool },
-    /// Parts beside plain lists.
-    Check,
+pub struct Size {
+    pub number: usize,
+    pub ghost few: { number ≤ 2 ^ 20 },
 }
 
-/// What is asked for, with the seed of all random numbers and the number of points.
+/// What is asked for. A seed is that of all random numbers.
 #[derive(Clone, Copy, Debug)]
-pub struct Plan {
-    pub job: Job,
-    pub seed: u64,
-    pub size: usize,
-    pub ghost few: { size ≤ 2 ^ 20 },
+pub enum Job<'a> {
+    /// What a range part of so many points costs, with times or without.
+    Part {
+        seed: u64,
+        size: Size,
+        is_timed: bool,
+    },
+    /// Parts of at most so many points beside plain lists, and the scripts of a folder beside their answers.
+    Check {
+        seed: u64,
+        size: Size,
+        examples: Option<&'a str>,
+    },
+    /// What the commands of a script cost, with times or without.
+    Script {
+        path: &'a str,
+        is_timed: bool,
+    },
 }
 
 /// The command line.
 pub fn command<'a>(alloc: Global) -> Result<Command<'a>, AllocError> {
-    let time = Arg::new(alloc, "time")
-        .long("time")
-        .action(ArgAction::SetTrue)
-        .help("Print nanoseconds too");
-    let part = Command::new(alloc, "part")
-        .about("Build a range part of random points, put questions to it and mark points")
-        .arg(time)?;
-    let check = Command::new(alloc, "check").about(
-        "Compare range parts with plain lists, at sizes up to the given one",
-    );
     Command::new(alloc, "measure")
         .about(
-            "Measures the parts of Livemap and checks them against plain lists, over seeded items",
+            "Measures the parts of Livemap and checks them against plain lists, over seeded items and scripts",
         )
         .subcommand_required(true)
-        .subcommand(with_numbers(alloc, part, "4096")?)?
-        .subcommand(with_numbers(alloc, check, "257")?)
+        .subcommand(part_command(alloc)?)?
+        .subcommand(check_command(alloc)?)?
+        .subcommand(script_command(alloc)?)
 }
 
-/// A subcommand with a seed and a size.
-fn with_numbers<'a>(
-    alloc: Global,
-    command: Command<'a>,
-    size: &'a str,
-) -> Result<Command<'a>, AllocError> {
-    let seed = Arg::new(alloc, "seed")
+fn part_command<'a>(alloc: Global) -> Result<Command<'a>, AllocError> {
+    Command::new(alloc, "part")
+        .about("Build a range part of random points, put questions to it and mark points")
+        .arg(seed_arg(alloc))?
+        .arg(size_arg(alloc, "4096"))?
+        .arg(time_arg(alloc))
+}
+
+fn check_command<'a>(alloc: Global) -> Result<Command<'a>, AllocError> {
+    Command::new(alloc, "check")
+        .about("Compare range parts with plain lists, at sizes up to the given one")
+        .arg(seed_arg(alloc))?
+        .arg(size_arg(alloc, "257"))?
+        .arg(examples_arg(alloc))
+}
+
+fn script_command<'a>(alloc: Global) -> Result<Command<'a>, AllocError> {
+    Command::new(alloc, "script")
+        .about("Run a script, and count its commands by their words")
+        .arg(file_arg(alloc))?
+        .arg(time_arg(alloc))
+}
+
+fn time_arg<'a>(alloc: Global) -> Arg<'a> {
+    Arg::new(alloc, "time")
+        .long("time")
+        .action(ArgAction::SetTrue)
+        .help("Print nanoseconds too")
+}
+
+fn seed_arg<'a>(alloc: Global) -> Arg<'a> {
+    Arg::new(alloc, "seed")
         .long("seed")
         .value_parser(value_parser!(u64))
         .default_value("1")
-        .help("The seed of all random numbers");
-    let size = Arg::new(alloc, "size")
+        .help("The seed of all random numbers")
+}
+
+fn size_arg<'a>(alloc: Global, default: &'a str) -> Arg<'a> {
+    Arg::new(alloc, "size")
         .long("size")
         .value_parser(value_parser!(u32).range(0..=MOST as i64))
-        .default_value(size)
-        .help("The number of points");
-    command.arg(seed)?.arg(size)
+        .default_value(default)
+        .help("The number of points")
+}
+
+fn examples_arg<'a>(alloc: Global) -> Arg<'a> {
+    Arg::new(alloc, "examples")
+        .long("examples")
+        .value_name("FOLDER")
+        .help("Compare the answers to each NAME.livemap of a folder with NAME.out too")
+}
+
+fn file_arg<'a>(alloc: Global) -> Arg<'a> {
+    Arg::new(alloc, "file")
+        .required(true)
+        .action(ArgAction::Set)
+        .help("The script")
 }
 
 /// What the words ask for, or `None` where they name no subcommand.
-pub fn plan_of(matches: &ArgMatches<'_>) -> Option<Plan> {
+pub fn job_of<'a>(matches: &ArgMatches<'a>) -> Option<Job<'a>> {
     let (word, matches) = matches.subcommand()?;
-    let job = match word {
-        "part" => Job::Part {
+    match word {
+        "part" => Some(Job::Part {
+            seed: matches.get_one::<u64>("seed")?,
+            size: size_of(matches)?,
             is_timed: matches.get_flag("time"),
-        },
-        "check" => Job::Check,
-        _ => return None,
-    };
-    Some(Plan {
-        job,
-        seed: matches.get_one::<u64>("seed")?,
-        size: matches.get_one::<usize>("size")?.min(MOST),
+        }),
+        "check" => Some(Job::Check {
+            seed: matches.get_one::<u64>("seed")?,
+            size: size_of(matches)?,
+            examples: matches.get_str("examples"),
+        }),
+        "script" => Some(Job::Script {
+            path: matches.get_str("file")?,
+            is_timed: matches.get_flag("time"),
+        }),
+        _ => None,
+    }
+}
+
+fn size_of(matches: &ArgMatches<'_>) -> Option<Size> {
+    Some(Size {
+        number: matches.get_one::<usize>("size")?.min(MOST),
     })
 }

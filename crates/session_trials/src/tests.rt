@@ -1,7 +1,5 @@
 //! Scripts run, counted and compared.
-use crate::{
-    check_examples, has_answers, measure_script, run_script, times_of, times_of_updates,
-};
+use crate::{check_examples, has_answers, measure_script, run_script, times_of, times_of_updates};
 use map_samples::{Failure, Watch};
 use std::fs;
 use std::test::Fail;
