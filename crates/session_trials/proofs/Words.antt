@@ -1,13 +1,10 @@
 -- Lines put behind lines.
-use Rattle.std.proofs.Common.{◌≡◌, ℕ, ◌<◌, true, List, [], ◌∷◌, ◌++◌, length, Option, Some, None, Result, Ok, Err, refl, sym, ap, ◌∙◌, append_assoc, append-nil}
-use Rattle.std.specs.List.{filter_map}
+use Rattle.std.proofs.Common.{◌≡◌, ℕ, ◌<◌, true, List, [], ◌∷◌, ◌++◌, length, sym, ap, ◌∙◌, append_assoc, append-nil}
 use Rattle.std.proofs.lemmas.List.Elements.{filter_map-append}
-use Rattle.map_model.specs.Command.{Command}
-use Rattle.map_model.specs.Refusal.{Refusal}
 use Rattle.map_model.specs.Text.{lines, one_line}
 use Rattle.map_model.proofs.TextLemmas.{lines-line}
 use Rattle.map_session.proofs.Lines.{one_last}
-use Rattle.session_trials.specs.Words.{word_of, said_word, said_words}
+use Rattle.session_trials.specs.Words.{said_word, said_words}
 
 -- one line more was answered
 pub said_more : (before after taken : List (List ℕ)) (rest line left : List ℕ) → rest ≡ line ++ 10 ∷ left → one_line line ≡ true
@@ -29,9 +26,3 @@ said_last before after taken rest ended some added so_far =
 pub said_all : (before taken : List (List ℕ)) (rest : List ℕ) → rest ≡ [] → before ++ said_words (lines rest) ≡ taken → before ≡ taken
 said_all before taken rest none so_far =
     sym (append-nil before) ∙ ap (λ (r : List ℕ). before ++ said_words (lines r)) (sym none) ∙ so_far
-
--- a line that doesn't say nothing has a word
-pub said_some : (parsed : Result (Option Command) Refusal) (word : List ℕ) → (parsed ≡ Ok None → ⊥) → word_of parsed word ≡ Some word
-said_some (Ok None) word h = absurd (h refl)
-said_some (Ok (Some command)) word h = refl
-said_some (Err cause) word h = refl
