@@ -1,5 +1,6 @@
 pub mod Heights
 pub mod Rows
+pub mod Measures
 pub mod Queries
 pub mod Growing
 pub mod Costs
