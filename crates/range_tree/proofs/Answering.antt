@@ -58,10 +58,11 @@ pub paid_none : {old cut new : Counts} (items spans points left ends : ℕ) → 
     → ((h : ℕ) → items ≤ 2 ^ h → Spends old cut 0 0 (4 * (h + 1) + 4 * ((h - 6) * (h + 1)))) → Spends cut new 0 0 (4 * ends) → IsPaid old new items left points
 paid_none items spans points left ends is small few short cost taken =
     let h = height_of items in
-    let within = height_of-above items small in
-    (4 * (h + 1) + 4 * ((h - 6) * (h + 1)) + 4 * ends,
+    let within = height_of-above items small in (
+      4 * (h + 1) + 4 * ((h - 6) * (h + 1)) + 4 * ends,
       Spends-then (cost h within) taken,
-      omega (arith, budget items h ends within short, mul-le-mul_right (5 * (h + 2)) few, ap (λ n. n * (5 * (h + 2))) is))
+      omega (arith, budget items h ends within short, mul-le-mul_right (5 * (h + 2)) few, ap (λ n. n * (5 * (h + 2))) is),
+    )
 
 -- some more of them
 pub paid_more : {old mid new : Counts} (items left k rest points : ℕ) → IsPaid old mid items left points → left ≡ k + rest

@@ -351,12 +351,12 @@ points_covered {part} {levels} {rect} {height} {cover} tree is old =
     subst (λ l. Permuted l (filter (is_in rect) (live_between part cover.low cover.high))) nothing_more old.covering.points
 
 -- and with the places before and behind these all of the rectangle
-pub points_cut : (part : Contents Point) (levels : List Level) (rect : Rect) (spans : List Span) (from low high to : ℕ) → length part.flags ≡ length part.items
+pub points_cut : (part : Contents Point) (levels : List Level) (rect : Rect) (spans : List Span) (from low high behind to : ℕ) → behind ≡ high → length part.flags ≡ length part.items
     → from ≤ low → low ≤ high → high ≤ to → to ≤ length part.items → AbscissasBelow part.items from rect.x1 → AbscissasFrom part.items to (rect.x2 + 1)
     → Permuted (flat_map (live_in_span part levels) spans) (filter (is_in rect) (live_between part low high))
-    → Permuted (flat_map (live_in_span part levels) spans ++ (filter (is_in rect) (live_between part from low) ++ filter (is_in rect) (live_between part high to)))
+    → Permuted (flat_map (live_in_span part levels) spans ++ (filter (is_in rect) (live_between part from low) ++ filter (is_in rect) (live_between part behind to)))
     (filter (is_in rect) (items_where_true part.flags part.items))
-points_cut part levels rect spans from low high to flagged first ordered last within below above middle =
+points_cut part levels rect spans from low high behind to is flagged first ordered last within below above middle =
     let f : ℕ → ℕ → List Point = λ a b. filter (is_in rect) (live_between part a b) in
     let whole : f from to ≡ f from low ++ (f low high ++ f high to) =
     live_in-split part rect from low to first (omega arith) ∙ ap (λ l. f from low ++ l) (live_in-split part rect low high to ordered last) in
@@ -366,8 +366,9 @@ points_cut part levels rect spans from low high to flagged first ordered last wi
     subst (λ l. Permuted l (f from low ++ (f low high ++ f high to))) (append_assoc (f low high) (f from low) (f high to))
     (subst (λ l. Permuted ((f low high ++ f from low) ++ f high to) l) (append_assoc (f from low) (f low high) (f high to))
     (Permuted-append_left (f high to) (Permuted-append_comm (f low high) (f from low)))) in
-    subst (λ l. Permuted (flat_map (live_in_span part levels) spans ++ (f from low ++ f high to)) l) all
-    (composed (Permuted-append_left (f from low ++ f high to) middle) moved)
+    subst (λ b. Permuted (flat_map (live_in_span part levels) spans ++ (f from low ++ f b to)) (filter (is_in rect) (items_where_true part.flags part.items))) (sym is)
+    (subst (λ l. Permuted (flat_map (live_in_span part levels) spans ++ (f from low ++ f high to)) l) all
+    (composed (Permuted-append_left (f from low ++ f high to) middle) moved))
 
 -- a tree has fewer levels than one more than the height of a full one
 pub levels_few : {part : Contents Point} {levels : List Level} → AreLevels part levels → (h : ℕ) → length part.items ≤ 2 ^ h → length levels ≤ h - 6

@@ -3,6 +3,8 @@
 ghost use Rattle.range_tree.specs.Rows.{before};
 ghost use Rattle.std.specs.Prelude.{◌≡◌, ◌≢◌, ◌≤◌, ◌<◌, ◌^◌, ◌∷◌, [], IsTrue, IfOk};
 
+mod grid;
+
 use crate::RangeBuilder;
 use builder_trait::{Answers, Asking, Builder, Part, completed, part_of_one};
 use map_shapes::{CountIn, IdList, ListIn, Point, Rect, SumIn};

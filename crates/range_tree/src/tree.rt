@@ -19,7 +19,7 @@ use row_blocks::block_len;
 use std::alloc::Global;
 use std::sync::ledger::Ledger;
 
-/// The levels from the whole tree down to single points, of which `used` are needed.
+/// The levels from the whole tree down to the leaves, of which `used` are needed.
 ///
 /// They are built one after another. While the level at `at` is counted, each of its entries is copied into the next one; and
 /// while its counts are turned, that copy is parted into the halves of its blocks, each in the order of the block (stable).

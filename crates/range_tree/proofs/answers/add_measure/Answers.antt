@@ -62,7 +62,7 @@ returns-clause-added g c =
     let both = sum_by-append m (flat_map live c.cut-pieces.result.spans.items) (live_in_places part rect c.cut-pieces.result.front ++ live_in_places part rect c.cut-pieces.result.back) in
     let ends = sum_by-append m (live_in_places part rect c.cut-pieces.result.front) (live_in_places part rect c.cut-pieces.result.back) in
     let whole : c.measure_places-front.result + c.measure_places-back.result + sum_by m (flat_map live c.into_iter-span-iterator.result.rest.now)
-        ≡ sum_by m (filter (is_in rect) (items_where_true part.flags part.items)) =
+    ≡ sum_by m (filter (is_in rect) (items_where_true part.flags part.items)) =
     omega (arith, spans, all, both, ends, c.measure_places-front.ensures.sum, c.measure_places-back.ensures.sum) in
     summed_all c.args.tally.now c.add.new.self c.loop-span.sum _ _ _ c.loop-span.invariant.added none c.add.ensures
     ∙ ap (λ n. capped_add c.args.tally.now (min n (2 ^ 64 - 1))) whole

@@ -74,8 +74,13 @@ returns-clause-cost g c =
     let live : Span → List Point = live_in_span c.args.points.now c.args.levels.now in
     let gives = ap (λ (l : List Span). length (flat_map live l)) c.into_iter-span-iterator.ensures.into_iter_gives.0 in
     paid_listed (length c.args.points.now.items) _ _ _ c.loop-span.invariant.cost
-    (omega (arith, gives, Permuted-length c.cut-pieces.ensures.points, length-append (flat_map live c.cut-pieces.result.spans.items)
-    (live_in_places c.args.points.now c.args.rect.now c.cut-pieces.result.front ++ live_in_places c.args.points.now c.args.rect.now c.cut-pieces.result.back)))
+    (omega (
+      arith,
+      gives,
+      Permuted-length c.cut-pieces.ensures.points,
+      length-append (flat_map live c.cut-pieces.result.spans.items)
+          (live_in_places c.args.points.now c.args.rect.now c.cut-pieces.result.front ++ live_in_places c.args.points.now c.args.rect.now c.cut-pieces.result.back),
+    ))
 
 pub returns-in_err-list_span-clause-cost : goal.returns-in_err-list_span-clause-cost
 returns-in_err-list_span-clause-cost g c =
@@ -88,8 +93,13 @@ returns-in_err-list_span-clause-cost g c =
     (paid_more _ _ (1 + length (live c.in-Some.span.now)) _ _ c.loop-span.invariant.cost
     (omega (arith, fewer, ap length taken, length-append (live c.in-Some.span.now) (flat_map live c.next.new.self.rest.now)))
     (Spends-weaker (c.list_span.ensures.cost (height_of (length c.args.points.now.items)) (height_of-above (length c.args.points.now.items) (omega (arith, c.requires.few)))) (omega arith)))
-    (omega (arith, gives, Permuted-length c.cut-pieces.ensures.points, length-append (flat_map live c.cut-pieces.result.spans.items)
-    (live_in_places c.args.points.now c.args.rect.now c.cut-pieces.result.front ++ live_in_places c.args.points.now c.args.rect.now c.cut-pieces.result.back)))
+    (omega (
+      arith,
+      gives,
+      Permuted-length c.cut-pieces.ensures.points,
+      length-append (flat_map live c.cut-pieces.result.spans.items)
+          (live_in_places c.args.points.now c.args.rect.now c.cut-pieces.result.front ++ live_in_places c.args.points.now c.args.rect.now c.cut-pieces.result.back),
+    ))
 
 pub returns-in_err-list_places-clause-cost : goal.returns-in_err-list_places-clause-cost
 returns-in_err-list_places-clause-cost g c =

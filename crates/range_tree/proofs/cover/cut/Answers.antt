@@ -13,7 +13,7 @@ loop-step-init g c = record {
       (omega (arith, c.leaves-middle.ensures.last, c.first_place-to.ensures.to_high, c.len-len.ensures.value))
       (λ k p low high at.
       let least : c.args.rect.now.x1 ≤ p.x = c.first_place-from.ensures.after k p (omega (arith, c.leaves-middle.ensures.first)) at in
-      let most : p.x < c.args.rect.now.x2 + 1 = c.first_place-to.ensures.before k p (omega (arith, c.leaves-middle.ensures.last)) at in
+      let most = c.first_place-to.ensures.before k p (omega (arith, c.leaves-middle.ensures.last)) at in
       (least, omega arith))
       c.leaves-middle.ensures.front c.leaves-middle.ensures.back;
   low = refl;
@@ -44,9 +44,10 @@ returns-clause-points g c =
     let rect = c.args.rect.now in
     let part = c.args.points.now in
     let spans = flat_map (live_in_span part c.args.levels.now) c.loop-step.cover.spans.items in
-    points_cut part c.args.levels.now rect c.loop-step.cover.spans.items c.first_place-from.result c.leaves-middle.result.from c.leaves-middle.result.to c.first_place-to.result c.len-len.ensures.valid.flagged
-    c.leaves-middle.ensures.first c.leaves-middle.ensures.ordered c.leaves-middle.ensures.last
-    (omega (arith, c.first_place-to.ensures.to_high, c.len-len.ensures.value)) c.first_place-from.ensures.before c.first_place-to.ensures.after
+    points_cut part c.args.levels.now rect c.loop-step.cover.spans.items c.first_place-from.result c.leaves-middle.result.from c.leaves-middle.result.to _ c.first_place-to.result
+    (omega (arith, c.leaves-middle.ensures.last)) c.len-len.ensures.valid.flagged c.leaves-middle.ensures.first c.leaves-middle.ensures.ordered c.leaves-middle.ensures.last
+    (omega (arith, c.first_place-to.ensures.to_high, c.len-len.ensures.value)) c.first_place-from.ensures.before
+    (λ k p beyond at. let h = c.first_place-to.ensures.after k p beyond at in omega arith)
     (subst (λ b. Permuted spans (filter (is_in rect) (live_between part c.leaves-middle.result.from b))) c.loop-step.invariant.high
     (subst (λ a. Permuted spans (filter (is_in rect) (live_between part a c.loop-step.cover.high))) c.loop-step.invariant.low covered))
 
