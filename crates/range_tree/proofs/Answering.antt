@@ -1,9 +1,10 @@
 -- Answers that are taken span by span.
-use Rattle.std.proofs.Common.{◌≡◌, ℕ, ◌+◌, ◌*◌, ◌^◌, ◌<◌, ◌≤◌, ◌-◌, List, [], ◌∷◌, ◌++◌, map, min, refl, sym, ap, ◌∙◌, subst, arith, append-nil, append_assoc}
-use Rattle.std.specs.List.{sum_by}
-use Rattle.std.proofs.Math.Nat.{mul-le-mul_right}
+use Rattle.std.proofs.Common.{◌≡◌, ℕ, ◌+◌, ◌*◌, ◌^◌, ◌<◌, ◌≤◌, ◌-◌, List, [], ◌∷◌, ◌++◌, map, min, refl, sym, ap, ◌∙◌, subst, arith, append-nil, append_assoc, ◌⊎◌, inl, inr, length}
+use Rattle.std.specs.List.{sum_by, filter}
+use Rattle.std.proofs.Math.Nat.{mul-le-mul_right, pow-le-pow_right}
+use Rattle.std.proofs.lemmas.Bool.{cases_lt}
 use Rattle.std.proofs.lemmas.List.{map-append}
-use Rattle.std.proofs.lemmas.List.Sums.{sum_by-cons}
+use Rattle.std.proofs.lemmas.List.Sums.{sum_by-cons, length-filter}
 use Rattle.query_laws.specs.StepLedger.{Counts, Spends}
 use Rattle.query_laws.specs.Sums.{capped_add}
 use Rattle.query_laws.specs.Permuted.{Permuted, nothing, same_head, swapped_heads, composed}
@@ -12,49 +13,92 @@ use Rattle.query_laws.proofs.Permutations.{Permuted-map}
 use Rattle.map_shapes.specs.Ascending.{sorted_ids, sorted_union}
 use Rattle.map_shapes.specs.AscendingLaws.{sorted_ids-Permuted, sorted_ids-append}
 use Rattle.row_blocks.specs.Heights.{height_of}
+use Rattle.map_shapes.specs.declared.point.Point.{Point}
+use Rattle.map_shapes.specs.declared.rect.Rect.{Rect}
+use Rattle.map_shapes.specs.Questions.{is_in}
+use Rattle.range_tree.specs.declared.measure.Measure.{Measure}
+use Rattle.range_tree.specs.declared.measure.Measure.TheVariants.{Count, Weight}
+use Rattle.range_tree.specs.Measures.{measure_of, measure_in}
+use Rattle.range_tree.specs.Heights.{levels_for}
 use Rattle.range_tree.proofs.HeightLemmas.{height_of-above}
 
 -- what was spent, and what the spans and the points that are left may cost, is within the bound of all spans and some points
 abbrev pub IsPaid : Counts → Counts → ℕ → ℕ → ℕ → Type 0
-IsPaid old new items left points = (h : ℕ) → items ≤ 2 ^ h
-    → (n : ℕ) × Spends old new 0 0 n × (n + left * (5 * (h + 2)) ≤ 14 * ((h + 1) * (h + 2)) + points * (5 * (h + 2)))
+IsPaid old new items left points = let h = height_of items in
+    (n : ℕ) × Spends old new 0 0 n × (n + left * (5 * (h + 2)) ≤ 16 * ((h + 2) * (h + 2)) + points * (5 * (h + 2)))
 
--- once the spans are found
-pub paid_none : {old new : Counts} (items spans points left : ℕ) → left ≡ spans + points → ((h : ℕ) → items ≤ 2 ^ h → spans ≤ 2 * (h + 1))
-    → ((h : ℕ) → items ≤ 2 ^ h → Spends old new 0 0 (4 * ((h + 1) * (h + 2)))) → IsPaid old new items left points
-paid_none items spans points left is few cost h within =
-    (4 * ((h + 1) * (h + 2)), cost h within, omega (arith, mul-le-mul_right (5 * (h + 2)) (few h within), ap (λ n. n * (5 * (h + 2))) is))
+-- a few places at both ends cost no more than a low tree's bound leaves
+high_tree : (d : ℕ) → 1 ≤ d → 4 * (d + 6 + 1) + 4 * (d * (d + 6 + 1)) + 4 * 254 + 2 * d * (5 * (d + 6 + 2)) ≤ 16 * ((d + 6 + 2) * (d + 6 + 2))
+high_tree d some = omega arith
+
+budget : (items h ends : ℕ) → items ≤ 2 ^ h → ends ≤ min 254 items → 4 * (h + 1) + 4 * ((h - 6) * (h + 1)) + 4 * ends + 2 * (h - 6) * (5 * (h + 2)) ≤ 16 * ((h + 2) * (h + 2))
+budget items h ends few small = by (cases_lt h 7) (cases_lt h 4)
+  where
+    low_tree : h < 7 → ends ≤ 15 * h + 15 → 4 * (h + 1) + 4 * ((h - 6) * (h + 1)) + 4 * ends + 2 * (h - 6) * (5 * (h + 2)) ≤ 16 * ((h + 2) * (h + 2))
+    low_tree low few_ends =
+        let zero_d : h - 6 ≡ 0 = omega arith in
+        omega (arith, few_ends, ap (λ d. d * (h + 1)) zero_d, ap (λ d. d * (5 * (h + 2))) zero_d)
+
+    by : (h < 7) ⊎ (7 ≤ h) → (h < 4) ⊎ (4 ≤ h) → 4 * (h + 1) + 4 * ((h - 6) * (h + 1)) + 4 * ends + 2 * (h - 6) * (5 * (h + 2)) ≤ 16 * ((h + 2) * (h + 2))
+    by (inl low) (inl lower) =
+        let three : h ≤ 3 = omega arith in
+        let less : 2 ^ h ≤ 2 ^ 3 = pow-le-pow_right (omega arith) three in
+        low_tree low (omega (arith, less))
+    by (inl low) (inr higher) =
+        let six : h ≤ 6 = omega arith in
+        let le : 2 ^ h ≤ 2 ^ 6 = pow-le-pow_right (omega arith) six in
+        low_tree low (omega (arith, le))
+    by (inr high) _ =
+        let is : h - 6 + 6 ≡ h = omega arith in
+        let tall = high_tree (h - 6) (omega arith) in
+        omega (arith, small, subst (λ m. 4 * (m + 1) + 4 * ((h - 6) * (m + 1)) + 4 * 254 + 2 * (h - 6) * (5 * (m + 2)) ≤ 16 * ((m + 2) * (m + 2))) is tall)
+
+-- once the pieces are found and both ends are taken
+pub paid_none : {old cut new : Counts} (items spans points left ends : ℕ) → left ≡ spans + points → items < 2 ^ 64 → spans ≤ 2 * levels_for items → ends ≤ min 254 items
+    → ((h : ℕ) → items ≤ 2 ^ h → Spends old cut 0 0 (4 * (h + 1) + 4 * ((h - 6) * (h + 1)))) → Spends cut new 0 0 (4 * ends) → IsPaid old new items left points
+paid_none items spans points left ends is small few short cost taken =
+    let h = height_of items in
+    let within = height_of-above items small in (
+      4 * (h + 1) + 4 * ((h - 6) * (h + 1)) + 4 * ends,
+      Spends-then (cost h within) taken,
+      omega (arith, budget items h ends within short, mul-le-mul_right (5 * (h + 2)) few, ap (λ n. n * (5 * (h + 2))) is),
+    )
 
 -- some more of them
 pub paid_more : {old mid new : Counts} (items left k rest points : ℕ) → IsPaid old mid items left points → left ≡ k + rest
-    → ((h : ℕ) → items ≤ 2 ^ h → Spends mid new 0 0 (k * (5 * (h + 2)))) → IsPaid old new items rest points
-paid_more items left k rest points paid is cost h within =
-    let before = paid h within in
-    (before.0 + k * (5 * (h + 2)), Spends-then before.1 (cost h within), omega (arith, before.2, ap (λ n. n * (5 * (h + 2))) is))
+    → Spends mid new 0 0 (k * (5 * (height_of items + 2))) → IsPaid old new items rest points
+paid_more items left k rest points paid is cost =
+    (paid.0 + k * (5 * (height_of items + 2)), Spends-then paid.1 cost, omega (arith, paid.2, ap (λ n. n * (5 * (height_of items + 2))) is))
 
 -- and in the end, or where no more were taken
-pub paid_all : {old new : Counts} (items left points : ℕ) → IsPaid old new items left points → items < 2 ^ 64
+pub paid_all : {old new : Counts} (items left points : ℕ) → IsPaid old new items left points
     → Spends old new 0 0 (16 * ((height_of items + 2) * (height_of items + 2)) + points * (5 * (height_of items + 2)))
-paid_all items left points paid small =
-    let all = paid (height_of items) (height_of-above items small) in
-    Spends-weaker all.1 (omega (arith, all.2))
+paid_all items left points paid = Spends-weaker paid.1 (omega (arith, paid.2))
 
 -- with more for each point
-pub paid_listed : {old new : Counts} (items left points found : ℕ) → IsPaid old new items left points → items < 2 ^ 64 → points ≡ found
+pub paid_listed : {old new : Counts} (items left points found : ℕ) → IsPaid old new items left points → points ≤ found
     → Spends old new 0 0 (16 * ((height_of items + 2) * (height_of items + 2)) + 8 * (height_of items + 2) * found)
-paid_listed items left points found paid small is =
-    Spends-weaker (paid_all items left points paid small)
-    (subst (λ n. 16 * ((height_of items + 2) * (height_of items + 2)) + points * (5 * (height_of items + 2))
-    ≤ 16 * ((height_of items + 2) * (height_of items + 2)) + 8 * (height_of items + 2) * n) is (omega arith))
+paid_listed items left points found paid is =
+    Spends-weaker (paid_all items left points paid) (omega (arith, mul-le-mul_right (5 * (height_of items + 2)) is))
+
+-- a sum of ones is a number
+pub sum_by-one : {A : Type 0} (xs : List A) → sum_by (λ x. 1) xs ≡ length xs
+sum_by-one [] = refl
+sum_by-one (x ∷ xs) = omega (arith, sum_by-cons (λ y. 1) x xs, sum_by-one xs)
+
+-- what the points in a rectangle count for
+pub measure_in-is : (measure : Measure) (rect : Rect) (xs : List Point) → min (sum_by (measure_of measure) (filter (is_in rect) xs)) (2 ^ 64 - 1) ≡ measure_in measure rect xs
+measure_in-is Count rect xs = ap (λ n. min n (2 ^ 64 - 1)) (sum_by-one (filter (is_in rect) xs) ∙ length-filter (is_in rect) xs)
+measure_in-is Weight rect xs = refl
 
 -- a number is added, cut at the greatest u64
 pub summed_more : (sum new x left rest all : ℕ) → new ≡ min (sum + x) (2 ^ 64 - 1) → left ≡ x + rest → capped_add sum left ≡ all
     → capped_add new rest ≡ all
 summed_more sum new x left rest all is taken before = omega arith
 
-pub summed_all : (old new sum left all : ℕ) → capped_add sum left ≡ capped_add 0 all → left ≡ 0 → new ≡ capped_add old sum
-    → new ≡ capped_add old (min all (2 ^ 64 - 1))
-summed_all old new sum left all before none is = omega arith
+pub summed_all : (old new sum left first all : ℕ) → capped_add sum left ≡ capped_add first all → left ≡ 0 → new ≡ capped_add old sum
+    → new ≡ capped_add old (min (first + all) (2 ^ 64 - 1))
+summed_all old new sum left first all before none is = omega arith
 
 -- sums don't depend on the order
 pub sum_by-Permuted : {A : Type 0} (f : A → ℕ) {xs ys : List A} → Permuted xs ys → sum_by f xs ≡ sum_by f ys

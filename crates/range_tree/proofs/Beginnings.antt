@@ -11,7 +11,7 @@ use Rattle.range_tree.specs.Heights.{levels_for}
 use Rattle.range_tree.specs.Rows.{before, IsRow, counted}
 use Rattle.range_tree.specs.Growing.{IsPutting, IsEmptyLevel, IsCounting, IsComing, IsGrowing, turned}
 use Rattle.range_tree.proofs.Begins.{IsRow-top}
-use Rattle.range_tree.proofs.HeightLemmas.{height_of-above, levels_for-some, levels_for-few, levels_for-small}
+use Rattle.range_tree.proofs.HeightLemmas.{height_of-above, height_of-least, levels_for-some, levels_for-few, levels_for-small}
 
 -- what was not begun has no places, is open, and has turned none
 module _ (level : Level) (none : level.counts ≡ nothing_put level.counts.capacity) where
@@ -54,11 +54,11 @@ pub few_points : (n level : ℕ) → level < 32 → n ≤ 2 ^ level → n ≤ 2 
 few_points n level small few =
     let le : level ≤ 31 = omega arith in let bound : 2 ^ level ≤ 2 ^ 31 = pow-le-pow_right (omega arith) le in omega arith
 
-pub levels_for-within : (n level : ℕ) → level < 32 → n ≤ 2 ^ level → levels_for n ≤ level + 1
+pub levels_for-within : (n level : ℕ) → level < 32 → n ≤ 2 ^ level → levels_for n ≤ level - 6
 levels_for-within n level small few = levels_for-few n level (omega (arith, few_points n level small few)) few
 
 some_points : (n used : ℕ) → used ≡ levels_for n → 0 < used → 0 < n
-some_points zero used is some = absurd (omega arith)
+some_points zero used is some = absurd (omega (arith, height_of-least 0 0 (omega arith) (omega arith)))
 some_points (suc n) used is some = omega arith
 
 small_work : (levels n : ℕ) → levels ≤ 32 → n ≤ 2 ^ 31 → levels * (2 * n) < 2 ^ 38
@@ -73,11 +73,11 @@ module _ (b : Progress Point) (tree : Tree) (underway : IsUnderway before b) (co
   few : length b.items ≤ 2 ^ 31
   few = few_points (length b.items) b.at_level putting.small underway.few
 
-  whole : {level : Level} → tree.at < tree.used → slice_get tree.levels.items 0 ≡ Some level → IsRow b.items (tree.used - 1 - tree.at) level.entries.items
+  whole : {level : Level} → tree.at < tree.used → slice_get tree.levels.items 0 ≡ Some level → IsRow b.items (tree.used + 6 - tree.at) level.entries.items
   whole {level} some found =
-      let height : tree.used - 1 - tree.at ≡ height_of (length b.items) =
-      omega (arith, levels_for-some (length b.items) (some_points (length b.items) tree.used used (omega arith))) in
-      IsRow-top b level.entries.items underway complete (putting.places level found) (putting.known level found) (tree.used - 1 - tree.at)
+      let height : tree.used + 6 - tree.at ≡ height_of (length b.items) =
+      omega (arith, levels_for-some (length b.items) (omega arith)) in
+      IsRow-top b level.entries.items underway complete (putting.places level found) (putting.known level found) (tree.used + 6 - tree.at)
       (subst (λ h. length b.items ≤ 2 ^ h) (sym height) (height_of-above (length b.items) (omega (arith, few))))
 
   pub IsGrowing-begun : IsGrowing b tree
@@ -93,8 +93,8 @@ module _ (b : Progress Point) (tree : Tree) (underway : IsUnderway before b) (co
     here = λ level some found.
         IsCounting-begun (whole some (top found)) (putting.uncounted level (top found)) (some_points (length b.items) tree.used used (omega arith));
     next = λ level next more found below.
-        subst (IsComing level next (tree.used - 2 - tree.at)) (sym lower)
-        (IsComing-begun (tree.used - 2 - tree.at) (putting.uncounted level (top found)) (putting.below (tree.at + 1) next (omega arith) below));
+        subst (IsComing level next (tree.used + 5 - tree.at)) (sym lower)
+        (IsComing-begun (tree.used + 5 - tree.at) (putting.uncounted level (top found)) (putting.below (tree.at + 1) next (omega arith) below));
     known = λ next more below.
         let none = (putting.below (tree.at + 1) next (omega arith) below).entries in
         λ k d within. absurd (omega (arith, ap length none));
@@ -107,5 +107,5 @@ module _ (b : Progress Point) (tree : Tree) (underway : IsUnderway before b) (co
     ended = λ none.
         let zero_levels : levels_for (length b.items) ≡ 0 = omega arith in
         left ∙ ap (λ u. u * (2 * length b.items)) zero_levels ∙ (omega arith);
-    few_left = omega (arith, left, small_work (levels_for (length b.items)) (length b.items) (levels_for-small (length b.items) few) few);
+    few_left = omega (arith, left, small_work (levels_for (length b.items)) (length b.items) (omega (arith, levels_for-small (length b.items) few)) few);
   }

@@ -44,6 +44,19 @@ live_between-none part a b le =
     let none : b - a ≡ 0 = omega arith in
     ap (λ n. flat_map (live_at part) (range_with_len a n)) none
 
+-- at one place is what is live there
+pub live_between-one : (part : Contents Point) (k : ℕ) → live_between part k (k + 1) ≡ live_at part k
+live_between-one part k =
+    let one : k + 1 - k ≡ 1 = omega arith in
+    ap (λ n. flat_map (live_at part) (range_with_len k n)) one ∙ append-nil (live_at part k)
+
+-- so one place more adds what is live there
+pub live_in-more : (part : Contents Point) (rect : Rect) (from k : ℕ) → from ≤ k
+    → filter (is_in rect) (live_between part from (k + 1)) ≡ filter (is_in rect) (live_between part from k) ++ filter (is_in rect) (live_at part k)
+live_in-more part rect from k le =
+    live_in-split part rect from k (k + 1) le (omega arith)
+    ∙ ap (λ l. filter (is_in rect) (live_between part from k) ++ filter (is_in rect) l) (live_between-one part k)
+
 module _ {A : Type 0} where
   -- what stands at a place, if its flag stands
   abbrev kept_at : List Bool → List A → ℕ → List A

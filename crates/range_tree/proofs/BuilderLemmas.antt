@@ -46,7 +46,8 @@ left-sealed n level left quota = omega (arith, quota.bounded)
 pub IsQuota-sealed : (n level left : ℕ) → level < 32 → n ≤ 2 ^ level → IsQuota 0 2 level n left
     → IsQuota 4 12 level n (left + levels_for n * (2 * n))
 IsQuota-sealed n level left small few quota =
-    let levels : levels_for n * (2 * n) ≤ (level + 1) * (2 * n) = mul-le-mul_right (2 * n) (levels_for-within n level small few) in
+    let within : levels_for n ≤ level + 1 = omega (arith, levels_for-within n level small few) in
+    let levels : levels_for n * (2 * n) ≤ (level + 1) * (2 * n) = mul-le-mul_right (2 * n) within in
     let twice : 2 * n ≤ 2 * 2 ^ level = omega (arith, few) in
     let points : (level + 1) * (2 * n) ≤ (level + 1) * (2 * 2 ^ level) = mul-le-mul_left (level + 1) twice in
     record { enough = omega (arith, quota.enough); bounded = omega (arith, quota.bounded, levels, points) }
@@ -93,7 +94,7 @@ AreLevels-grown b tree growing none =
       as_many = many ∙ growing.used;
       each = λ q level found.
           let there = slice_get-take tree.used tree.levels.items q level found in
-          subst (λ h. IsLevel b.items (replicate (length b.items) true) h level) (ap (λ n. n - 1 - q) (sym many))
+          subst (λ h. IsLevel b.items (replicate (length b.items) true) h level) (ap (λ n. n + 6 - q) (sym many))
           (growing.built q level (omega (arith, at_end b tree growing none, there.0)) there.1);
     }
 
@@ -121,7 +122,7 @@ uncounted_at : {cap : ℕ} (level : Level) → level ≡ empty_level cap → lev
 uncounted_at level is = ap (λ l. l.counts) is ∙ ap (λ l. nothing_put l.counts.capacity) (sym is)
 
 -- emptied levels are those of a builder that begins
-pub IsPutting-emptied : (n : ℕ) (levels : List Level) → n < 32 → length levels ≡ n + 1 → All (HasRoom (2 ^ n)) levels
+pub IsPutting-emptied : (n : ℕ) (levels : List Level) → n < 32 → length levels ≡ n - 6 → All (HasRoom (2 ^ n)) levels
     → IsPutting (begun n) (map emptied levels)
 IsPutting-emptied n levels small made room =
     let at = emptied_at (2 ^ n) levels room in record {

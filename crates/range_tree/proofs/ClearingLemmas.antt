@@ -158,17 +158,17 @@ module _ {X : Type 0} where
 -- the levels before a row are without the place
 abbrev pub AreCleared : Contents Point → List Level → ℕ → ℕ → ℕ → Type 0
 AreCleared part levels count place row = (q : ℕ) (level : Level) → q < row → slice_get levels q ≡ Some level
-    → IsLevel part.items (set part.flags place false) (count - 1 - q) level
+    → IsLevel part.items (set part.flags place false) (count + 6 - q) level
 
 -- one more of them
 pub cleared_more : (part : Contents Point) (levels : List Level) (count place row : ℕ) (new : Level) → AreCleared part levels count place row
-    → row < length levels → IsLevel part.items (set part.flags place false) (count - 1 - row) new
+    → row < length levels → IsLevel part.items (set part.flags place false) (count + 6 - row) new
     → AreCleared part (set levels row new) count place (row + 1)
 cleared_more part levels count place row new before below is q level within at =
     elim (cases_eq q row) [
       | inl same ↦
           let here : new ≡ level = read_written levels row new level below (subst (λ r. slice_get (set levels row new) r ≡ Some level) same at) in
-          subst (λ (l : Level). IsLevel part.items (set part.flags place false) (count - 1 - q) l) here
-          (subst (λ r. IsLevel part.items (set part.flags place false) (count - 1 - r) new) (sym same) is)
+          subst (λ (l : Level). IsLevel part.items (set part.flags place false) (count + 6 - q) l) here
+          (subst (λ r. IsLevel part.items (set part.flags place false) (count + 6 - r) new) (sym same) is)
       | inr apart ↦ before q level (let lt : q < row = omega arith in lt) (sym (slice_get-set_other levels row q new apart) ∙ at)
     ]

@@ -1,8 +1,8 @@
 -- Steps of a cover: a span at the front, a span at the back, none at a level, the beginning and the end.
-use Rattle.std.proofs.Common.{◌≡◌, ◌≢◌, ℕ, ◌+◌, ◌-◌, ◌*◌, ◌/◌, ◌%◌, ◌^◌, ◌<◌, ◌≤◌, inl, inr, List, [], ◌∷◌, ◌++◌, length, get_or, Option, Some, None, slice_get, take, drop, min, refl, sym, ap, ◌∙◌, arith, subst, append-nil, append_assoc, All}
+use Rattle.std.proofs.Common.{◌≡◌, ◌≢◌, ℕ, ◌+◌, ◌-◌, ◌*◌, ◌/◌, ◌%◌, ◌^◌, ◌<◌, ◌≤◌, ◌⊎◌, inl, inr, List, [], ◌∷◌, ◌++◌, length, get_or, Option, Some, None, slice_get, take, drop, min, refl, sym, ap, ◌∙◌, arith, subst, append-nil, append_assoc, All}
 use Rattle.std.specs.List.{flat_map, items_where_true, filter}
 use Rattle.std.specs.Option.{option_to_list}
-use Rattle.std.proofs.Math.Nat.{mul-le-mul_right, min-eq_left}
+use Rattle.std.proofs.Math.Nat.{mul-le-mul_right, min-eq_left, pow-le-pow_right}
 use Rattle.std.proofs.lemmas.Nat.{pow_pos, mul-le}
 use Rattle.std.proofs.lemmas.Bool.{cases_lt}
 use Rattle.std.proofs.lemmas.Option.{slice_get-get_or, same_Some}
@@ -26,8 +26,8 @@ use Rattle.range_tree.specs.declared.span.Span.{Span}
 use Rattle.range_tree.specs.declared.cover.Cover.{Cover}
 use Rattle.row_blocks.specs.Heights.{height_of}
 use Rattle.range_tree.specs.Rows.{AreLevels, IsLevel, IsRow, IsBlock}
-use Rattle.range_tree.specs.Queries.{live_at, live_between, live_in_slice, live_in_span, IsSpan, IsCovering, IsCover, IsFrontCovered, AreWithinAbscissas, AbscissasBelow, AbscissasFrom}
-use Rattle.range_tree.proofs.HeightLemmas.{height_of-above, levels_for-some, levels_for-few, levels_for-small}
+use Rattle.range_tree.specs.Queries.{live_at, live_between, live_in_slice, live_in_span, IsSpan, HasRow, IsCovering, IsCover, IsFrontCovered, AreWithinAbscissas, AbscissasBelow, AbscissasFrom}
+use Rattle.range_tree.proofs.HeightLemmas.{height_of-above, levels_for-few, levels_for-small}
 use Rattle.range_tree.proofs.Between.{live_in-split, live_in-all, live_between-none}
 
 -- two different multiples of a length are at least that far apart
@@ -54,12 +54,12 @@ multiple_back {to} {len} {height} multiple is some odd =
     subst (λ n. IsMultiple n (height + 1)) same (multiple_before longer (omega arith))
 
 -- the level at a height
-pub level_at : {part : Contents Point} {levels : List Level} → AreLevels part levels → (height : ℕ) → height < length levels
-    → (d : Level) → IsLevel part.items part.flags height (get_or levels (length levels - 1 - height) d)
+pub level_at : {part : Contents Point} {levels : List Level} → AreLevels part levels → (height : ℕ) → HasRow levels height
+    → (d : Level) → IsLevel part.items part.flags height (get_or levels (length levels + 6 - height) d)
 level_at {part} {levels} tree height within d =
-    let row : ℕ = length levels - 1 - height in
+    let row : ℕ = length levels + 6 - height in
     let inside : row < length levels = omega arith in
-    let back : length levels - 1 - row ≡ height = omega arith in
+    let back : length levels + 6 - row ≡ height = omega arith in
     subst (λ h. IsLevel part.items part.flags h (get_or levels row d)) back (tree.each row (get_or levels row d) (slice_get-get_or levels row d inside))
 
 -- a whole block of a row
@@ -78,18 +78,18 @@ pub record IsTaken (part : Contents Point) (levels : List Level) (rect : Rect) (
 
 -- what the search in a block has found
 pub taken : {part : Contents Point} {levels : List Level} {rect : Rect} {height start end : ℕ} {span : Span} (d : Level) → AreLevels part levels
-    → height < length levels → span.row ≡ length levels - 1 - height → span.from ≤ span.to → span.to ≤ end → end ≤ length part.items
+    → HasRow levels height → span.row ≡ length levels + 6 - height → span.from ≤ span.to → span.to ≤ end → end ≤ length part.items
     → AreWithinAbscissas part start end rect
-    → ((p : Contents Point) (h : ℕ) → IsRow p.items h (get_or levels (length levels - 1 - height) d).entries.items
+    → ((p : Contents Point) (h : ℕ) → IsRow p.items h (get_or levels (length levels + 6 - height) d).entries.items
     → AreWithinAbscissas p start end rect
-    → Permuted (live_in_slice p (get_or levels (length levels - 1 - height) d).entries.items span.from span.to)
+    → Permuted (live_in_slice p (get_or levels (length levels + 6 - height) d).entries.items span.from span.to)
     (filter (is_in rect) (live_between p start end)))
     → IsTaken part levels rect start end span
 taken {part} {levels} {rect} {height} {start} {end} {span} d tree within row ordered inside most abscissas found =
-    let level : Level = get_or levels (length levels - 1 - height) d in
+    let level : Level = get_or levels (length levels + 6 - height) d in
     let is_level : IsLevel part.items part.flags height level = level_at tree height within d in
     let there : slice_get levels span.row ≡ Some level =
-    ap (slice_get levels) row ∙ slice_get-get_or levels (length levels - 1 - height) d (omega arith) in
+    ap (slice_get levels) row ∙ slice_get-get_or levels (length levels + 6 - height) d (omega arith) in
     let as_many : length level.counts.places ≡ length part.items =
     ap length is_level.counts ∙ length-map level.entries.items _ ∙ is_level.row.entry_each in
     let only : live_in_span part levels span ≡ live_in_slice part level.entries.items span.from span.to =
@@ -185,8 +185,8 @@ IsCovering-weaker le old = record {
 -- a span is pushed that takes the front of what is left
 pub IsCovering-front : {part : Contents Point} {levels : List Level} {rect : Rect} {most mid : ℕ} {old new : Cover} (span : Span)
     → IsCovering part levels rect most old → old.from ≤ mid → mid ≤ old.to → IsTaken part levels rect old.from mid span
-    → IsKept part levels span old.spans.items new.spans.items → new.from ≡ mid → new.to ≡ old.to → IsCovering part levels rect (most + 1) new
-IsCovering-front {part} {levels} {rect} {most} {mid} {old} {new} span cover after before is_taken kept from to = record {
+    → IsKept part levels span old.spans.items new.spans.items → new.from ≡ mid → new.to ≡ old.to → new.low ≡ old.low → new.high ≡ old.high → IsCovering part levels rect (most + 1) new
+IsCovering-front {part} {levels} {rect} {most} {mid} {old} {new} span cover after before is_taken kept from to low high = record {
   ordered = omega arith;
   within = omega (arith, cover.within);
   abscissas = λ k p low high at. cover.abscissas k p (omega arith) (omega arith) at;
@@ -197,14 +197,14 @@ IsCovering-front {part} {levels} {rect} {most} {mid} {old} {new} span cover afte
       ≡ filter (is_in rect) (live_between part old.from mid) ++ filter (is_in rect) (live_between part mid old.to) =
       live_in-split part rect old.from mid old.to after before in
       let done = joined_front (live_in_span part levels) old.spans.items new.spans.items span _ _ kept.points is_taken.points split cover.points in
-      rw (from, to) done;
+      rw (from, to, low, high) done;
 }
 
 -- or the back
 pub IsCovering-back : {part : Contents Point} {levels : List Level} {rect : Rect} {most mid : ℕ} {old new : Cover} (span : Span)
     → IsCovering part levels rect most old → old.from ≤ mid → mid ≤ old.to → IsTaken part levels rect mid old.to span
-    → IsKept part levels span old.spans.items new.spans.items → new.from ≡ old.from → new.to ≡ mid → IsCovering part levels rect (most + 1) new
-IsCovering-back {part} {levels} {rect} {most} {mid} {old} {new} span cover after before is_taken kept from to = record {
+    → IsKept part levels span old.spans.items new.spans.items → new.from ≡ old.from → new.to ≡ mid → new.low ≡ old.low → new.high ≡ old.high → IsCovering part levels rect (most + 1) new
+IsCovering-back {part} {levels} {rect} {most} {mid} {old} {new} span cover after before is_taken kept from to low high = record {
   ordered = omega arith;
   within = omega (arith, cover.within);
   abscissas = λ k p low high at. cover.abscissas k p (omega arith) (omega arith) at;
@@ -215,7 +215,7 @@ IsCovering-back {part} {levels} {rect} {most} {mid} {old} {new} span cover after
       ≡ filter (is_in rect) (live_between part old.from mid) ++ filter (is_in rect) (live_between part mid old.to) =
       live_in-split part rect old.from mid old.to after before in
       let done = joined_back (live_in_span part levels) old.spans.items new.spans.items span _ _ kept.points is_taken.points split cover.points in
-      rw (from, to) done;
+      rw (from, to, low, high) done;
 }
 
 -- what is left has room for a block
@@ -250,12 +250,12 @@ IsCover-skip {part} {levels} {rect} {height} {len} {cover} is old even = record 
 pub IsFrontCovered-push : {part : Contents Point} {levels : List Level} {rect : Rect} {height len : ℕ} {old new : Cover} (span : Span) → len ≡ 2 ^ height
     → IsCover part levels rect height old → old.from < old.to → old.from / len % 2 ≡ 1
     → IsTaken part levels rect old.from (old.from + len) span → IsKept part levels span old.spans.items new.spans.items
-    → new.from ≡ old.from + len → new.to ≡ old.to → IsFrontCovered part levels rect height new
-IsFrontCovered-push {part} {levels} {rect} {height} {len} {old} {new} span is cover some odd is_taken kept from to =
+    → new.from ≡ old.from + len → new.to ≡ old.to → new.low ≡ old.low → new.high ≡ old.high → IsFrontCovered part levels rect height new
+IsFrontCovered-push {part} {levels} {rect} {height} {len} {old} {new} span is cover some odd is_taken kept from to low high =
     let apart : old.from + 2 ^ height ≤ old.to = front_apart cover some in
     let next : IsMultiple (old.from + len) (height + 1) = odd_block old.from height len (cover.front some) is (λ e. omega arith) in
     record {
-      covering = IsCovering-front span cover.covering (omega arith) (omega arith) is_taken kept from to;
+      covering = IsCovering-front span cover.covering (omega arith) (omega arith) is_taken kept from to low high;
       front = λ more. subst (λ n. IsMultiple n (height + 1)) (sym from) next;
       back = λ more. subst (λ n. IsMultiple n height) (sym to) (cover.back some);
     }
@@ -264,12 +264,12 @@ IsFrontCovered-push {part} {levels} {rect} {height} {len} {old} {new} span is co
 pub IsCover-push : {part : Contents Point} {levels : List Level} {rect : Rect} {height len : ℕ} {old new : Cover} (span : Span) → len ≡ 2 ^ height
     → IsFrontCovered part levels rect height old → old.from < old.to → old.to / len % 2 ≡ 1
     → IsTaken part levels rect (old.to - len) old.to span → IsKept part levels span old.spans.items new.spans.items
-    → new.from ≡ old.from → new.to ≡ old.to - len → IsCover part levels rect (height + 1) new
-IsCover-push {part} {levels} {rect} {height} {len} {old} {new} span is cover some odd is_taken kept from to =
+    → new.from ≡ old.from → new.to ≡ old.to - len → new.low ≡ old.low → new.high ≡ old.high → IsCover part levels rect (height + 1) new
+IsCover-push {part} {levels} {rect} {height} {len} {old} {new} span is cover some odd is_taken kept from to low high =
     let apart : old.from + 2 ^ height ≤ old.to = back_apart cover some in
     let next : IsMultiple (old.to - len) (height + 1) = multiple_back (cover.back some) is (omega arith) odd in
     record {
-      covering = IsCovering-weaker (omega arith) (IsCovering-back span cover.covering (omega arith) (omega arith) is_taken kept from to);
+      covering = IsCovering-weaker (omega arith) (IsCovering-back span cover.covering (omega arith) (omega arith) is_taken kept from to low high);
       front = λ more. subst (λ n. IsMultiple n (height + 1)) (sym from) (cover.front some);
       back = λ more. subst (λ n. IsMultiple n (height + 1)) (sym to) next;
     }
@@ -280,8 +280,8 @@ pub record IsNextBlock (entries : List Entry) (start end : ℕ) : Type 0 where
   pub block : IsBlock entries start end
 
 pub block_front : {part : Contents Point} {levels : List Level} {rect : Rect} {height len : ℕ} {cover : Cover} (d : Level) → len ≡ 2 ^ height
-    → height < length levels → AreLevels part levels → IsCover part levels rect height cover → cover.from < cover.to
-    → IsNextBlock (get_or levels (length levels - 1 - height) d).entries.items cover.from (cover.from + len)
+    → HasRow levels height → AreLevels part levels → IsCover part levels rect height cover → cover.from < cover.to
+    → IsNextBlock (get_or levels (length levels + 6 - height) d).entries.items cover.from (cover.from + len)
 block_front {part} {levels} {rect} {height} {len} {cover} d is within tree old some =
     let level = level_at tree height within d in
     let apart : cover.from + 2 ^ height ≤ cover.to = front_apart old some in
@@ -292,8 +292,8 @@ block_front {part} {levels} {rect} {height} {len} {cover} d is within tree old s
     }
 
 pub block_back : {part : Contents Point} {levels : List Level} {rect : Rect} {height len : ℕ} {cover : Cover} (d : Level) → len ≡ 2 ^ height
-    → height < length levels → AreLevels part levels → IsFrontCovered part levels rect height cover → cover.from < cover.to
-    → IsNextBlock (get_or levels (length levels - 1 - height) d).entries.items (cover.to - len) cover.to
+    → HasRow levels height → AreLevels part levels → IsFrontCovered part levels rect height cover → cover.from < cover.to
+    → IsNextBlock (get_or levels (length levels + 6 - height) d).entries.items (cover.to - len) cover.to
 block_back {part} {levels} {rect} {height} {len} {cover} d is within tree old some =
     let level = level_at tree height within d in
     let apart : cover.from + 2 ^ height ≤ cover.to = back_apart old some in
@@ -304,30 +304,26 @@ block_back {part} {levels} {rect} {height} {len} {cover} d is within tree old so
       block = block_at level.row (subst (λ n. IsMultiple n height) same start) (omega arith) old.covering.within;
     }
 
--- before the loop nothing is covered, between the abscissas of the rectangle
-pub IsCover-init : {part : Contents Point} {levels : List Level} {rect : Rect} {cover : Cover} → length part.flags ≡ length part.items
-    → cover.spans.items ≡ [] → cover.from ≤ cover.to → cover.to ≤ length part.items → AbscissasBelow part.items cover.from rect.x1
-    → AbscissasFrom part.items cover.from rect.x1 → AbscissasBelow part.items cover.to (rect.x2 + 1)
-    → AbscissasFrom part.items cover.to (rect.x2 + 1) → IsCover part levels rect 0 cover
-IsCover-init {part} {levels} {rect} {cover} flagged none ordered within below from upto behind = record {
+-- before the loop nothing is covered
+pub IsCover-init : {part : Contents Point} {levels : List Level} {rect : Rect} {cover : Cover} → cover.spans.items ≡ [] → cover.from ≡ cover.low → cover.to ≡ cover.high
+    → cover.low ≤ cover.high → cover.high ≤ length part.items → AreWithinAbscissas part cover.low cover.high rect
+    → (cover.low < cover.high → IsMultiple cover.low 7) → (cover.low < cover.high → IsMultiple cover.high 7) → IsCover part levels rect 7 cover
+IsCover-init {part} {levels} {rect} {cover} none from to ordered within abscissas front back = record {
   covering = record {
-    ordered = ordered;
-    within = within;
-    abscissas = λ k p low high at. let least : rect.x1 ≤ p.x = from k p low at in
-        let most : p.x < rect.x2 + 1 = upto k p high at in (least, omega arith);
+    ordered = omega arith;
+    within = omega arith;
+    abscissas = λ k p low high at. abscissas k p (omega arith) (omega arith) at;
     spans = subst (λ l. All (IsSpan levels) l) (sym none) (All-nil (IsSpan levels));
     few = omega (arith, ap length none);
-    points = rw none (subst (λ l. Permuted (filter (is_in rect) (live_between part cover.from cover.to)) l)
-        (live_in-all part rect cover.from cover.to flagged ordered within below behind)
-        (Permuted-refl (filter (is_in rect) (live_between part cover.from cover.to))));
+    points = rw (none, from, to) (Permuted-refl (filter (is_in rect) (live_between part cover.low cover.high)));
   };
-  front = λ some. record { times = cover.from; is = omega arith };
-  back = λ some. record { times = cover.to; is = omega arith };
+  front = λ some. subst (λ n. IsMultiple n 7) (sym from) (front (omega arith));
+  back = λ some. subst (λ n. IsMultiple n 7) (sym to) (back (omega arith));
 }
 
 -- at the end nothing is left: no two places of a part are so far apart
 pub none_left : {part : Contents Point} {levels : List Level} {rect : Rect} {height : ℕ} {cover : Cover} → AreLevels part levels
-    → height ≡ length levels → IsCover part levels rect height cover → cover.to ≤ cover.from
+    → height ≡ length levels + 7 → IsCover part levels rect height cover → cover.to ≤ cover.from
 none_left {part} {levels} {rect} {height} {cover} tree is old =
     elim (cases_lt cover.from cover.to) [ inl some ↦ absurd (far some) | inr none ↦ none ]
   where
@@ -335,52 +331,67 @@ none_left {part} {levels} {rect} {height} {cover} tree is old =
     far some =
         let apart : cover.from + 2 ^ height ≤ cover.to = front_apart old some in
         let inside : cover.to ≤ length part.items = old.covering.within in
-        let tall : height ≡ height_of (length part.items) + 1 = is ∙ tree.as_many ∙ levels_for-some (length part.items) (omega arith) in
+        let tall : height_of (length part.items) + 1 ≤ height = omega (arith, is, tree.as_many) in
         let fits : length part.items ≤ 2 ^ height_of (length part.items) = height_of-above (length part.items) (omega (arith, tree.few)) in
-        let twice : 2 ^ height ≡ 2 ^ height_of (length part.items) + 2 ^ height_of (length part.items) =
-        ap (λ i. 2 ^ i) tall ∙ pow_next (height_of (length part.items)) in
+        let twice = pow_next (height_of (length part.items)) in
+        let larger : 2 ^ (height_of (length part.items) + 1) ≤ 2 ^ height = pow-le-pow_right (omega arith) tall in
         let pos : 0 < 2 ^ height_of (length part.items) = pow_pos (height_of (length part.items)) in
         omega arith
 
--- then the spans hold all points of the rectangle
+-- then the spans hold all points of the rectangle among the leaves that were to be covered
 pub points_covered : {part : Contents Point} {levels : List Level} {rect : Rect} {height : ℕ} {cover : Cover} → AreLevels part levels
-    → height ≡ length levels → IsCover part levels rect height cover
-    → Permuted (flat_map (live_in_span part levels) cover.spans.items) (filter (is_in rect) (items_where_true part.flags part.items))
+    → height ≡ length levels + 7 → IsCover part levels rect height cover
+    → Permuted (flat_map (live_in_span part levels) cover.spans.items) (filter (is_in rect) (live_between part cover.low cover.high))
 points_covered {part} {levels} {rect} {height} {cover} tree is old =
     let nothing_more : flat_map (live_in_span part levels) cover.spans.items ++ filter (is_in rect) (live_between part cover.from cover.to)
     ≡ flat_map (live_in_span part levels) cover.spans.items =
     ap (λ l. flat_map (live_in_span part levels) cover.spans.items ++ filter (is_in rect) l)
     (live_between-none part cover.from cover.to (none_left tree is old))
     ∙ append-nil (flat_map (live_in_span part levels) cover.spans.items) in
-    subst (λ l. Permuted l (filter (is_in rect) (items_where_true part.flags part.items))) nothing_more old.covering.points
+    subst (λ l. Permuted l (filter (is_in rect) (live_between part cover.low cover.high))) nothing_more old.covering.points
 
--- a tree has at most one level more than the height of a full one
-pub levels_few : {part : Contents Point} {levels : List Level} → AreLevels part levels → (h : ℕ) → length part.items ≤ 2 ^ h → length levels ≤ h + 1
+-- and with the places before and behind these all of the rectangle
+pub points_cut : (part : Contents Point) (levels : List Level) (rect : Rect) (spans : List Span) (from low high behind to : ℕ) → behind ≡ high → length part.flags ≡ length part.items
+    → from ≤ low → low ≤ high → high ≤ to → to ≤ length part.items → AbscissasBelow part.items from rect.x1 → AbscissasFrom part.items to (rect.x2 + 1)
+    → Permuted (flat_map (live_in_span part levels) spans) (filter (is_in rect) (live_between part low high))
+    → Permuted (flat_map (live_in_span part levels) spans ++ (filter (is_in rect) (live_between part from low) ++ filter (is_in rect) (live_between part behind to)))
+    (filter (is_in rect) (items_where_true part.flags part.items))
+points_cut part levels rect spans from low high behind to is flagged first ordered last within below above middle =
+    let f : ℕ → ℕ → List Point = λ a b. filter (is_in rect) (live_between part a b) in
+    let whole : f from to ≡ f from low ++ (f low high ++ f high to) =
+    live_in-split part rect from low to first (omega arith) ∙ ap (λ l. f from low ++ l) (live_in-split part rect low high to ordered last) in
+    let all : f from low ++ (f low high ++ f high to) ≡ filter (is_in rect) (items_where_true part.flags part.items) =
+    sym whole ∙ live_in-all part rect from to flagged (omega arith) within below above in
+    let moved : Permuted (f low high ++ (f from low ++ f high to)) (f from low ++ (f low high ++ f high to)) =
+    subst (λ l. Permuted l (f from low ++ (f low high ++ f high to))) (append_assoc (f low high) (f from low) (f high to))
+    (subst (λ l. Permuted ((f low high ++ f from low) ++ f high to) l) (append_assoc (f from low) (f low high) (f high to))
+    (Permuted-append_left (f high to) (Permuted-append_comm (f low high) (f from low)))) in
+    subst (λ b. Permuted (flat_map (live_in_span part levels) spans ++ (f from low ++ f b to)) (filter (is_in rect) (items_where_true part.flags part.items))) (sym is)
+    (subst (λ l. Permuted (flat_map (live_in_span part levels) spans ++ (f from low ++ f high to)) l) all
+    (composed (Permuted-append_left (f from low ++ f high to) middle) moved))
+
+-- a tree has fewer levels than one more than the height of a full one
+pub levels_few : {part : Contents Point} {levels : List Level} → AreLevels part levels → (h : ℕ) → length part.items ≤ 2 ^ h → length levels ≤ h - 6
 levels_few {part} {levels} tree h few = omega (arith, tree.as_many, levels_for-few (length part.items) h (omega (arith, tree.few)) few)
 
--- and at most 32
-pub levels_small : {part : Contents Point} {levels : List Level} → AreLevels part levels → length levels ≤ 32
+-- and at most 25
+pub levels_small : {part : Contents Point} {levels : List Level} → AreLevels part levels → length levels ≤ 25
 levels_small {part} {levels} tree = omega (arith, tree.as_many, levels_for-small (length part.items) tree.few)
 
--- what all levels cost, one after another
-touches_more : (k : ℕ) → 2 * (k * (k + 1)) + 4 * (k + 1) ≡ 2 * ((k + 1) * (k + 1 + 1))
-touches_more k = omega arith
-
-pub Spends-level : {old mid new : Counts} (k : ℕ) → Spends old mid 0 0 (2 * (k * (k + 1))) → Spends mid new 0 0 (4 * (k + 1))
-    → Spends old new 0 0 (2 * ((k + 1) * (k + 1 + 1)))
-Spends-level k first second = Spends-within (Spends-then first second) refl refl (omega (arith, touches_more k))
+-- what one more level costs
+pub Spends-level : {old mid new : Counts} (k top : ℕ) → k < top → Spends old mid 0 0 (k * (4 * (top + 7))) → Spends mid new 0 0 (4 * (k + 7 + 1))
+    → Spends old new 0 0 ((k + 1) * (4 * (top + 7)))
+Spends-level k top below first second = Spends-within (Spends-then first second) refl refl (omega arith)
 
 -- a search in no more than 2 ^ h points
 pub within_search : (n m h : ℕ) → n ≤ 2 ^ h → m ≤ n → m < 2 ^ (h + 1)
 within_search n m h few le = omega (arith, pow_next h, pow_pos h)
 
--- and with the two searches before them
-all_touches : (l h : ℕ) → l ≤ h + 1 → 2 * (h + 1) + 2 * (h + 1) + 2 * (l * (l + 1)) ≤ 4 * ((h + 1) * (h + 2))
-all_touches l h le =
-    let product : l * (l + 1) ≤ (h + 1) * (h + 2) = mul-le l (l + 1) (h + 1) (h + 2) le (omega arith) in
-    let larger : 2 * (h + 1) ≤ (h + 1) * (h + 2) = omega arith in
-    omega arith
-
-pub Spends-cover : {old first second new : Counts} (l h : ℕ) → l ≤ h + 1 → Spends old first 0 0 (2 * (h + 1)) → Spends first second 0 0 (2 * (h + 1))
-    → Spends second new 0 0 (2 * (l * (l + 1))) → Spends old new 0 0 (4 * ((h + 1) * (h + 2)))
-Spends-cover l h le a b c = Spends-within (Spends-then (Spends-then a b) c) refl refl (all_touches l h le)
+-- all levels, with the two searches before them
+pub Spends-cover : {old first second new : Counts} (k top h : ℕ) → k ≤ top → top ≤ h - 6 → Spends old first 0 0 (2 * (h + 1)) → Spends first second 0 0 (2 * (h + 1))
+    → Spends second new 0 0 (k * (4 * (top + 7))) → Spends old new 0 0 (4 * (h + 1) + 4 * ((h - 6) * (h + 1)))
+Spends-cover k top h done few a b c = Spends-within (Spends-then (Spends-then a b) c) refl refl (by (cases_lt h 7))
+  where
+    by : (h < 7) ⊎ (7 ≤ h) → 2 * (h + 1) + 2 * (h + 1) + k * (4 * (top + 7)) ≤ 4 * (h + 1) + 4 * ((h - 6) * (h + 1))
+    by (inl low) = omega (arith, ap (λ n. n * (4 * (top + 7))) (let none : k ≡ 0 = omega arith in none))
+    by (inr high) = omega (arith, mul-le k (4 * (top + 7)) (h - 6) (4 * (h + 1)) (omega arith) (omega arith))

@@ -16,3 +16,4 @@ pub mod Parting
 pub mod PartingGrowth
 pub mod Putting
 pub mod BuilderLemmas
+pub mod GridLemmas

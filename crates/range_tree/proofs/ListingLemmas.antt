@@ -120,9 +120,10 @@ pub spent_all : {a b : Counts} (h n m : ℕ) → Spends a b 0 0 (4 * (h + 2) + n
 spent_all h n m spent le = Spends-weaker spent (omega (arith, mul-le-mul_right (5 * (h + 2)) le))
 
 -- one more live one before the next place
-pub ranked_next : (places : List Place) (k j : ℕ) → IsLive places k → count_by is_live (take k places) ≡ j
-    → count_by is_live (take (k + 1) places) ≡ j + 1
-ranked_next places k j live ranked = count_by_more_yes is_live places k no_place (live_within places k live) live ∙ ap (λ n. n + 1) ranked
+pub ranked_next : (places : List Place) (k j next : ℕ) → IsLive places k → count_by is_live (take k places) ≡ j → next ≡ k + 1
+    → count_by is_live (take next places) ≡ j + 1
+ranked_next places k j next live ranked is =
+    ap (λ n. count_by is_live (take n places)) is ∙ count_by_more_yes is_live places k no_place (live_within places k live) live ∙ ap (λ n. n + 1) ranked
 
 -- while live ones are to come the next place is one of the span
 pub rank_inside : (places : List Place) (k to j : ℕ) → count_by is_live (take k places) ≡ j → j < count_by is_live (take to places) → k < to

@@ -131,6 +131,18 @@ module _ (b : Progress Point) (levels : List Level) (level : Level) (item : Poin
           putting.below q other more (sym (slice_get-set_other levels 0 q grown (omega arith)) ∙ found);
     }
 
+-- without rows there is nothing to put into
+pub IsPutting-rowless : (b : Progress Point) (levels : List Level) (item : Point) (place : ℕ) → IsPutting b levels → length levels ≡ 0 → IsPutting (with_put 1 item place b) levels
+IsPutting-rowless b levels item place putting none = record {
+  small = putting.small;
+  made = putting.made;
+  room = putting.room;
+  places = λ level found. absurd (omega (arith, slice_get_within levels 0 level found));
+  known = λ level found. putting.known level found;
+  uncounted = λ level found. putting.uncounted level found;
+  below = putting.below;
+}
+
 -- a level that was just made
 abbrev pub empty_level : ℕ → Level
 empty_level cap = record { entries = record { items = []; capacity = cap }; counts = nothing_put cap }

@@ -1,5 +1,7 @@
 pub mod Heights
 pub mod Rows
+pub mod Measures
 pub mod Queries
 pub mod Growing
 pub mod Costs
+pub mod Grid

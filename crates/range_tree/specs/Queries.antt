@@ -13,6 +13,7 @@ use Rattle.range_tree.specs.declared.entry.Entry.{Entry}
 use Rattle.range_tree.specs.declared.level.Level.{Level}
 use Rattle.range_tree.specs.declared.span.Span.{Span}
 use Rattle.range_tree.specs.declared.cover.Cover.{Cover}
+use Rattle.range_tree.specs.declared.cover.Places.{Places}
 
 -- the live point at a place, if it is one
 abbrev pub live_at : Contents Point → ℕ → List Point
@@ -30,6 +31,14 @@ live_in_slice part entries from to = flat_map (λ e. live_at part e.place) (slic
 abbrev pub live_in_span : Contents Point → List Level → Span → List Point
 live_in_span part levels span =
     flat_map (λ level. live_in_slice part level.entries.items span.from span.to) (option_to_list (slice_get levels span.row))
+
+-- there is a row of blocks of this height
+abbrev pub HasRow : List Level → ℕ → Type 0
+HasRow levels height = (7 ≤ height) × (height < length levels + 7)
+
+-- the live points of the rectangle at neighbouring places
+abbrev pub live_in_places : Contents Point → Rect → Places → List Point
+live_in_places part rect places = filter (is_in rect) (live_between part places.from places.to)
 
 -- a span of a level that is built
 pub record IsSpan (levels : List Level) (span : Span) : Type 0 where
@@ -51,15 +60,15 @@ abbrev pub AreWithinAbscissas : Contents Point → ℕ → ℕ → Rect → Type
 AreWithinAbscissas part from to rect =
     (k : ℕ) (p : Point) → from ≤ k → k < to → slice_get part.items k ≡ Some p → (rect.x1 ≤ p.x) × (p.x ≤ rect.x2)
 
--- the spans, and the places that they don't cover yet, hold the points of the rectangle
+-- the spans, and the places that they don't cover yet, hold the rectangle's points among the leaves
 pub record IsCovering (part : Contents Point) (levels : List Level) (rect : Rect) (most : ℕ) (cover : Cover) : Type 0 where
   pub ordered : cover.from ≤ cover.to
   pub within : cover.to ≤ length part.items
   pub abscissas : AreWithinAbscissas part cover.from cover.to rect
   pub spans : All (IsSpan levels) cover.spans.items
-  pub few : length cover.spans.items ≤ most
+  pub few : length cover.spans.items + 14 ≤ most
   pub points : Permuted (flat_map (live_in_span part levels) cover.spans.items ++ filter (is_in rect) (live_between part cover.from cover.to))
-      (filter (is_in rect) (items_where_true part.flags part.items))
+      (filter (is_in rect) (live_between part cover.low cover.high))
 
 -- what is left consists of blocks of this height
 pub record IsCover (part : Contents Point) (levels : List Level) (rect : Rect) (height : ℕ) (cover : Cover) : Type 0 where

@@ -74,4 +74,4 @@ pub record AreLevels (part : Contents Point) (levels : List Level) : Type 0 wher
   pub few : length part.items ≤ 2 ^ 31
   pub as_many : length levels ≡ levels_for (length part.items)
   pub each : (q : ℕ) (level : Level) → slice_get levels q ≡ Some level
-      → IsLevel part.items part.flags (length levels - 1 - q) level
+      → IsLevel part.items part.flags (length levels + 6 - q) level

@@ -8,10 +8,10 @@ ghost use Rattle.range_tree.specs.Rows.{IsBlock, IsEntryOf, AreLevels, entry_at}
 ghost use Rattle.range_tree.specs.Growing.{HasRoom, AreKept};
 
 use crate::entry::Entry;
-use crate::height::block_len;
 use crate::level::Level;
 use crate::search::first_entry;
 use query_laws::step_ledger::Steps;
+use row_blocks::block_len;
 use std::sync::ledger::Ledger;
 
 impl Level {
@@ -48,7 +48,7 @@ fn clear_place<L: Ledger>(levels: &mut [Level], entry: &Entry, steps: &mut Steps
 {
     let count = levels.len();
     for (row, level) in levels.iter_mut().enumerate() {
-        let len = block_len(count - 1 - row);
+        let len = block_len((count + 6 - row) as u32);
         let start = entry.place as usize / len * len;
         let end = (start + len).min(level.entries.len());
         level.clear(entry, start, end, steps);

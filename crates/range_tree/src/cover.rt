@@ -1,16 +1,15 @@
 //! A rectangle cut into spans of blocks.
-ghost use Rattle.std.specs.Prelude.{◌≡◌, ◌+◌, ◌-◌, ◌*◌, ◌^◌, ◌≤◌, ◌<◌, ℕ, All, length, filter, Some, slice_get};
+ghost use Rattle.std.specs.Prelude.{◌≡◌, ◌+◌, ◌-◌, ◌*◌, ◌^◌, ◌≤◌, ◌<◌, ◌++◌, ℕ, All, length, min, filter};
 ghost use Rattle.std.specs.List.{flat_map, items_where_true};
-ghost use Rattle.arrayvec.specs.ArrayVec.{array_vec_len};
 ghost use Rattle.query_laws.specs.StepLedger.{Spends};
 ghost use Rattle.query_laws.specs.Permuted.{Permuted};
+ghost use Rattle.row_blocks.specs.Blocks.{IsMultiple};
 ghost use Rattle.builder_trait.specs.Parts.{Contents};
 ghost use Rattle.map_shapes.specs.Questions.{is_in};
 ghost use Rattle.range_tree.specs.Rows.{AreLevels};
-ghost use Rattle.range_tree.specs.Queries.{live_between, live_in_span, IsSpan, IsCover, IsFrontCovered};
-ghost use Rattle.map_shapes.specs.declared.point.Point.{Point};
+ghost use Rattle.range_tree.specs.Queries.{live_in_span, live_in_places, IsSpan, HasRow, IsCover, IsFrontCovered};
 
-use crate::height::block_len;
+use crate::height::LEAF_HEIGHT;
 use crate::level::Level;
 use crate::search::first_place;
 use crate::span::{Span, span_in};
@@ -19,14 +18,33 @@ use builder_trait::Part;
 use builder_trait::flat::FlatPart;
 use map_shapes::{Point, Rect};
 use query_laws::step_ledger::Steps;
+use row_blocks::{block_len, block_start};
 use std::sync::ledger::Ledger;
 
-/// Spans so far, and the places between `from` and `to` that they don't cover yet.
+/// Neighbouring places of order 0: those from `from` on and below `to`.
+#[derive(Clone, Copy, Debug)]
+pub(crate) struct Places {
+    pub(crate) from: usize,
+    pub(crate) to: usize,
+}
+
+/// Spans so far, and the places between `from` and `to` that they don't cover yet; in the end they cover those from `low` on and
+/// below `high`.
 #[derive(Drop)]
 pub(crate) struct Cover {
     pub(crate) spans: ArrayVec<Span, 64>,
     pub(crate) from: usize,
     pub(crate) to: usize,
+    pub(crate) low: usize,
+    pub(crate) high: usize,
+}
+
+/// What a rectangle takes of a part: spans of rows, and places in front of them and behind.
+#[derive(Drop)]
+pub(crate) struct Pieces {
+    pub(crate) spans: ArrayVec<Span, 64>,
+    pub(crate) front: Places,
+    pub(crate) back: Places,
 }
 
 /// Takes the first block of what is left, where it is the second half of a larger one.
@@ -37,16 +55,18 @@ fn cover_front<L: Ledger>(
     rect: &Rect,
     steps: &mut Steps<L>,
 )
-    requires height { height < length levels.now }
-    requires small { length levels.now ≤ 32 }
+    requires height { HasRow levels.now height }
+    requires small { length levels.now ≤ 25 }
     requires some { (part : Contents Point) × AreLevels part levels.now × IsCover part levels.now rect.now height cover.old }
     ensures cover { (part : Contents Point) → AreLevels part levels.now → IsCover part levels.now rect.now height cover.old
         → IsFrontCovered part levels.now rect.now height cover.new }
+    ensures low { cover.new.low ≡ cover.old.low }
+    ensures high { cover.new.high ≡ cover.old.high }
     ensures cost { Spends steps.old steps.new 0 0 (2 * (height + 1)) }
 {
-    let len = block_len(height);
+    let len = block_len(height as u32);
     if cover.from < cover.to && cover.from / len % 2 == 1 {
-        let row = levels.len() - 1 - height;
+        let row = levels.len() + 6 - height;
         let end = cover.from + len;
         let span = span_in(&levels[row].entries, row, cover.from, end, rect, steps);
         cover.from = end;
@@ -64,16 +84,18 @@ fn cover_back<L: Ledger>(
     rect: &Rect,
     steps: &mut Steps<L>,
 )
-    requires height { height < length levels.now }
-    requires small { length levels.now ≤ 32 }
+    requires height { HasRow levels.now height }
+    requires small { length levels.now ≤ 25 }
     requires some { (part : Contents Point) × AreLevels part levels.now × IsFrontCovered part levels.now rect.now height cover.old }
     ensures cover { (part : Contents Point) → AreLevels part levels.now → IsFrontCovered part levels.now rect.now height cover.old
         → IsCover part levels.now rect.now (height + 1) cover.new }
+    ensures low { cover.new.low ≡ cover.old.low }
+    ensures high { cover.new.high ≡ cover.old.high }
     ensures cost { Spends steps.old steps.new 0 0 (2 * (height + 1)) }
 {
-    let len = block_len(height);
+    let len = block_len(height as u32);
     if cover.from < cover.to && cover.to / len % 2 == 1 {
-        let row = levels.len() - 1 - height;
+        let row = levels.len() + 6 - height;
         let start = cover.to - len;
         let span = span_in(&levels[row].entries, row, start, cover.to, rect, steps);
         cover.to = start;
@@ -91,40 +113,82 @@ fn cover_level<L: Ledger>(
     rect: &Rect,
     steps: &mut Steps<L>,
 )
-    requires height { height < length levels.now }
+    requires height { HasRow levels.now height }
     requires some { (part : Contents Point) × AreLevels part levels.now × IsCover part levels.now rect.now height cover.old }
     ensures cover { (part : Contents Point) → AreLevels part levels.now → IsCover part levels.now rect.now height cover.old
         → IsCover part levels.now rect.now (height + 1) cover.new }
+    ensures low { cover.new.low ≡ cover.old.low }
+    ensures high { cover.new.high ≡ cover.old.high }
     ensures cost { Spends steps.old steps.new 0 0 (4 * (height + 1)) }
 {
     cover_front(cover, levels, height, rect, steps);
     cover_back(cover, levels, height, rect, steps);
 }
 
-/// The spans that together hold the points of a rectangle: at most two of each level.
-pub(crate) fn spans_in<L: Ledger>(
+/// The places between two that whole leaves have.
+fn leaves(from: usize, to: usize) -> Places
+    requires ordered { from ≤ to }
+    requires small { to ≤ 2 ^ 31 }
+    ensures first { from ≤ result.from }
+    ensures ordered { result.from ≤ result.to }
+    ensures last { result.to ≤ to }
+    ensures front { result.from < result.to → IsMultiple result.from 7 }
+    ensures back { result.from < result.to → IsMultiple result.to 7 }
+    ensures few { result.from - from + (to - result.to) ≤ 254 }
+{
+    let low = block_start(from + block_len(LEAF_HEIGHT) - 1, LEAF_HEIGHT);
+    let high = block_start(to, LEAF_HEIGHT);
+    if low < high {
+        Places {
+            from: low,
+            to: high,
+        }
+    } else {
+        Places { from: to, to }
+    }
+}
+
+/// Cuts the points of a rectangle into spans, at most two of each level, and the places at both ends that no whole leaf has.
+pub(crate) fn cut<L: Ledger>(
     points: &FlatPart<Point>,
     levels: &[Level],
     rect: &Rect,
     steps: &mut Steps<L>,
-) -> ArrayVec<Span, 64>
+) -> Pieces
     requires { AreLevels points.now levels.now }
-    ensures spans { All (IsSpan levels.now) result.items }
-    ensures few { (h : ℕ) → length points.now.items ≤ 2 ^ h → length result.items ≤ 2 * (h + 1) }
-    ensures points { Permuted (flat_map (live_in_span points.now levels.now) result.items)
+    ensures spans { All (IsSpan levels.now) result.spans.items }
+    ensures few { length result.spans.items ≤ 2 * length levels.now }
+    ensures points { Permuted (flat_map (live_in_span points.now levels.now) result.spans.items
+        ++ (live_in_places points.now rect.now result.front ++ live_in_places points.now rect.now result.back))
         (filter (is_in rect.now) (items_where_true points.now.flags points.now.items)) }
-    ensures cost { (h : ℕ) → length points.now.items ≤ 2 ^ h → Spends steps.old steps.new 0 0 (4 * ((h + 1) * (h + 2))) }
+    ensures front { (result.front.from ≤ result.front.to) × (result.front.to ≤ length points.now.items) }
+    ensures back { (result.back.from ≤ result.back.to) × (result.back.to ≤ length points.now.items) }
+    ensures ends { (result.front.to - result.front.from) + (result.back.to - result.back.from) ≤ min 254 (length points.now.items) }
+    ensures cost { (h : ℕ) → length points.now.items ≤ 2 ^ h → Spends steps.old steps.new 0 0 (4 * (h + 1) + 4 * ((h - 6) * (h + 1))) }
 {
     let len = points.len();
     let from = first_place(points, rect.x1, 0, len, steps);
     let to = first_place(points, rect.x2 + 1, from, len, steps);
+    let middle = leaves(from, to);
     let mut cover = Cover {
         spans: ArrayVec::new(),
-        from,
-        to,
+        from: middle.from,
+        to: middle.to,
+        low: middle.from,
+        high: middle.to,
     };
-    for height in 0..levels.len() {
-        cover_level(&mut cover, levels, height, rect, steps);
+    for step in 0..levels.len() {
+        cover_level(&mut cover, levels, step + LEAF_HEIGHT as usize, rect, steps);
     }
-    cover.spans
+    Pieces {
+        spans: cover.spans,
+        front: Places {
+            from,
+            to: middle.from,
+        },
+        back: Places {
+            from: middle.to,
+            to,
+        },
+    }
 }

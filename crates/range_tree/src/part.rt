@@ -1,10 +1,11 @@
 //! The part.
 ghost use Rattle.std.specs.Prelude.{◌≡◌};
 
-use crate::answers::{listed, numbered, weighed};
+use crate::answers::{add_measure, list_points};
 use crate::clearing::clear_used;
 use crate::entry::Entry;
 use crate::level::Level;
+use crate::measure::Measure;
 use builder_trait::flat::FlatPart;
 use builder_trait::{Answers, Part};
 use map_shapes::{CountIn, IdTally, ListIn, Point, SumIn};
@@ -20,10 +21,11 @@ use std::sync::ledger::Ledger;
 /// `16 * (h + 2)^2` entries, a [`ListIn`] at most `8 * (h + 2)` more for each point that it lists, and a mark at most
 /// `16 * (h + 2)^2`. Nothing takes memory but the tally of a [`ListIn`].
 ///
-/// It keeps the i + 1 rows of its builder at level i, each with room for an entry and a place of the live counts for each of
-/// `2^i` points; its tree uses h + 1 of them. An entry takes 8 bytes and a place of the counts 24, so at level 16 the rows take
-/// 544 bytes for each point that there is room for. The points themselves, in both orders and with places and flags, take 73
-/// more.
+/// Its rows begin at blocks of `2^7` places, the leaves; a question scans the places at both ends that no whole leaf has. It keeps the
+/// i - 6 rows of its builder at level i, each with room for an entry and a place of the live counts for each of `2^i` points; its
+/// tree uses h - 6 of them. An entry takes 8 bytes and a place of the counts 5 1/8, so at level 16 the rows take 131 bytes for each
+/// point that there is room for. The points themselves, in both orders and with places and flags, take 73 more. The largest entry that
+/// a touch reads or writes is the 64 bytes of sixteen places' weights.
 #[derive(Drop)]
 pub struct RangePart {
     pub(crate) points: FlatPart<Point>,
@@ -105,10 +107,11 @@ impl Answers<CountIn> for RangePart {
         tally: &mut Total,
         steps: &mut Steps<L>,
     ) -> Result<(), NoMemory> {
-        numbered(
+        add_measure(
             &self.points,
             &self.levels[..self.used],
             &question.0,
+            Measure::Count,
             tally,
             steps,
         );
@@ -127,10 +130,11 @@ impl Answers<SumIn> for RangePart {
         tally: &mut Total,
         steps: &mut Steps<L>,
     ) -> Result<(), NoMemory> {
-        weighed(
+        add_measure(
             &self.points,
             &self.levels[..self.used],
             &question.0,
+            Measure::Weight,
             tally,
             steps,
         );
@@ -149,7 +153,7 @@ impl Answers<ListIn> for RangePart {
         tally: &mut IdTally,
         steps: &mut Steps<L>,
     ) -> Result<(), NoMemory> {
-        listed(
+        list_points(
             &self.points,
             &self.levels[..self.used],
             &question.0,

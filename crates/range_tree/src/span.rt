@@ -6,11 +6,13 @@ ghost use Rattle.weak_delete.specs.declared.live_counts.LiveCounts.{LiveCounts};
 ghost use Rattle.builder_trait.specs.Parts.{Contents, IsPart};
 ghost use Rattle.map_shapes.specs.declared.point.Point.{Point};
 ghost use Rattle.map_shapes.specs.Questions.{is_in};
+ghost use Rattle.range_tree.specs.Measures.{measure_of};
 ghost use Rattle.range_tree.specs.Rows.{IsBlock, IsRow, AreLevels};
 ghost use Rattle.range_tree.specs.Queries.{live_between, live_in_slice, live_in_span, IsSpan, AreWithinAbscissas};
 
 use crate::entry::Entry;
 use crate::level::Level;
+use crate::measure::Measure;
 use crate::search::first_entry;
 use map_shapes::{Point, Rect};
 use query_laws::step_ledger::{Row, Steps};
@@ -59,11 +61,30 @@ pub(crate) fn span_in<L: Ledger>(
     Span { row, from, to }
 }
 
-/// How many entries of a span are live: two prefixes of its row's counts.
-pub(crate) fn live_in<L: Ledger>(levels: &[Level], span: &Span, steps: &mut Steps<L>) -> u64
+/// What the live entries of a span count for: two prefixes of its row's counts.
+pub(crate) fn measure_span<L: Ledger>(
+    levels: &[Level],
+    span: &Span,
+    measure: Measure,
+    steps: &mut Steps<L>,
+) -> u64
     requires { IsSpan levels.now span.now }
-    ensures count { (part : Contents Point) → AreLevels part levels.now
-        → result ≡ length (live_in_span part levels.now span.now) }
+    ensures sum { (part : Contents Point) → AreLevels part levels.now
+        → result ≡ sum_by (measure_of measure) (live_in_span part levels.now span.now) }
+    ensures cost { (part : Contents Point) (h : ℕ) → AreLevels part levels.now → length part.items ≤ 2 ^ h
+        → Spends steps.old steps.new 0 0 (4 * (h + 2)) }
+{
+    match measure {
+        Measure::Count => live_in(levels, span, steps),
+        Measure::Weight => weight_in(levels, span, steps),
+    }
+}
+
+/// How many entries of a span are live: two prefixes of its row's counts.
+fn live_in<L: Ledger>(levels: &[Level], span: &Span, steps: &mut Steps<L>) -> u64
+    requires { IsSpan levels.now span.now }
+    ensures sum { (part : Contents Point) → AreLevels part levels.now
+        → result ≡ sum_by (λ p. 1) (live_in_span part levels.now span.now) }
     ensures cost { (part : Contents Point) (h : ℕ) → AreLevels part levels.now → length part.items ≤ 2 ^ h
         → Spends steps.old steps.new 0 0 (4 * (h + 2)) }
 {
@@ -72,7 +93,7 @@ pub(crate) fn live_in<L: Ledger>(levels: &[Level], span: &Span, steps: &mut Step
 }
 
 /// What the live entries of a span weigh together: two prefixes of its row's counts.
-pub(crate) fn weight_in<L: Ledger>(levels: &[Level], span: &Span, steps: &mut Steps<L>) -> u64
+fn weight_in<L: Ledger>(levels: &[Level], span: &Span, steps: &mut Steps<L>) -> u64
     requires { IsSpan levels.now span.now }
     ensures sum { (part : Contents Point) → AreLevels part levels.now
         → result ≡ sum_by (λ p. p.w) (live_in_span part levels.now span.now) }

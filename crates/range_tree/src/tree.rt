@@ -9,16 +9,17 @@ ghost use Rattle.range_tree.specs.Growing.{IsPutting, IsGrowing, emptied, start_
 ghost use Rattle.builder_trait.specs.Builders.{begun, with_put, FitsSecond};
 
 use crate::entry::Entry;
-use crate::height::{block_len, levels};
+use crate::height::{LEAF_HEIGHT, levels};
 use crate::level::Level;
 use builder_trait::flat::FlatBuilder;
 use map_shapes::Point;
 use query_laws::NoMemory;
 use query_laws::step_ledger::Steps;
+use row_blocks::block_len;
 use std::alloc::Global;
 use std::sync::ledger::Ledger;
 
-/// The levels from the whole tree down to single points, of which `used` are needed.
+/// The levels from the whole tree down to the leaves, of which `used` are needed.
 ///
 /// They are built one after another. While the level at `at` is counted, each of its entries is copied into the next one; and
 /// while its counts are turned, that copy is parted into the halves of its blocks, each in the order of the block (stable).
@@ -107,8 +108,9 @@ impl Tree {
         ensures { IfOk result (λ tree. IsPutting (begun level) tree.levels.items × (tree.left ≡ 0)) }
     {
         let cap = 2usize.pow(level);
-        let mut levels = Vec::with_capacity(alloc, level as usize + 1)?;
-        for _ in 0..level + 1 {
+        let count = (level as usize).saturating_sub(LEAF_HEIGHT as usize - 1);
+        let mut levels = Vec::with_capacity(alloc, count)?;
+        for _ in 0..count {
             levels.push(Level::room(alloc, cap)?)?;
         }
         Ok(Tree {
@@ -157,7 +159,10 @@ impl Tree {
             y: item.y,
             place: place as u32,
         };
-        self.levels[0].entries.push(entry, steps);
+        let deep = self.levels.len();
+        if deep > 0 {
+            self.levels[0].entries.push(entry, steps);
+        }
     }
 
     /// Begins to grow, once all points were put in both orders. It counts nothing.
@@ -232,23 +237,23 @@ impl Tree {
     fn part_entry<L: Ledger>(&mut self, k: usize, steps: &mut Steps<L>)
         requires deep { self.old.at + 1 < self.old.used }
         requires made { self.old.used ≤ length self.old.levels.items }
-        requires shallow { self.old.used ≤ 32 }
+        requires shallow { self.old.used ≤ 25 }
         requires index { (level : Level) → slice_get self.old.levels.items self.old.at ≡ Some level
             → (k < length level.entries.items) × (length level.entries.items ≤ 2 ^ 31) }
-        requires few { self.old.lower ≤ k - start_of (2 ^ (self.old.used - 2 - self.old.at)) k }
+        requires few { self.old.lower ≤ k - start_of (2 ^ (self.old.used + 5 - self.old.at)) k }
         requires fits { (level next : Level) → slice_get self.old.levels.items self.old.at ≡ Some level
             → slice_get self.old.levels.items (self.old.at + 1) ≡ Some next
-            → target_of (2 ^ (self.old.used - 2 - self.old.at)) k self.old.lower (entry_at level.entries.items k) < length next.entries.items }
+            → target_of (2 ^ (self.old.used + 5 - self.old.at)) k self.old.lower (entry_at level.entries.items k) < length next.entries.items }
         ensures moved { (level next : Level) → slice_get self.old.levels.items self.old.at ≡ Some level
             → slice_get self.old.levels.items (self.old.at + 1) ≡ Some next
-            → let half = 2 ^ (self.old.used - 2 - self.old.at) in let entry = entry_at level.entries.items k in
+            → let half = 2 ^ (self.old.used + 5 - self.old.at) in let entry = entry_at level.entries.items k in
             (self.new.levels.items ≡ slice_set self.old.levels.items (self.old.at + 1)
             (record next { entries = record next.entries { items = slice_set next.entries.items (target_of half k self.old.lower entry) entry } }))
             × (self.new.lower ≡ lower_after half k self.old.lower entry) }
         ensures kept { self.new ≡ record self.old { levels = self.new.levels; lower = self.new.lower } }
         ensures cost { Spends steps.old steps.new 0 0 2 }
     {
-        let half = block_len(self.used - 2 - self.at);
+        let half = block_len((self.used + 5 - self.at) as u32);
         let entry = self.levels[self.at].entries.at(k, steps);
         let place = target(half, k, self.lower, entry);
         self.levels[self.at + 1].entries.set(place, entry, steps);

@@ -42,23 +42,6 @@ before-le places start end whole before over_end over_start h = (
   omega (arith, over_end.weight, over_start.weight, sum_by-prefix-le live_amount places start end h),
 )
 
--- one more node is turned
-pub AreNodes-turned : (places : List Place) (nodes : List Node) (last : ℕ) (node : Node) → AreNodes places nodes (last + 1) → last < length nodes
-    → IsOver places (16 * (last + 1 - 2 ^ height_at (last + 1))) (16 * (last + 1)) node → AreNodes places (set nodes last node) last
-AreNodes-turned places nodes last node nodes_over within over =
-    record { over = λ k h. at k (omega (arith, length-set nodes last node)) (cases_eq k last) }
-  where
-    at : (k : ℕ) → k < length nodes → (k ≡ last) ⊎ (k ≡ last → ⊥) → IsOver places (16 * start_of last (k + 1)) (16 * (k + 1)) (get_or (set nodes last node) k no_node)
-    at k h (inl here) = let P : ℕ → Type 0 = λ i. IsOver places (16 * start_of last (i + 1)) (16 * (i + 1)) (get_or (set nodes last node) i no_node) in
-        subst P (sym here) (rw (start_of-turned last (last + 1) (omega arith), get_or-set_same nodes last node no_node within) over)
-    at k h (inr away) = rw (get_or-set_other nodes last k node no_node away, same) (nodes_over.over k h)
-      where
-        same : start_of last (k + 1) ≡ start_of (last + 1) (k + 1)
-        same = elim (cases_lt last (k + 1)) [
-          | inl above ↦ start_of-turned last (k + 1) above ∙ sym (start_of-turned (last + 1) (k + 1) (omega arith))
-          | inr below ↦ start_of-whole last (k + 1) below ∙ sym (start_of-whole (last + 1) (k + 1) (omega arith))
-        ]
-
 -- what is left is what isn't turned
 pub unturned-left : (sealed : Bool) (unturned left : ℕ) → (if sealed then unturned else 0) ≡ left → 0 < left → unturned ≡ left
 unturned-left true unturned left e pos = e
@@ -264,17 +247,6 @@ IsOver-then_fits {places} {seen} sum node before over same few small =
     let S : List Place → Type 0 = λ ps. sum_by live_amount ps ≤ length ps * (2 ^ 32 - 1) in
     let L : List Place → Type 0 = λ ps. length ps ≤ 2 ^ 31 in
     IsOver-fits (record { count = sum.count + node.count; weight = sum.weight + node.weight }) (IsOver-then sum node before over) (subst L same few) (subst S same small)
-
-pub IsOver-nothing : (places : List Place) → IsOver places 0 0 no_node
-IsOver-nothing places = record { count = refl; weight = refl }
-
--- one place more is at most one live place more
-pub live_next : (places : List Place) (k : ℕ) → k < length places → count_by is_live (take (k + 1) places) ≤ count_by is_live (take k places) + 1
-live_next places k within = omega (arith, sum_by_more live_one places k no_place within, at_most (is_live (get_or places k no_place)))
-  where
-    at_most : (b : Bool) → cond b 1 0 ≤ 1
-    at_most true = omega arith
-    at_most false = omega arith
 
 pub sum-cleared-le : (places : List Place) (k : ℕ) → k < length places → sum_by live_amount (cleared places k) ≤ sum_by live_amount places
 sum-cleared-le places k within = omega (arith, sum_by-set live_amount places k (record (get_or places k no_place) { live = false }) no_place within)

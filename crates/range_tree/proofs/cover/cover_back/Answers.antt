@@ -15,7 +15,7 @@ returns-then-span-clause-cover g c part tree cover =
     c.span_in-span.ensures.within cover.covering.within
     (λ k p low high at. cover.covering.abscissas k p (omega arith) high at) c.span_in-span.ensures.points in
     IsCover-push c.span_in-span.result c.block_len-len.ensures cover c.if-cover.true c.if-cover-len-eq1.true is_taken
-    (IsKept-pushed c.span_in-span.result is_taken.is_span c.push.ensures.items) refl refl
+    (IsKept-pushed c.span_in-span.result is_taken.is_span c.push.ensures.items) refl refl refl refl
 
 pub returns-else-span-clause-cover : goal.returns-else-span-clause-cover
 returns-else-span-clause-cover g c part tree cover =
@@ -25,7 +25,7 @@ returns-else-span-clause-cover g c part tree cover =
     c.span_in-span.ensures.within cover.covering.within
     (λ k p low high at. cover.covering.abscissas k p (omega arith) high at) c.span_in-span.ensures.points in
     IsCover-push c.span_in-span.result c.block_len-len.ensures cover c.if-cover.true c.if-cover-len-eq1.true is_taken
-    (IsKept-empty c.span_in-span.result c.if-span.false refl) refl refl
+    (IsKept-empty c.span_in-span.result c.if-span.false refl) refl refl refl refl
 
 pub returns-else-cover-clause-cover : goal.returns-else-cover-clause-cover
 returns-else-cover-clause-cover g c part tree cover =

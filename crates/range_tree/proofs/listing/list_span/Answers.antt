@@ -92,7 +92,7 @@ loop-rank-preserved g c =
           c.in_ok-push.ensures.pushed;
       cost = λ h few.
           spent_more h (c.loop-rank.rank - c.prefix-first.result) _ (c.loop-rank.invariant.cost h few) (found.ensures.cost h few) c.item.ensures.cost next;
-      ranked = ranked_next c.index-levels-span.result.counts.places found.result.0 c.loop-rank.rank found.ensures.live found.ensures.ranked;
+      ranked = ranked_next c.index-levels-span.result.counts.places found.result.0 c.loop-rank.rank _ found.ensures.live found.ensures.ranked (omega arith);
     }
 
 pub returns-clause-listed : goal.returns-clause-listed

@@ -4,6 +4,8 @@ use Rattle.query_laws.proofs.Counting.{Spends-then, Spends-weaker}
 use Rattle.weak_delete.specs.Places.{is_live}
 use Rattle.weak_delete.proofs.Nodes.{sum_by-prefix-le}
 use Rattle.range_tree.proofs.Counted.{counted_span, level_is}
+use Rattle.range_tree.specs.Queries.{live_in_span}
+use Rattle.range_tree.proofs.Answering.{sum_by-one}
 use Rattle.range_tree.proofs.span.live_in.Goals as goal
 
 -- the prefix up to the span is no larger than that up to its end
@@ -16,10 +18,10 @@ overflow_sub-result g c =
           c.args.span.now.from c.args.span.now.to c.requires.ordered,
     )
 
-pub returns-clause-count : goal.returns-clause-count
-returns-clause-count g c part are =
+pub returns-clause-sum : goal.returns-clause-sum
+returns-clause-sum g c part are =
     let level = slice_get-get_or c.args.levels.now c.args.span.now.row c.index-levels-span.result c.requires.row in
-    omega (arith, counted_span part c.args.levels.now c.args.span.now _ are level c.requires.ordered)
+    omega (arith, counted_span part c.args.levels.now c.args.span.now _ are level c.requires.ordered, sum_by-one (live_in_span part c.args.levels.now c.args.span.now))
 
 pub returns-clause-cost : goal.returns-clause-cost
 returns-clause-cost g c part h are few =

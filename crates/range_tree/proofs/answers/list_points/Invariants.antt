@@ -2,7 +2,7 @@ use Rattle.std.proofs.Common.{◌≡◌, ◌+◌, ◌++◌, length, map, All}
 use Rattle.std.specs.List.{flat_map}
 use Rattle.range_tree.specs.Queries.{live_in_span, IsSpan}
 use Rattle.range_tree.proofs.Answering.{IsPaid}
-use Rattle.range_tree.proofs.answers.listed.Given as goal
+use Rattle.range_tree.proofs.answers.list_points.Given as goal
 
 -- with the spans that are left the tally takes all
 abbrev pub invariant-loop-span : goal.invariant-loop-span
