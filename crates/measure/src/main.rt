@@ -6,6 +6,7 @@ mod words;
 ghost use Rattle.std.specs.Prelude.{◌≡◌};
 
 use crate::words::{Job, Plan, command, plan_of};
+use build_trials::{check_builds, measure_build};
 use map_samples::{Failure, Watch};
 use part_trials::{check_parts, measure_part};
 use query_laws::step_ledger::{SHARES, Steps, blank};
@@ -43,14 +44,24 @@ fn run<R: Print + Clock + AllocGlobal, L: Ledger>(
 {
     let mut steps = Steps::<L>::new(blank);
     match plan.job {
-        Job::Part { is_timed } => {
+        Job::Part { size, is_timed } => {
             let watch = Watch {
                 rt,
                 is_on: is_timed,
             };
-            measure_part(&watch, plan.seed, plan.size, &mut steps)
+            measure_part(&watch, plan.seed, size.number, &mut steps)
         }
-        Job::Check => check_parts(rt, plan.seed, plan.size, &mut steps),
+        Job::Build { level, is_timed } => {
+            let watch = Watch {
+                rt,
+                is_on: is_timed,
+            };
+            measure_build(&watch, plan.seed, level.number, &mut steps)
+        }
+        Job::Check { size } => {
+            check_parts(rt, plan.seed, size.number, &mut steps)?;
+            check_builds(rt, plan.seed, &mut steps)
+        }
     }
 }
 
