@@ -174,7 +174,8 @@ fn expect_same_points<L: Ledger>(
 {
     let found = live_rows(alloc, part, steps)?;
     let wanted = rows(alloc, &list.points)?;
-    expect_same(alloc, "live points", case, &found, &wanted)
+    expect_same(alloc, "live points", case, &found, &wanted)?;
+    Ok(())
 }
 
 /// The identifier, the coordinates, the weight and the stamp.

@@ -32,7 +32,16 @@ pub fn measure_single_calls<R: Print + Clock + AllocGlobal, L: Ledger>(
     let mut merge = Merge::<RangeBuilder>::room(alloc, level)?;
     merge.begin(a, b);
     steps.start_lap();
-    read_all(watch, quota, &mut merge, a, b, &mut builder, &mut times, steps)?;
+    read_all(
+        watch,
+        quota,
+        &mut merge,
+        a,
+        b,
+        &mut builder,
+        &mut times,
+        steps,
+    )?;
     if !merge.done() {
         unreachable!();
     }

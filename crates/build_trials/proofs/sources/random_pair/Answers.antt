@@ -6,10 +6,10 @@ pub returns-clause-sources : goal.returns-clause-sources
 returns-clause-sources c =
     let count : length c.in_ok-a.a.items ≡ c.args.size = omega (arith, c.in_ok-a.ensures.count) in
     record {
-  fits = omega (arith, c.in_ok-a.ensures.count, c.requires.fits);
-  other_fits = omega (arith, c.in_ok-b.ensures.count, c.requires.other_fits);
-  apart = c.in_ok-a.ensures.apart;
-  other_apart = c.in_ok-b.ensures.apart;
-  differ = StampsDiffer-numbered c.in_ok-a.a.items c.in_ok-b.b.items c.args.size count c.in_ok-a.ensures.stamps
-      c.in_ok-b.ensures.stamps;
-}
+      fits = omega (arith, c.in_ok-a.ensures.count, c.requires.fits);
+      other_fits = omega (arith, c.in_ok-b.ensures.count, c.requires.other_fits);
+      apart = c.in_ok-a.ensures.apart;
+      other_apart = c.in_ok-b.ensures.apart;
+      differ = StampsDiffer-numbered c.in_ok-a.a.items c.in_ok-b.b.items c.args.size count c.in_ok-a.ensures.stamps
+          c.in_ok-b.ensures.stamps;
+    }

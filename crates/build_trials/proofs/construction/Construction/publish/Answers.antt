@@ -1,6 +1,5 @@
-use Rattle.std.proofs.Common.{◌≡◌, ◌∙◌, ◌^◌, ap, sym, subst, arith}
+use Rattle.std.proofs.Common.{◌≡◌, ◌^◌, sym, subst, arith}
 use Rattle.std.proofs.lemmas.List.{nil_from_length}
-use Rattle.partial_build.specs.Construction.{IsPublished}
 use Rattle.build_trials.specs.Stage.{Stage}
 use Rattle.build_trials.proofs.construction.Construction.publish.Goals as goal
 

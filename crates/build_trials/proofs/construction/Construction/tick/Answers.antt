@@ -18,6 +18,7 @@ pub returns-clause-sources : goal.returns-clause-sources
 returns-clause-sources g c = (ap (λ (v : Stage _). v.a) c.self.view_is, ap (λ (v : Stage _). v.b) c.self.view_is)
 
 pub returns-clause-ticked : goal.returns-clause-ticked
-returns-clause-ticked g c =
-    (c.tick.ensures.ticked.0 ∙ ap (λ (v : Stage _). v.build.level) c.self.view_is,
-    c.tick.ensures.ticked.1 ∙ ap (λ (v : Stage _). v.build.ticks + 1) c.self.view_is)
+returns-clause-ticked g c = (
+  c.tick.ensures.ticked.0 ∙ ap (λ (v : Stage _). v.build.level) c.self.view_is,
+  c.tick.ensures.ticked.1 ∙ ap (λ (v : Stage _). v.build.ticks + 1) c.self.view_is,
+)
