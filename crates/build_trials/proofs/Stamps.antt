@@ -26,12 +26,12 @@ StampsDiffer-permutation stamp xs ys xs' ys' moved other_moved differ = λ k l x
     All-at (λ w. stamp x ≢ stamp w) ys' l y (All-permutation (λ w. stamp x ≢ stamp w) ys ys' other_moved of_x) other_at
 
 -- points numbered from 0 on, and others numbered after them
-pub StampsDiffer-numbered : (xs ys : List Point) (n : ℕ) → length xs ≡ n → ((k : ℕ) (p : Point) → slice_get xs k ≡ Some p → p.stamp ≡ 0 + k)
-    → ((k : ℕ) (p : Point) → slice_get ys k ≡ Some p → p.stamp ≡ n + k) → StampsDiffer (λ (p : Point). p.stamp) xs ys
-StampsDiffer-numbered xs ys n count stamped other_stamped k l x y at other_at same =
+pub StampsDiffer-numbered : (xs ys : List Point) (first : ℕ) → ((k : ℕ) (p : Point) → slice_get xs k ≡ Some p → p.stamp ≡ 0 + k)
+    → ((k : ℕ) (p : Point) → slice_get ys k ≡ Some p → p.stamp ≡ first + k) → length xs ≡ first → StampsDiffer (λ (p : Point). p.stamp) xs ys
+StampsDiffer-numbered xs ys first stamped other_stamped count k l x y at other_at same =
     let within : k < length xs = slice_get_within xs k x at in
     let here : x.stamp ≡ 0 + k = stamped k x at in
-    let there : y.stamp ≡ n + l = other_stamped l y other_at in
+    let there : y.stamp ≡ first + l = other_stamped l y other_at in
     omega arith
 
 -- sources sorted in their orders
