@@ -6,6 +6,7 @@ mod words;
 ghost use Rattle.std.specs.Prelude.{◌≡◌};
 
 use crate::words::{Job, command, job_of};
+use build_trials::{check_builds, measure_build};
 use map_samples::{Failure, Watch};
 use part_trials::{check_parts, measure_part};
 use query_laws::step_ledger::{SHARES, Steps, blank};
@@ -56,12 +57,24 @@ fn run<R: Print + Clock + Files + AllocGlobal + Clone + Drop, L: Ledger>(
             };
             measure_part(&watch, seed, size.number, &mut steps)
         }
+        Job::Build {
+            seed,
+            level,
+            is_timed,
+        } => {
+            let watch = Watch {
+                rt,
+                is_on: is_timed,
+            };
+            measure_build(&watch, seed, level.number, &mut steps)
+        }
         Job::Check {
             seed,
             size,
             examples,
         } => {
             check_parts(rt, seed, size.number, &mut steps)?;
+            check_builds(rt, seed, &mut steps)?;
             match examples {
                 Some(folder) => check_examples(rt, folder),
                 None => Ok(()),

@@ -1,6 +1,6 @@
 //! Words of the command line, and timed runs.
 use crate::run;
-use crate::words::{Job, Size, command, job_of};
+use crate::words::{Job, Level, Size, command, job_of};
 use query_laws::step_ledger::blank;
 use std::fs;
 use std::marker::Brand;
@@ -22,6 +22,25 @@ fn reads_words_of_a_part(rt: HostRuntime) -> Result<(), Fail> {
         return Ok(());
     };
     assert_eq!(rt; (seed, size.number, is_timed), (7, 16, true));
+    Ok(())
+}
+
+#[test]
+fn reads_words_of_a_construction(rt: HostRuntime) -> Result<(), Fail> {
+    let words = ["measure", "build", "--level", "3"];
+    let matches = command(rt.alloc())?.try_get_matches_from(&words)?;
+    let Some(
+        Job::Build {
+            seed,
+            level,
+            is_timed,
+        },
+    ) = job_of(&matches)
+    else {
+        assert!(rt; false, "a construction");
+        return Ok(());
+    };
+    assert_eq!(rt; (seed, level.number, is_timed), (1, 3, false));
     Ok(())
 }
 
@@ -68,6 +87,17 @@ fn measures_with_times(rt: HostRuntime) -> Result<(), Fail> {
     let job = Job::Part {
         seed: 1,
         size: Size { number: 33 },
+        is_timed: true,
+    };
+    run::<HostRuntime, Brand>(&rt, &job, blank())?;
+    Ok(())
+}
+
+#[test]
+fn measures_a_construction(rt: HostRuntime) -> Result<(), Fail> {
+    let job = Job::Build {
+        seed: 1,
+        level: Level { number: 4 },
         is_timed: true,
     };
     run::<HostRuntime, Brand>(&rt, &job, blank())?;

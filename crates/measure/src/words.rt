@@ -7,11 +7,22 @@ use std::alloc::{AllocError, Global};
 /// The most points: 2^20.
 const MOST: usize = 1_048_576;
 
+/// The highest level of a construction, of 2^20 points.
+const TOP_LEVEL: u32 = 20;
+
 /// A number of points.
 #[derive(Clone, Copy, Debug)]
 pub struct Size {
     pub number: usize,
     pub ghost few: { number ≤ 2 ^ 20 },
+}
+
+/// The level of a construction.
+#[derive(Clone, Copy, Debug)]
+pub struct Level {
+    pub number: u32,
+    pub ghost least: { 1 ≤ number },
+    pub ghost most: { number ≤ 20 },
 }
 
 /// What is asked for. A seed is that of all random numbers.
@@ -23,7 +34,13 @@ pub enum Job<'a> {
         size: Size,
         is_timed: bool,
     },
-    /// Parts of at most so many points beside plain lists, and the scripts of a folder beside their answers.
+    /// What a construction of this level costs, with times or without.
+    Build {
+        seed: u64,
+        level: Level,
+        is_timed: bool,
+    },
+    /// Parts of at most so many points, and constructions, beside plain lists, and the scripts of a folder beside their answers.
     Check {
         seed: u64,
         size: Size,
@@ -44,6 +61,7 @@ pub fn command<'a>(alloc: Global) -> Result<Command<'a>, AllocError> {
         )
         .subcommand_required(true)
         .subcommand(part_command(alloc)?)?
+        .subcommand(build_command(alloc)?)?
         .subcommand(check_command(alloc)?)?
         .subcommand(script_command(alloc)?)
 }
@@ -56,9 +74,17 @@ fn part_command<'a>(alloc: Global) -> Result<Command<'a>, AllocError> {
         .arg(time_arg(alloc))
 }
 
+fn build_command<'a>(alloc: Global) -> Result<Command<'a>, AllocError> {
+    Command::new(alloc, "build")
+        .about("Make one range part of two in all ticks of a construction")
+        .arg(seed_arg(alloc))?
+        .arg(level_arg(alloc))?
+        .arg(time_arg(alloc))
+}
+
 fn check_command<'a>(alloc: Global) -> Result<Command<'a>, AllocError> {
     Command::new(alloc, "check")
-        .about("Compare range parts with plain lists, at sizes up to the given one")
+        .about("Compare range parts, and constructions of them, with plain lists")
         .arg(seed_arg(alloc))?
         .arg(size_arg(alloc, "257"))?
         .arg(examples_arg(alloc))
@@ -94,6 +120,14 @@ fn size_arg<'a>(alloc: Global, default: &'a str) -> Arg<'a> {
         .help("The number of points")
 }
 
+fn level_arg<'a>(alloc: Global) -> Arg<'a> {
+    Arg::new(alloc, "level")
+        .long("level")
+        .value_parser(value_parser!(u32).range(1..=TOP_LEVEL as i64))
+        .default_value("6")
+        .help("The level of the new part")
+}
+
 fn examples_arg<'a>(alloc: Global) -> Arg<'a> {
     Arg::new(alloc, "examples")
         .long("examples")
@@ -117,6 +151,11 @@ pub fn job_of<'a>(matches: &ArgMatches<'a>) -> Option<Job<'a>> {
             size: size_of(matches)?,
             is_timed: matches.get_flag("time"),
         }),
+        "build" => Some(Job::Build {
+            seed: matches.get_one::<u64>("seed")?,
+            level: level_of(matches)?,
+            is_timed: matches.get_flag("time"),
+        }),
         "check" => Some(Job::Check {
             seed: matches.get_one::<u64>("seed")?,
             size: size_of(matches)?,
@@ -133,5 +172,11 @@ pub fn job_of<'a>(matches: &ArgMatches<'a>) -> Option<Job<'a>> {
 fn size_of(matches: &ArgMatches<'_>) -> Option<Size> {
     Some(Size {
         number: matches.get_one::<usize>("size")?.min(MOST),
+    })
+}
+
+fn level_of(matches: &ArgMatches<'_>) -> Option<Level> {
+    Some(Level {
+        number: matches.get_one::<u32>("level")?.clamp(1, TOP_LEVEL),
     })
 }
