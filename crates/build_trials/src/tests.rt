@@ -90,7 +90,7 @@ fn construction_seen<B: Builder, L: Ledger>(
 }
 
 /// A tick takes 4 * 2 + 12 + 4 = 24 turns. At first 8 are left for the merge, and 2 * (4 * 2 + 12) = 40 at most for the builder.
-/// The first tick reads all, and the builder then has 7 for each of 4 points, of which 16 are taken.
+/// The first tick reads all, and the builder then has one for each of 4 points, and is done.
 #[test]
 fn drains_what_died(rt: HostRuntime) -> Result<(), Fail> {
     let first = Point {
