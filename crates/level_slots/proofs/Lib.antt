@@ -1,0 +1,6 @@
+pub mod Distinct
+pub mod Held
+pub mod Spending
+pub mod Publishing
+pub mod Neighbouring
+pub mod Towers

@@ -1,0 +1,5 @@
+pub mod Slots
+pub mod Neighbours
+pub mod Cost
+pub mod Level
+pub mod Stack

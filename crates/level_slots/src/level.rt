@@ -1,0 +1,212 @@
+//! One level.
+ghost use Rattle.std.specs.Prelude.{◌≡◌, ℕ, ◌+◌, ◌-◌, ◌*◌, ◌^◌, ◌<◌, ◌≤◌, true, false, List, [], ◌∷◌, ◌++◌, Some, None, IfOk, IfSome, IsNone, All, length, min};
+ghost use Rattle.std.specs.Option.{is_some};
+ghost use Rattle.partial_build.specs.Construction.{AllStampsDiffer};
+ghost use Rattle.partial_build.specs.Quota.{quota};
+ghost use Rattle.level_slots.specs.Slots.{ticks_of};
+ghost use Rattle.level_slots.specs.Level.{IsOfLevel};
+ghost use Rattle.level_slots.specs.Neighbours.{IsConstructionOf, IsFed, IsPunctual, IsPublication};
+ghost use Rattle.level_slots.specs.Cost.{IsWithin};
+
+use builder_trait::{Builder, Part};
+use partial_build::{Build, Room, Tables};
+use query_laws::step_ledger::Steps;
+use query_laws::{Item, NoMemory};
+use std::alloc::Global;
+use std::marker::Model;
+use std::sync::ledger::Ledger;
+
+/// The most complete parts of a level, and the most builders that are kept for it.
+const PARTS: usize = 3;
+
+/// The most tables that are kept for a level: those of its construction, and those of the room for the next one.
+const TABLES: usize = 2;
+
+/// A level: at most three complete parts of up to `2^level` items, oldest first, and the construction of the next one.
+///
+/// What the next constructions can use is kept: the tables of those that ended, and builders on the memory of retired parts.
+#[derive(Drop)]
+pub(crate) struct Level<B: Builder> {
+    level: u32,
+    parts: Vec<B::Part>,
+    construction: Option<Build<B>>,
+    room: Option<Room<B>>,
+    builders: Vec<B>,
+    tables: Vec<Tables<B>>,
+}
+
+impl<B: Builder> Model for Level<B> {
+    ghost use Rattle.std.specs.Prelude.{length, vec_capacity};
+    ghost use Rattle.std.specs.Option.{is_some};
+    ghost use Rattle.level_slots.specs.Slots.{Slots};
+    ghost use Rattle.level_slots.specs.Level.{IsLevel};
+
+    ghost Value = { Slots B.Part B.Item };
+
+    ghost view = { λ l. record {
+      level = l.level;
+      parts = l.parts.items;
+      construction = l.construction;
+      has_room = is_some l.room;
+      kept = length l.builders.items;
+    } };
+
+    ghost invariant = { λ l. IsLevel B.Part.Part.contents B.progress l.level l.parts.items (vec_capacity l.parts) l.construction l.room
+        l.builders.items (vec_capacity l.builders) l.tables.items (vec_capacity l.tables) };
+}
+
+impl<B: Builder> Level<B> {
+    /// A level without parts.
+    ///
+    /// `NoMemory` where memory for its lists isn't given.
+    pub(crate) fn new(alloc: Global, level: u32) -> Result<Level<B>, NoMemory>
+        requires { level < 32 }
+        ensures { IfOk result (λ made. made ≡ record { level = level; parts = []; construction = None; has_room = false; kept = 0 }) }
+    {
+        let parts = Vec::with_capacity(alloc, PARTS)?;
+        let builders = Vec::with_capacity(alloc, PARTS)?;
+        let tables = Vec::with_capacity(alloc, TABLES)?;
+        Ok(Level {
+            level,
+            parts,
+            construction: None,
+            room: None,
+            builders,
+            tables,
+        })
+    }
+
+    /// The complete parts, oldest first.
+    pub(crate) fn parts(&self) -> &[B::Part]
+        ensures value { result.now ≡ self.now.parts }
+        ensures of_level { All (λ p. IsOfLevel self.now.level (B.Part.Part.contents p)) self.now.parts }
+    {
+        self.parts.as_slice()
+    }
+
+    /// Takes in a part as the newest.
+    pub(crate) fn arrive(&mut self, part: B::Part)
+        requires place { length self.old.parts < 3 }
+        requires of_level { IsOfLevel self.old.level (B.Part.Part.contents part) }
+        ensures { self.new ≡ record self.old { parts = self.old.parts ++ part ∷ [] } }
+    {
+        self.parts.push_reserved(part);
+    }
+
+    /// Retires the oldest part: its memory is kept as a builder where fewer than three are, and freed else.
+    fn retire(&mut self)
+        requires { 0 < length self.old.parts }
+        ensures retired { (p : B.Part) (rest : List B.Part) → self.old.parts ≡ p ∷ rest → self.new.parts ≡ rest }
+        ensures same { self.new ≡ record self.old { parts = self.new.parts; kept = min 3 (self.old.kept + 1) } }
+    {
+        let builder = B::recycle(self.parts.remove(0));
+        if self.builders.len() < PARTS {
+            self.builders.push_reserved(builder);
+        }
+    }
+
+    /// Begins the construction of a part of a and b into this level, where none runs.
+    pub(crate) fn begin(&mut self, a: &B::Part, b: &B::Part)
+        requires fits { length (B.Part.Part.contents a.now).items ≤ 2 ^ (self.old.level - 1) }
+        requires other_fits { length (B.Part.Part.contents b.now).items ≤ 2 ^ (self.old.level - 1) }
+        requires apart { AllStampsDiffer B.Item.stamp ((B.Part.Part.contents a.now).items ++ (B.Part.Part.contents b.now).items) }
+        requires roomy { self.old.construction ≡ None → self.old.has_room ≡ true }
+        requires fed { IsConstructionOf B.Part.Part.contents B.Item.stamp B.Item.before a.now b.now self.old }
+        ensures fed { IsConstructionOf B.Part.Part.contents B.Item.stamp B.Item.before a.now b.now self.new }
+        ensures runs { is_some self.new.construction ≡ true }
+        ensures same { self.new ≡ record self.old { construction = self.new.construction; has_room = self.new.has_room } }
+        ensures ticks { ticks_of self.new ≡ ticks_of self.old }
+        ensures running { is_some self.old.construction ≡ true → self.new ≡ self.old }
+    {
+        if self.construction.is_some() {
+            return;
+        }
+        match self.room.take() {
+            Some(room) => self.start(room.begin(a, b)),
+            None => unreachable!(),
+        }
+    }
+
+    /// Takes in a construction.
+    fn start(&mut self, construction: Build<B>)
+        requires of_level { construction.level ≡ self.old.level }
+        ensures { self.new ≡ record self.old { construction = Some construction } }
+    {
+        self.construction = Some(construction);
+    }
+
+    /// One tick of the construction of a part of a and b.
+    pub(crate) fn tick<L: Ledger>(&mut self, a: &B::Part, b: &B::Part, steps: &mut Steps<L>)
+        requires runs { is_some self.old.construction ≡ true }
+        requires early { ticks_of self.old < 2 ^ self.old.level }
+        requires fed { IsConstructionOf B.Part.Part.contents B.Item.stamp B.Item.before a.now b.now self.old }
+        ensures fed { IsConstructionOf B.Part.Part.contents B.Item.stamp B.Item.before a.now b.now self.new }
+        ensures runs { is_some self.new.construction ≡ true }
+        ensures same { self.new ≡ record self.old { construction = self.new.construction } }
+        ensures ticked { ticks_of self.new ≡ ticks_of self.old + 1 }
+        ensures punctual { IsPunctual B.SLOPE B.BASE self.new }
+        ensures cost { IsWithin (quota B.SLOPE B.BASE self.old.level) 2 (B.Part.Part.mark_touches self.old.level) steps.old steps.new }
+    {
+        match &mut self.construction {
+            Some(construction) => construction.tick(a, b, steps),
+            None => unreachable!(),
+        }
+    }
+
+    /// Publishes the part under construction, where all its ticks are done, and retires the two that it was made of.
+    pub(crate) fn publish(&mut self, lower: &mut Level<B>)
+        requires runs { is_some self.old.construction ≡ true }
+        requires two { 2 ≤ length lower.old.parts }
+        requires within { ticks_of self.old ≤ 2 ^ self.old.level }
+        requires place { ticks_of self.old ≡ 2 ^ self.old.level → length self.old.parts < 3 }
+        requires punctual { IsPunctual B.SLOPE B.BASE self.old }
+        requires fed { IsFed B.Part.Part.contents B.Item.stamp B.Item.before lower.old self.old }
+        ensures waits { ticks_of self.old < 2 ^ self.old.level → (self.new ≡ self.old) × (lower.new ≡ lower.old) }
+        ensures ends { ticks_of self.old ≡ 2 ^ self.old.level → IsPublication B.Part.Part.contents self.old lower.old self.new lower.new }
+        ensures same { self.new ≡ record self.old { parts = self.new.parts; construction = self.new.construction } }
+        ensures same_below { lower.new ≡ record lower.old { parts = lower.new.parts; kept = lower.new.kept } }
+    {
+        if let Some(construction) = self.take_ended() {
+            let (part, tables) = construction.publish();
+            self.arrive(part);
+            self.keep_tables(tables);
+            lower.retire();
+            lower.retire();
+        }
+    }
+
+    /// Takes the construction, where all its ticks are done.
+    fn take_ended(&mut self) -> Option<Build<B>>
+        ensures ended { IfSome result (λ c. (self.old.construction ≡ Some c) × (c.level ≡ self.old.level) × (2 ^ c.level ≤ c.ticks)) }
+        ensures taken { IfSome result (λ _. self.new ≡ record self.old { construction = None }) }
+        ensures waits { IsNone result → self.new ≡ self.old }
+        ensures unended { IsNone result → is_some self.old.construction ≡ true → ticks_of self.old < 2 ^ self.old.level }
+    {
+        if self.has_ended() {
+            self.construction.take()
+        } else {
+            None
+        }
+    }
+
+    /// Whether all ticks of a construction are done.
+    fn has_ended(&self) -> bool
+        ensures ended { result ≡ true → 2 ^ self.now.level ≤ ticks_of self.now }
+        ensures waits { result ≡ false → ticks_of self.now < 2 ^ self.now.level }
+    {
+        match &self.construction {
+            Some(construction) => construction.ticks() >= 2u64.pow(self.level),
+            None => false,
+        }
+    }
+
+    /// Keeps the tables of a construction that has ended, where fewer than two are kept, and frees them else.
+    fn keep_tables(&mut self, tables: Tables<B>)
+        requires { tables ≡ self.old.level }
+        ensures { self.new ≡ self.old }
+    {
+        if self.tables.len() < TABLES {
+            self.tables.push_reserved(tables);
+        }
+    }
+}

@@ -1,0 +1,112 @@
+//! The stack.
+ghost use Rattle.std.specs.Prelude.{◌≡◌, ◌≢◌, ℕ, ◌+◌, ◌*◌, ◌^◌, ◌<◌, ◌≤◌, true, [], ◌∷◌, All, Contains, IsTrue, IfOk, IsErr, OnOk, OnErr, length};
+ghost use Rattle.query_laws.specs.Permuted.{Permuted};
+ghost use Rattle.query_laws.specs.StepLedger.{Spends};
+ghost use Rattle.builder_trait.specs.Parts.{without};
+ghost use Rattle.level_slots.specs.Slots.{Stacked, IsPartOf, live_items, all_items, weight_of, parts_of, asked};
+ghost use Rattle.level_slots.specs.Stack.{rooms_of, kept_of};
+ghost use Rattle.level_slots.specs.Cost.{IsWithin, quotas};
+
+use crate::level::Level;
+use crate::visiting::walk;
+use builder_trait::{Builder, Part, part_of_one};
+use query_laws::step_ledger::Steps;
+use query_laws::{Item, NoMemory};
+use std::alloc::Global;
+use std::marker::Model;
+use std::sync::ledger::Ledger;
+
+/// A dynamic set of items with different stamps, in static parts.
+///
+/// Each insert and each delete is one tick: it spends a quota of turns at each level where a construction runs, so that none of
+/// them stalls. Memory is taken by [`Stack::prepare`] alone. A deleted item stays, dead, until the part that has it is made anew:
+/// the weight of a stack is the number of inserts since it was made.
+#[derive(Drop)]
+pub struct Stack<B: Builder> {
+    alloc: Global,
+    levels: Vec<Level<B>>,
+    starters: Vec<B>,
+    spare: u32,
+    weight: u64,
+    live: u64,
+}
+
+impl<B: Builder> Model for Stack<B> {
+    ghost use Rattle.std.specs.Prelude.{◌≡◌, All, length};
+    ghost use Rattle.builder_trait.specs.Builders.{begun};
+    ghost use Rattle.level_slots.specs.Slots.{Stacked, live_items, weight_of};
+    ghost use Rattle.level_slots.specs.Stack.{IsStack};
+
+    ghost Value = { Stacked B.Part B.Item };
+
+    ghost view = { λ s. record { levels = s.levels.items; spare = s.spare; starters = length s.starters.items } };
+
+    ghost invariant = { λ s.
+        IsStack B.Part.Part.contents B.Item.stamp B.Item.before B.SLOPE B.BASE
+            (record { levels = s.levels.items; spare = s.spare; starters = length s.starters.items })
+        × (s.weight ≡ weight_of s.levels.items)
+        × (s.live ≡ length (live_items B.Part.Part.contents s.levels.items))
+        × All (λ b. B.progress b ≡ begun 0) s.starters.items };
+}
+
+impl<B: Builder> Stack<B> {
+    /// A stack without items. It takes no memory; [`Stack::prepare`] takes its from `alloc`.
+    pub fn new(alloc: Global) -> Stack<B>
+        ensures { result ≡ record { levels = []; spare = 0; starters = 0 } }
+    {
+        Stack {
+            alloc,
+            levels: Vec::new(alloc),
+            starters: Vec::new(alloc),
+            spare: 0,
+            weight: 0,
+            live: 0,
+        }
+    }
+
+    /// Inserts an item: one tick. Its stamp is that of no other item of the stack, dead ones included.
+    pub fn insert<L: Ledger>(&mut self, item: B::Item, steps: &mut Steps<L>)
+        requires spare { 1 ≤ self.old.spare }
+        requires light { weight_of self.old.levels < 2 ^ 31 }
+        requires apart { All (λ x. B.Item.stamp x ≢ B.Item.stamp item) (all_items B.Part.Part.contents self.old.levels) }
+        ensures live { Permuted (live_items B.Part.Part.contents self.new.levels) (item ∷ live_items B.Part.Part.contents self.old.levels) }
+        ensures items { IsPartOf (all_items B.Part.Part.contents self.new.levels) (item ∷ all_items B.Part.Part.contents self.old.levels) }
+        ensures weight { weight_of self.new.levels ≡ weight_of self.old.levels + 1 }
+        ensures spare { self.old.spare ≤ self.new.spare + 1 }
+
+        // Whichever bound g there is: the least is the greatest level with `2 ^ g` at most the weight.
+        ensures cost { (g : ℕ) → weight_of self.new.levels < 2 ^ (g + 1)
+            → IsWithin (quotas B.SLOPE B.BASE 0 g) (2 * g) (B.Part.Part.mark_touches g) steps.old steps.new }
+    {
+        if let (Some(builder), Some((lowest, above))) =
+            (self.starters.pop(), self.levels.split_first_mut())
+        {
+            lowest.arrive(part_of_one(builder, item, steps));
+            walk(lowest, above, steps);
+            self.spare -= 1;
+            self.weight += 1;
+            self.live += 1;
+        }
+    }
+
+    /// The number of ticks that need no more memory.
+    pub fn spare(&self) -> u32
+        ensures { result ≡ self.now.spare }
+    {
+        self.spare
+    }
+
+    /// The number of inserts since the stack was made: the sum of `2^i` over the complete parts of each level i.
+    pub fn weight(&self) -> u64
+        ensures { result ≡ weight_of self.now.levels }
+    {
+        self.weight
+    }
+
+    /// The number of live items.
+    pub fn live(&self) -> u64
+        ensures { result ≡ length (live_items B.Part.Part.contents self.now.levels) }
+    {
+        self.live
+    }
+}
