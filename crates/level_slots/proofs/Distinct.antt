@@ -51,9 +51,11 @@ module _ {Item : Type 0} where
   IsPartOf-back xs ys = (xs, Permuted-append_comm ys xs)
 
   pub IsPartOf-then : (xs ys zs : List Item) → IsPartOf xs ys → IsPartOf ys zs → IsPartOf xs zs
-  IsPartOf-then xs ys zs first second =
-      (first.0 ++ second.0, subst (λ l. Permuted l zs) (append_assoc xs first.0 second.0)
-      (composed (Permuted-append_left second.0 first.1) second.1))
+  IsPartOf-then xs ys zs first second = (
+    first.0 ++ second.0,
+    subst (λ l. Permuted l zs) (append_assoc xs first.0 second.0)
+        (composed (Permuted-append_left second.0 first.1) second.1),
+  )
 
   exchanged : (a b c d : List Item) → Permuted ((a ++ b) ++ (c ++ d)) ((a ++ c) ++ (b ++ d))
   exchanged a b c d =

@@ -94,7 +94,9 @@ module _ {P Item : Type 0} (contents : P → Contents Item) (stamp : Item → �
       where
         fewer : length lower.parts ≡ suc (suc (length lower'.parts))
         fewer = ap length p.retired
+
         powers : 0 < 2 ^ new.level
         powers = pow_pos new.level
+
         bigger : 2 ≤ 2 ^ old.level
         bigger = subst (λ k. 2 ≤ 2 ^ k) (sym h.next_level) (omega (arith, doubled lower.level, pow_pos lower.level))

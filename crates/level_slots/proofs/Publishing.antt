@@ -101,8 +101,8 @@ module _ {P Item : Type 0} (contents : P → Contents Item) {old lower new lower
 pub light_below : (n k g rest : ℕ) → 2 ≤ n → n * 2 ^ k + rest < 2 ^ (g + 1) → k + 1 ≤ g
 light_below n k g rest two light = ⊎_elim
     (λ less. absurd (
-        let twice : 2 * 2 ^ k ≤ n * 2 ^ k = grind (arith, two) in
-        let higher : 2 ^ (g + 1) ≤ 2 ^ (k + 1) = ⊎_elim (λ below. omega (arith, pow-lt below)) (λ above. let same : g + 1 ≡ k + 1 = omega (arith, less, above) in omega (arith, ap (λ m. 2 ^ m) same)) (cases_lt (g + 1) (k + 1)) in
-        omega (arith, light, twice, higher, doubled k)))
+    let twice : 2 * 2 ^ k ≤ n * 2 ^ k = grind (arith, two) in
+    let higher : 2 ^ (g + 1) ≤ 2 ^ (k + 1) = ⊎_elim (λ below. omega (arith, pow-lt below)) (λ above. let same : g + 1 ≡ k + 1 = omega (arith, less, above) in omega (arith, ap (λ m. 2 ^ m) same)) (cases_lt (g + 1) (k + 1)) in
+    omega (arith, light, twice, higher, doubled k)))
     (λ more. more)
     (cases_lt g (k + 1))

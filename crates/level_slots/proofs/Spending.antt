@@ -52,7 +52,7 @@ module _ (slope base : ℕ) where
   pub quotas-fewer : (from to : ℕ) → quotas slope base (from + 1) to ≤ quotas slope base from to
   quotas-fewer from to = ⊎_elim
       (λ less. let none : to + 1 - (from + 1) ≡ 0 = omega (arith, less) in
-          subst (λ n. sum_by (quota slope base) (range_with_len (from + 1) n) ≤ quotas slope base from to) (sym none) (omega arith))
+      subst (λ n. sum_by (quota slope base) (range_with_len (from + 1) n) ≤ quotas slope base from to) (sym none) (omega arith))
       (λ more. omega (arith, quotas-first from to more))
       (cases_lt to from)
 

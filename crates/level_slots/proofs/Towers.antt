@@ -23,10 +23,10 @@ module _ {P Item : Type 0} (contents : P → Contents Item) (stamp : Item → �
       let h = tower.0 in
       ⊎_elim (λ less. less)
       (λ full.
-          let three : length l.parts ≡ 3 = omega (arith, full, h.few) in
-          let once : (length l.parts - 2) * 2 ^ l.level ≡ 2 ^ l.level = ap (λ n. (n - 2) * 2 ^ l.level) three ∙ omega arith in
-          let twice : 2 ^ next.level ≡ 2 * 2 ^ l.level = ap (λ k. 2 ^ k) h.next_level ∙ doubled l.level in
-          absurd (omega (arith, once, twice, ending, h.early, h.clock (omega (arith, full)))))
+      let three : length l.parts ≡ 3 = omega (arith, full, h.few) in
+      let once : (length l.parts - 2) * 2 ^ l.level ≡ 2 ^ l.level = ap (λ n. (n - 2) * 2 ^ l.level) three ∙ omega arith in
+      let twice : 2 ^ next.level ≡ 2 * 2 ^ l.level = ap (λ k. 2 ^ k) h.next_level ∙ doubled l.level in
+      absurd (omega (arith, once, twice, ending, h.early, h.clock (omega (arith, full)))))
       (cases_lt (length l.parts) 3)
 
   -- what the two oldest parts are, where another one arrived
@@ -52,44 +52,46 @@ module _ {P Item : Type 0} (contents : P → Contents Item) (stamp : Item → �
   halfway-from_tower l l' (next ∷ above) tower rooms (stays parts ticks) level =
       let h = tower.0 in
       let as_long : length l'.parts ≡ length l.parts = ap length parts in
-      let weight : (length l'.parts - 2) * 2 ^ l'.level ≡ (length l.parts - 2) * 2 ^ l.level = ap₂ (λ n k. (n - 2) * 2 ^ k) as_long level in
-      (record {
-        next_level = h.next_level ∙ ap (λ k. k + 1) (sym level);
-        few = omega (arith, as_long, h.few);
-        idle = λ less. h.idle (omega (arith, less, as_long));
-        fed = λ a b rest are. h.fed a b rest (sym parts ∙ are);
-        early = h.early;
-        clock = λ two. omega (arith, weight, ticks, h.clock (omega (arith, two, as_long)));
-      },
-      (λ two none. absurd (omega (arith, none_ticks next none, h.clock (omega (arith, two, as_long))))),
-      tower.1)
+      let weight : (length l'.parts - 2) * 2 ^ l'.level ≡ (length l.parts - 2) * 2 ^ l.level = ap₂ (λ n k. (n - 2) * 2 ^ k) as_long level in (
+        record {
+          next_level = h.next_level ∙ ap (λ k. k + 1) (sym level);
+          few = omega (arith, as_long, h.few);
+          idle = λ less. h.idle (omega (arith, less, as_long));
+          fed = λ a b rest are. h.fed a b rest (sym parts ∙ are);
+          early = h.early;
+          clock = λ two. omega (arith, weight, ticks, h.clock (omega (arith, two, as_long)));
+        },
+        (λ two none. absurd (omega (arith, none_ticks next none, h.clock (omega (arith, two, as_long))))),
+        tower.1,
+      )
   halfway-from_tower l l' (next ∷ above) tower rooms (arrives fresh parts none ending) level =
       let h = tower.0 in
       let longer : length l'.parts ≡ length l.parts + 1 = ap length parts ∙ length-append l.parts (fresh ∷ []) in
-      let fits : length l.parts < 3 = place l (next ∷ above) tower (sym ending) in
-      (record {
-        next_level = h.next_level ∙ ap (λ k. k + 1) (sym level);
-        few = omega (arith, longer, fits);
-        idle = λ less. h.idle (omega (arith, less, longer));
-        fed = fed-pushed l.parts fresh l l' next refl parts h.idle h.fed;
-        early = h.early;
-        clock = λ two. ⊎_elim
-            (λ less.
-                let both : length l'.parts ≡ 2 = omega (arith, two, less, longer) in
-                let nothing : (length l'.parts - 2) * 2 ^ l'.level ≡ 0 = ap (λ n. (n - 2) * 2 ^ l'.level) both ∙ omega arith in
-                omega (arith, nothing, none))
-            (λ more.
-                let three : length l'.parts ≡ 3 = omega (arith, more, fits, longer) in
-                let once : (length l'.parts - 2) * 2 ^ l'.level ≡ 2 ^ l.level =
-                ap₂ (λ n k. (n - 2) * 2 ^ k) three level ∙ omega arith in
-                omega (arith, once, none, ending, h.clock more))
-            (cases_lt (length l.parts) 2);
-      },
-      (λ two empty. ⊎_elim
-          (λ less. rooms.0 (omega (arith, two, less, longer), omega (arith, ending)))
-          (λ more. absurd (omega (arith, none_ticks next empty, h.clock more)))
-          (cases_lt (length l.parts) 2)),
-      tower.1)
+      let fits : length l.parts < 3 = place l (next ∷ above) tower (sym ending) in (
+        record {
+          next_level = h.next_level ∙ ap (λ k. k + 1) (sym level);
+          few = omega (arith, longer, fits);
+          idle = λ less. h.idle (omega (arith, less, longer));
+          fed = fed-pushed l.parts fresh l l' next refl parts h.idle h.fed;
+          early = h.early;
+          clock = λ two. ⊎_elim
+              (λ less.
+              let both : length l'.parts ≡ 2 = omega (arith, two, less, longer) in
+              let nothing : (length l'.parts - 2) * 2 ^ l'.level ≡ 0 = ap (λ n. (n - 2) * 2 ^ l'.level) both ∙ omega arith in
+              omega (arith, nothing, none))
+              (λ more.
+              let three : length l'.parts ≡ 3 = omega (arith, more, fits, longer) in
+              let once : (length l'.parts - 2) * 2 ^ l'.level ≡ 2 ^ l.level =
+              ap₂ (λ n k. (n - 2) * 2 ^ k) three level ∙ omega arith in
+              omega (arith, once, none, ending, h.clock more))
+              (cases_lt (length l.parts) 2);
+        },
+        (λ two empty. ⊎_elim
+            (λ less. rooms.0 (omega (arith, two, less, longer), omega (arith, ending)))
+            (λ more. absurd (omega (arith, none_ticks next empty, h.clock more)))
+            (cases_lt (length l.parts) 2)),
+        tower.1,
+      )
 
   -- the lower level's parts may change above, not the construction
   pub below-same : {ahead : ℕ} (lower l l' : Slots P Item) → IsBelow contents stamp before ahead lower l → l'.level ≡ l.level
@@ -125,12 +127,13 @@ module _ {P Item : Type 0} where
       → lower'.level ≡ lower.level → ticks_of lower' ≡ ticks_of lower → new'.has_room ≡ new.has_room
       → (HaveRoomsAhead new above → HaveRooms IsDue new' above')
       → HaveRoomsAhead lower (old ∷ above) → HaveRooms IsDue lower' (new' ∷ above')
-  rooms-walked lower lower' old new new' above above' advances level rooms below ticks same rest ahead =
-      (λ due. ⊎_elim
-          (λ two. absurd (omega (arith, two, due.0)))
-          (λ kept. same ∙ kept ∙ ahead.0 (omega (arith, due.1, ticks, ap (λ k. 2 ^ k) below)))
-          rooms,
-      rest (ahead-from_soon old new above ahead.1 (one_tick advances) level))
+  rooms-walked lower lower' old new new' above above' advances level rooms below ticks same rest ahead = (
+    λ due. ⊎_elim
+        (λ two. absurd (omega (arith, two, due.0)))
+        (λ kept. same ∙ kept ∙ ahead.0 (omega (arith, due.1, ticks, ap (λ k. 2 ^ k) below)))
+        rooms,
+    rest (ahead-from_soon old new above ahead.1 (one_tick advances) level),
+  )
 
 regrouped : {A : Type 0} (xs ys zs ys' zs' : List A) → Permuted (ys' ++ zs') (ys ++ zs) → Permuted ((xs ++ ys') ++ zs') ((xs ++ ys) ++ zs)
 regrouped xs ys zs ys' zs' p =

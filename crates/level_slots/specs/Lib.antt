@@ -3,3 +3,5 @@ pub mod Neighbours
 pub mod Cost
 pub mod Level
 pub mod Stack
+pub mod Marking
+pub mod Rooms

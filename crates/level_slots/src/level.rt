@@ -1,11 +1,15 @@
 //! One level.
-ghost use Rattle.std.specs.Prelude.{◌≡◌, ℕ, ◌+◌, ◌-◌, ◌*◌, ◌^◌, ◌<◌, ◌≤◌, true, false, List, [], ◌∷◌, ◌++◌, Some, None, IfOk, IfSome, IsNone, All, length, min};
+ghost use Rattle.std.specs.Prelude.{◌≡◌, ℕ, ◌+◌, ◌-◌, ◌*◌, ◌^◌, ◌<◌, ◌≤◌, true, false, List, [], ◌∷◌, ◌++◌, Some, None, IfOk, IfSome, IsNone, All, length, map, min};
+ghost use Rattle.std.specs.List.{flat_map};
 ghost use Rattle.std.specs.Option.{is_some};
-ghost use Rattle.partial_build.specs.Construction.{AllStampsDiffer};
+ghost use Rattle.query_laws.specs.StepLedger.{Spends};
+ghost use Rattle.builder_trait.specs.Parts.{OwnsStamp, has_stamp, marked};
+ghost use Rattle.partial_build.specs.Construction.{AllStampsDiffer, live_of};
 ghost use Rattle.partial_build.specs.Quota.{quota};
-ghost use Rattle.level_slots.specs.Slots.{ticks_of};
+ghost use Rattle.level_slots.specs.Slots.{ticks_of, live_in, items_in, asked_in};
 ghost use Rattle.level_slots.specs.Level.{IsOfLevel};
 ghost use Rattle.level_slots.specs.Neighbours.{IsConstructionOf, IsFed, IsPunctual, IsPublication};
+ghost use Rattle.level_slots.specs.Marking.{IsLiveIn, IsLiveAt};
 ghost use Rattle.level_slots.specs.Cost.{IsWithin};
 
 use builder_trait::{Builder, Part};
@@ -209,4 +213,68 @@ impl<B: Builder> Level<B> {
             self.tables.push_reserved(tables);
         }
     }
+
+    /// Marks an item as dead in the part that has it, and gives the place of that part: each part is asked, the oldest first, up to
+    /// that one.
+    pub(crate) fn mark<L: Ledger>(&mut self, item: &B::Item, steps: &mut Steps<L>) -> Option<usize>
+        requires apart { AllStampsDiffer B.Item.stamp (items_in B.Part.Part.contents self.old) }
+        requires owner { OwnsStamp B.Item.stamp item.now (items_in B.Part.Part.contents self.old) }
+        ensures found { is_some result ≡ has_stamp B.Item.stamp (B.Item.stamp item.now) (live_in B.Part.Part.contents self.old) }
+        ensures place { IfSome result (IsLiveAt B.Part.Part.contents item.now self.old.parts) }
+        ensures marked { map B.Part.Part.contents self.new.parts
+            ≡ map (λ p. marked B.Item.stamp (B.Item.stamp item.now) (B.Part.Part.contents p)) self.old.parts }
+        ensures same { self.new ≡ record self.old { parts = self.new.parts } }
+        ensures cost { (h : ℕ) → self.old.level ≤ h
+            → let marks = asked_in B.Part.Part.contents B.Item.stamp (B.Item.stamp item.now) self.old.parts in
+            Spends steps.old steps.new 0 marks (marks * B.Part.Part.mark_touches h) }
+    {
+        mark_parts::<B, L>(&mut self.parts, item, steps)
+    }
+
+    /// Takes note of an item that has just died in a part of the level below, where a construction is made of that part.
+    pub(crate) fn note(&mut self, item: &B::Item)
+        requires early { ticks_of self.old < 2 ^ self.old.level }
+        requires punctual { IsPunctual B.SLOPE B.BASE self.old }
+        ensures same { self.new ≡ record self.old { construction = self.new.construction } }
+        ensures ticks { ticks_of self.new ≡ ticks_of self.old }
+        ensures runs { is_some self.new.construction ≡ is_some self.old.construction }
+
+        // Whichever the parts are: with the one in which it stood live and is marked now.
+        ensures of_a { (a b a' : B.Part) → IsLiveIn (B.Part.Part.contents a) item.now
+            → B.Part.Part.contents a' ≡ marked B.Item.stamp (B.Item.stamp item.now) (B.Part.Part.contents a)
+            → IsConstructionOf B.Part.Part.contents B.Item.stamp B.Item.before a b self.old
+            → IsConstructionOf B.Part.Part.contents B.Item.stamp B.Item.before a' b self.new }
+        ensures of_b { (a b b' : B.Part) → IsLiveIn (B.Part.Part.contents b) item.now
+            → B.Part.Part.contents b' ≡ marked B.Item.stamp (B.Item.stamp item.now) (B.Part.Part.contents b)
+            → IsConstructionOf B.Part.Part.contents B.Item.stamp B.Item.before a b self.old
+            → IsConstructionOf B.Part.Part.contents B.Item.stamp B.Item.before a b' self.new }
+    {
+        if let Some(construction) = &mut self.construction {
+            construction.note(item);
+        }
+    }
+}
+
+/// Marks an item as dead in the part that has it, and gives the place of that part.
+fn mark_parts<B: Builder, L: Ledger>(
+    parts: &mut [B::Part],
+    item: &B::Item,
+    steps: &mut Steps<L>,
+) -> Option<usize>
+    requires apart { AllStampsDiffer B.Item.stamp (flat_map (λ p. (B.Part.Part.contents p).items) parts.old) }
+    requires owner { OwnsStamp B.Item.stamp item.now (flat_map (λ p. (B.Part.Part.contents p).items) parts.old) }
+    ensures found { is_some result ≡ has_stamp B.Item.stamp (B.Item.stamp item.now) (flat_map (λ p. live_of (B.Part.Part.contents p)) parts.old) }
+    ensures place { IfSome result (IsLiveAt B.Part.Part.contents item.now parts.old) }
+    ensures marked { map B.Part.Part.contents parts.new
+        ≡ map (λ p. marked B.Item.stamp (B.Item.stamp item.now) (B.Part.Part.contents p)) parts.old }
+    ensures cost { (h : ℕ) → All (λ p. length (B.Part.Part.contents p).items ≤ 2 ^ h) parts.old
+        → let marks = asked_in B.Part.Part.contents B.Item.stamp (B.Item.stamp item.now) parts.old in
+        Spends steps.old steps.new 0 marks (marks * B.Part.Part.mark_touches h) }
+{
+    let (part, rest) = parts.split_first_mut()?;
+    if part.mark(item, steps) {
+        return Some(0);
+    }
+    let place = mark_parts::<B, L>(rest, item, steps)?;
+    Some(place + 1)
 }

@@ -6,6 +6,7 @@
 #![tactic(auto)]
 
 mod level;
+mod marking;
 mod stack;
 mod visiting;
 

@@ -3,12 +3,16 @@ ghost use Rattle.std.specs.Prelude.{◌≡◌, ◌≢◌, ℕ, ◌+◌, ◌*◌,
 ghost use Rattle.query_laws.specs.Permuted.{Permuted};
 ghost use Rattle.query_laws.specs.StepLedger.{Spends};
 ghost use Rattle.builder_trait.specs.Parts.{without};
+ghost use Rattle.builder_trait.specs.Builders.{begun};
+ghost use Rattle.partial_build.specs.Construction.{live_of};
+ghost use Rattle.partial_build.specs.Quota.{quota};
 ghost use Rattle.level_slots.specs.Slots.{Stacked, IsPartOf, live_items, all_items, weight_of, parts_of, asked};
-ghost use Rattle.level_slots.specs.Stack.{rooms_of, kept_of};
+ghost use Rattle.level_slots.specs.Level.{IsOfLevel};
 ghost use Rattle.level_slots.specs.Cost.{IsWithin, quotas};
 
 use crate::level::Level;
-use crate::visiting::walk;
+use crate::marking::mark_in;
+use crate::visiting::{arrive, take_tick};
 use builder_trait::{Builder, Part, part_of_one};
 use query_laws::step_ledger::Steps;
 use query_laws::{Item, NoMemory};
@@ -43,7 +47,7 @@ impl<B: Builder> Model for Stack<B> {
 
     ghost invariant = { λ s.
         IsStack B.Part.Part.contents B.Item.stamp B.Item.before B.SLOPE B.BASE
-            (record { levels = s.levels.items; spare = s.spare; starters = length s.starters.items })
+        (record { levels = s.levels.items; spare = s.spare; starters = length s.starters.items })
         × (s.weight ≡ weight_of s.levels.items)
         × (s.live ≡ length (live_items B.Part.Part.contents s.levels.items))
         × All (λ b. B.progress b ≡ begun 0) s.starters.items };
@@ -78,15 +82,35 @@ impl<B: Builder> Stack<B> {
         ensures cost { (g : ℕ) → weight_of self.new.levels < 2 ^ (g + 1)
             → IsWithin (quotas B.SLOPE B.BASE 0 g) (2 * g) (B.Part.Part.mark_touches g) steps.old steps.new }
     {
-        if let (Some(builder), Some((lowest, above))) =
-            (self.starters.pop(), self.levels.split_first_mut())
-        {
-            lowest.arrive(part_of_one(builder, item, steps));
-            walk(lowest, above, steps);
-            self.spare -= 1;
-            self.weight += 1;
-            self.live += 1;
-        }
+        let part = part_of(&mut self.starters, item, steps);
+        arrive(&mut self.levels, part);
+        take_tick(&mut self.levels, steps);
+        self.spare -= 1;
+        self.weight += 1;
+        self.live += 1;
+    }
+
+    /// Deletes an item: one tick. The parts are asked for it, those of the highest level first, until one has it.
+    pub fn delete<L: Ledger>(&mut self, item: &B::Item, steps: &mut Steps<L>)
+        requires spare { 1 ≤ self.old.spare }
+        requires light { weight_of self.old.levels < 2 ^ 31 }
+        requires live { Contains (live_items B.Part.Part.contents self.old.levels) item.now }
+        ensures live { Permuted (live_items B.Part.Part.contents self.new.levels)
+            (without B.Item.stamp (B.Item.stamp item.now) (live_items B.Part.Part.contents self.old.levels)) }
+        ensures items { IsPartOf (all_items B.Part.Part.contents self.new.levels) (all_items B.Part.Part.contents self.old.levels) }
+        ensures weight { weight_of self.new.levels ≡ weight_of self.old.levels }
+        ensures spare { self.old.spare ≤ self.new.spare + 1 }
+
+        // Whichever bound g there is, as for an insert; and a mark for each part that is asked.
+        ensures cost { (g : ℕ) → weight_of self.new.levels < 2 ^ (g + 1)
+            → IsWithin (quotas B.SLOPE B.BASE 1 g)
+            (2 * g + asked B.Part.Part.contents B.Item.stamp (B.Item.stamp item.now) self.old.levels)
+            (B.Part.Part.mark_touches g) steps.old steps.new }
+    {
+        mark_in(&mut self.levels, item, steps);
+        take_tick(&mut self.levels, steps);
+        self.spare -= 1;
+        self.live -= 1;
     }
 
     /// The number of ticks that need no more memory.
@@ -108,5 +132,26 @@ impl<B: Builder> Stack<B> {
         ensures { result ≡ length (live_items B.Part.Part.contents self.now.levels) }
     {
         self.live
+    }
+}
+
+/// A part of one item, by a builder that stands ready.
+fn part_of<B: Builder, L: Ledger>(
+    starters: &mut Vec<B>,
+    item: B::Item,
+    steps: &mut Steps<L>,
+) -> B::Part
+    requires some { 0 < length starters.old.items }
+    requires begun { All (λ b. B.progress b ≡ begun 0) starters.old.items }
+    ensures begun { All (λ b. B.progress b ≡ begun 0) starters.new.items }
+    ensures one_fewer { length starters.new.items + 1 ≡ length starters.old.items }
+    ensures of_level { IsOfLevel 0 (B.Part.Part.contents result) }
+    ensures items { (B.Part.Part.contents result).items ≡ item ∷ [] }
+    ensures live { live_of (B.Part.Part.contents result) ≡ item ∷ [] }
+    ensures cost { (touches : ℕ) → IsWithin (quota B.SLOPE B.BASE 0) 0 touches steps.old steps.new }
+{
+    match starters.pop() {
+        Some(builder) => part_of_one(builder, item, steps),
+        None => unreachable!(),
     }
 }

@@ -1,10 +1,12 @@
 //! One tick: the levels are visited from the lowest one up.
 ghost use Rattle.std.specs.Prelude.{◌≡◌, ℕ, ◌+◌, ◌-◌, ◌*◌, ◌^◌, ◌<◌, ◌≤◌, true, None, ◌∷◌, ◌++◌, ◌⊎◌, All, length};
 ghost use Rattle.query_laws.specs.Permuted.{Permuted};
-ghost use Rattle.partial_build.specs.Construction.{AllStampsDiffer};
+ghost use Rattle.partial_build.specs.Construction.{AllStampsDiffer, live_of};
 ghost use Rattle.partial_build.specs.Quota.{quota};
 ghost use Rattle.level_slots.specs.Slots.{Slots, IsPartOf, ticks_of, weight_in, weight_of, live_in, items_in, live_items, all_items};
-ghost use Rattle.level_slots.specs.Neighbours.{IsBelow, IsVisited, IsTower, IsHalfway, IsPunctual, IsDue, HaveRooms, HaveRoomsAbove, HaveRoomsAhead};
+ghost use Rattle.level_slots.specs.Neighbours.{IsBelow, IsVisited, IsTower, IsHalfway, IsPunctual, IsDue, IsDueSoon, HaveRooms, HaveRoomsAbove, HaveRoomsAhead};
+ghost use Rattle.level_slots.specs.Level.{IsOfLevel};
+ghost use Rattle.level_slots.specs.Stack.{AreAllLevels, AreHalfway, HaveRoomsNow, HaveRoomsNext};
 ghost use Rattle.level_slots.specs.Cost.{IsWithin, quotas};
 
 use crate::level::Level;
@@ -40,11 +42,7 @@ fn visit<B: Builder, L: Ledger>(lower: &mut Level<B>, level: &mut Level<B>, step
 }
 
 /// Visits the levels above one that has taken its tick, in rising order.
-pub(crate) fn walk<B: Builder, L: Ledger>(
-    lower: &mut Level<B>,
-    above: &mut [Level<B>],
-    steps: &mut Steps<L>,
-)
+fn walk<B: Builder, L: Ledger>(lower: &mut Level<B>, above: &mut [Level<B>], steps: &mut Steps<L>)
     requires halfway { IsHalfway B.Part.Part.contents B.Item.stamp B.Item.before lower.old above.old }
     requires rooms { HaveRoomsAbove IsDue above.old }
     requires apart { AllStampsDiffer B.Item.stamp (all_items B.Part.Part.contents (lower.old ∷ above.old)) }
@@ -62,5 +60,48 @@ pub(crate) fn walk<B: Builder, L: Ledger>(
     if let Some((level, above)) = above.split_first_mut() {
         visit(lower, level, steps);
         walk(level, above, steps);
+    }
+}
+
+/// Takes in a part of level 0: level 0 has then taken its tick.
+pub(crate) fn arrive<B: Builder>(levels: &mut [Level<B>], part: B::Part)
+    requires some { 0 < length levels.old }
+    requires levels { AreAllLevels B.Part.Part.contents B.Item.stamp B.Item.before levels.old }
+    requires rooms { HaveRoomsAbove IsDue levels.old }
+    requires of_level { IsOfLevel 0 (B.Part.Part.contents part) }
+    ensures halfway { AreHalfway B.Part.Part.contents B.Item.stamp B.Item.before levels.new }
+    ensures rooms { HaveRoomsNow levels.new }
+    ensures rooms_ahead { HaveRoomsAbove IsDueSoon levels.old → HaveRoomsNext levels.new }
+    ensures live { Permuted (live_items B.Part.Part.contents levels.new)
+        (live_of (B.Part.Part.contents part) ++ live_items B.Part.Part.contents levels.old) }
+    ensures items { Permuted (all_items B.Part.Part.contents levels.new)
+        ((B.Part.Part.contents part).items ++ all_items B.Part.Part.contents levels.old) }
+    ensures weight { weight_of levels.new ≡ weight_of levels.old + 1 }
+    ensures as_many { length levels.new ≡ length levels.old }
+{
+    match levels.first_mut() {
+        Some(lowest) => lowest.arrive(part),
+        None => unreachable!(),
+    }
+}
+
+/// The rest of a tick that level 0 has taken: all levels above are visited.
+pub(crate) fn take_tick<B: Builder, L: Ledger>(levels: &mut [Level<B>], steps: &mut Steps<L>)
+    requires halfway { AreHalfway B.Part.Part.contents B.Item.stamp B.Item.before levels.old }
+    requires rooms { HaveRoomsNow levels.old }
+    requires apart { AllStampsDiffer B.Item.stamp (all_items B.Part.Part.contents levels.old) }
+    ensures levels { AreAllLevels B.Part.Part.contents B.Item.stamp B.Item.before levels.new }
+    ensures punctual { All (IsPunctual B.SLOPE B.BASE) levels.new }
+    ensures live { Permuted (live_items B.Part.Part.contents levels.new) (live_items B.Part.Part.contents levels.old) }
+    ensures items { IsPartOf (all_items B.Part.Part.contents levels.new) (all_items B.Part.Part.contents levels.old) }
+    ensures weight { weight_of levels.new ≡ weight_of levels.old }
+    ensures rooms { HaveRoomsNext levels.old → HaveRoomsAbove IsDue levels.new }
+    ensures as_many { length levels.new ≡ length levels.old }
+    ensures cost { (g : ℕ) → weight_of levels.old < 2 ^ (g + 1)
+        → IsWithin (quotas B.SLOPE B.BASE 1 g) (2 * g) (B.Part.Part.mark_touches g) steps.old steps.new }
+{
+    match levels.split_first_mut() {
+        Some((lowest, above)) => walk(lowest, above, steps),
+        None => unreachable!(),
     }
 }

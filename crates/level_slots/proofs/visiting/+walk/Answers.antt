@@ -43,21 +43,40 @@ walk-requires g p c κs lives =
     let before = g.B.Item.Item.before in
     let split = c.in-Some.ensures.cases.0 in
     let above = c.in-Some.above.now in
-    let rooms : HaveRooms IsDue c.in-Some.level.now above = subst (HaveRoomsAbove IsDue) split c.requires.rooms in
-    (omega (arith, c.decreases, c.in-Some.ensures.cases.1), (lives.0, (lives.1.0, (lives.1.1.0, (lives.1.1.1,
-      (halfway-from_tower contents stamp before c.in-Some.level.now c.visit.new.level above
-          (subst (IsHalfway contents stamp before c.args.lower.now) split c.requires.halfway).2 rooms c.visit.ensures.visited.advances
-          (ap (λ v. v.level) c.visit.ensures.same),
-      (rooms_above IsDue c.in-Some.level.now above rooms,
-      AllStampsDiffer-part stamp (all_items contents (c.visit.new.level ∷ above))
-          (all_items contents (c.args.lower.now ∷ c.in-Some.level.now ∷ above))
-          (part_of_rest contents stamp before c.visit.ensures.visited above)
-          (subst (λ ls. AllStampsDiffer stamp (all_items contents (c.args.lower.now ∷ ls))) split c.requires.apart))))))))
+    let rooms : HaveRooms IsDue c.in-Some.level.now above = subst (HaveRoomsAbove IsDue) split c.requires.rooms in (
+      omega (arith, c.decreases, c.in-Some.ensures.cases.1),
+      (
+        lives.0,
+        (
+          lives.1.0,
+          (
+            lives.1.1.0,
+            (
+              lives.1.1.1,
+              (
+                halfway-from_tower contents stamp before c.in-Some.level.now c.visit.new.level above
+                    (subst (IsHalfway contents stamp before c.args.lower.now) split c.requires.halfway).2 rooms c.visit.ensures.visited.advances
+                    (ap (λ v. v.level) c.visit.ensures.same),
+                (
+                  rooms_above IsDue c.in-Some.level.now above rooms,
+                  AllStampsDiffer-part stamp (all_items contents (c.visit.new.level ∷ above))
+                      (all_items contents (c.args.lower.now ∷ c.in-Some.level.now ∷ above))
+                      (part_of_rest contents stamp before c.visit.ensures.visited above)
+                      (subst (λ ls. AllStampsDiffer stamp (all_items contents (c.args.lower.now ∷ ls))) split c.requires.apart),
+                ),
+              ),
+            ),
+          ),
+        ),
+      ),
+    )
 
 pub returns-in-Some-clause-tower : goal.returns-in-Some-clause-tower
-returns-in-Some-clause-tower g p c =
-    (below-same g.B.Part.Part.contents g.B.Item.Item.stamp g.B.Item.Item.before c.visit.new.lower c.visit.new.level c.walk.new.lower
-    c.visit.ensures.visited.below (ap (λ v. v.level) c.walk.ensures.same) (ap (λ v. v.construction) c.walk.ensures.same), c.walk.ensures.tower)
+returns-in-Some-clause-tower g p c = (
+  below-same g.B.Part.Part.contents g.B.Item.Item.stamp g.B.Item.Item.before c.visit.new.lower c.visit.new.level c.walk.new.lower
+      c.visit.ensures.visited.below (ap (λ v. v.level) c.walk.ensures.same) (ap (λ v. v.construction) c.walk.ensures.same),
+  c.walk.ensures.tower,
+)
 
 pub returns-in-Some-clause-punctual : goal.returns-in-Some-clause-punctual
 returns-in-Some-clause-punctual g p c =
@@ -109,10 +128,10 @@ returns-in-Some-clause-cost g p c g' light =
     let rest = subst (λ n. IsWithin (quotas slope base n g') (2 * (g' - (k + 1))) (touches g') c.visit.new.steps c.walk.new.steps) two_up rest in
     ⊎_elim
     (λ less. subst (λ s. IsWithin (quotas slope base (k + 1) g') (2 * (g' - k)) (touches g') s c.walk.new.steps) (c.visit.ensures.idle less)
-        (IsWithin-above slope base k g' rest))
+    (IsWithin-above slope base k g' rest))
     (λ two. IsWithin-level slope base touches g.met.B.Part.Part.mark_touches_rise k g'
-        (subst (λ n. IsWithin (quota slope base n) 2 (touches n) c.args.steps.now c.visit.new.steps) next c.visit.ensures.cost)
-        (light_below (length c.args.lower.now.parts) k g' (weight_of (c.in-Some.level.now ∷ above)) two light') rest)
+    (subst (λ n. IsWithin (quota slope base n) 2 (touches n) c.args.steps.now c.visit.new.steps) next c.visit.ensures.cost)
+    (light_below (length c.args.lower.now.parts) k g' (weight_of (c.in-Some.level.now ∷ above)) two light') rest)
     (cases_lt (length c.args.lower.now.parts) 2)
 
 pub returns-in_default-clause-tower : goal.returns-in_default-clause-tower

@@ -57,11 +57,11 @@ returns-clause-visited g c =
     c.parts-3.ensures.value c.index-parts-1.is) c.tick.ensures.fed in
     ⊎_elim
     (λ early. let w = c.publish.ensures.waits early in
-        subst (λ n. is_visited n c.publish.new.lower) (sym w.0)
-        (subst (λ l. is_visited mid l) (sym w.1)
-        (visited-ticked g.B.Part.Part.contents g.B.Item.Item.stamp g.B.Item.Item.before h two parts level ticked rooms fed early)))
+    subst (λ n. is_visited n c.publish.new.lower) (sym w.0)
+    (subst (λ l. is_visited mid l) (sym w.1)
+    (visited-ticked g.B.Part.Part.contents g.B.Item.Item.stamp g.B.Item.Item.before h two parts level ticked rooms fed early)))
     (λ late. let ended : ticks_of mid ≡ 2 ^ mid.level = omega (arith, late, ticked, h.early, ap (λ k. 2 ^ k) level) in
-        visited-published g.B.Part.Part.contents g.B.Item.Item.stamp g.B.Item.Item.before h two parts level ticked rooms c.publish.new.self c.publish.new.lower
-        (sym (ended ∙ ap (λ k. 2 ^ k) level)) (c.publish.ensures.ends ended)
-        (ap (λ v. v.level) c.publish.ensures.same ∙ level) (ap (λ v. v.level) c.publish.ensures.same_below) (ap (λ v. v.has_room) c.publish.ensures.same))
+    visited-published g.B.Part.Part.contents g.B.Item.Item.stamp g.B.Item.Item.before h two parts level ticked rooms c.publish.new.self c.publish.new.lower
+    (sym (ended ∙ ap (λ k. 2 ^ k) level)) (c.publish.ensures.ends ended)
+    (ap (λ v. v.level) c.publish.ensures.same ∙ level) (ap (λ v. v.level) c.publish.ensures.same_below) (ap (λ v. v.has_room) c.publish.ensures.same))
     (cases_lt (ticks_of mid) (2 ^ mid.level))

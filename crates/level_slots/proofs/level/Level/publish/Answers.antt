@@ -49,6 +49,9 @@ returns-in-Some-clause-ends g c late =
           ∙ ap (λ v. v.construction) c.in-Some.ensures.taken;
       retired = o.3 ∙ ap (λ ps. o.0 ∷ o.1 ∷ ps) (sym (c.retire-in-Some.ensures.retired o.1 o.2 (c.retire.ensures.retired o.0 (o.1 ∷ o.2) o.3)));
       live = p.live;
-      items = (skipped_of c.in-Some.construction.merge.a.table (g.B.Part.Part.contents o.0).items
-          ++ skipped_of c.in-Some.construction.merge.b.table (g.B.Part.Part.contents o.1).items, p.items);
+      items = (
+        skipped_of c.in-Some.construction.merge.a.table (g.B.Part.Part.contents o.0).items
+            ++ skipped_of c.in-Some.construction.merge.b.table (g.B.Part.Part.contents o.1).items,
+        p.items,
+      );
     }

@@ -1,0 +1,72 @@
+//! The item of a delete: it is marked as dead, and a construction that reads its part takes note.
+ghost use Rattle.std.specs.Prelude.{◌≡◌, ℕ, ◌+◌, ◌*◌, ◌^◌, ◌<◌, ◌≤◌, All, IfSome, length, map};
+ghost use Rattle.query_laws.specs.StepLedger.{Spends};
+ghost use Rattle.builder_trait.specs.Parts.{OwnsStamp, has_stamp};
+ghost use Rattle.partial_build.specs.Construction.{AllStampsDiffer};
+ghost use Rattle.level_slots.specs.Slots.{weight_of, live_in, live_items, items_in, all_items, asked_in, asked};
+ghost use Rattle.level_slots.specs.Neighbours.{IsPunctual, IsTower};
+ghost use Rattle.level_slots.specs.Stack.{AreLevels};
+ghost use Rattle.level_slots.specs.Marking.{IsMarked, AreMarked, AreNoted};
+
+use crate::level::Level;
+use builder_trait::{Builder, Part};
+use query_laws::Item;
+use query_laws::step_ledger::Steps;
+use std::sync::ledger::Ledger;
+
+/// Marks an item as dead in the part that has it, and says whether one has. Parts are asked up to that one, those of the highest
+/// level first.
+pub(crate) fn mark_in<B: Builder, L: Ledger>(
+    levels: &mut [Level<B>],
+    item: &B::Item,
+    steps: &mut Steps<L>,
+) -> bool
+    requires levels { AreLevels B.Part.Part.contents B.Item.stamp B.Item.before levels.old }
+    requires punctual { All (IsPunctual B.SLOPE B.BASE) levels.old }
+    requires apart { AllStampsDiffer B.Item.stamp (all_items B.Part.Part.contents levels.old) }
+    requires owner { OwnsStamp B.Item.stamp item.now (all_items B.Part.Part.contents levels.old) }
+    ensures levels { AreLevels B.Part.Part.contents B.Item.stamp B.Item.before levels.new }
+    ensures found { result ≡ has_stamp B.Item.stamp (B.Item.stamp item.now) (live_items B.Part.Part.contents levels.old) }
+    ensures marked { AreMarked B.Part.Part.contents B.Item.stamp (B.Item.stamp item.now) levels.old levels.new }
+    ensures cost { (g : ℕ) → weight_of levels.old < 2 ^ (g + 1)
+        → let marks = asked B.Part.Part.contents B.Item.stamp (B.Item.stamp item.now) levels.old in
+        Spends steps.old steps.new 0 marks (marks * B.Part.Part.mark_touches g) }
+{
+    let Some((level, above)) = levels.split_first_mut() else {
+        return false;
+    };
+    if mark_in(above, item, steps) {
+        return true;
+    }
+    mark_and_note(level, above, item, steps)
+}
+
+/// Marks an item as dead in the part of a level that has it, where the levels above don't have it, and has it noted.
+fn mark_and_note<B: Builder, L: Ledger>(
+    level: &mut Level<B>,
+    above: &mut [Level<B>],
+    item: &B::Item,
+    steps: &mut Steps<L>,
+) -> bool
+    requires tower { IsTower B.Part.Part.contents B.Item.stamp B.Item.before level.old above.old }
+    requires punctual { All (IsPunctual B.SLOPE B.BASE) above.old }
+    requires apart { AllStampsDiffer B.Item.stamp (items_in B.Part.Part.contents level.old) }
+    requires owner { OwnsStamp B.Item.stamp item.now (items_in B.Part.Part.contents level.old) }
+    ensures tower { IsTower B.Part.Part.contents B.Item.stamp B.Item.before level.new above.new }
+    ensures found { result ≡ has_stamp B.Item.stamp (B.Item.stamp item.now) (live_in B.Part.Part.contents level.old) }
+    ensures marked { IsMarked B.Part.Part.contents B.Item.stamp (B.Item.stamp item.now) level.old level.new }
+    ensures noted { AreNoted above.old above.new }
+    ensures cost { (h : ℕ) → level.old.level ≤ h
+        → let marks = asked_in B.Part.Part.contents B.Item.stamp (B.Item.stamp item.now) level.old.parts in
+        Spends steps.old steps.new 0 marks (marks * B.Part.Part.mark_touches h) }
+{
+    let Some(place) = level.mark(item, steps) else {
+        return false;
+    };
+    if place < 2 {
+        if let Some(next) = above.first_mut() {
+            next.note(item);
+        }
+    }
+    true
+}
