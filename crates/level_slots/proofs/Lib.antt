@@ -4,3 +4,4 @@ pub mod Spending
 pub mod Publishing
 pub mod Neighbouring
 pub mod Towers
+pub mod Stacks

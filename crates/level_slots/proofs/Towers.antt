@@ -1,15 +1,18 @@
 -- The levels above one, through a tick.
 use Rattle.std.proofs.Common.{◌≡◌, ℕ, suc, ◌+◌, ◌-◌, ◌*◌, ◌^◌, ◌<◌, ◌≤◌, ◌⊎◌, ◌∙◌, Bool, List, [], ◌∷◌, ◌++◌, Some, None, true, length, All, inl, inr, ⊎_elim, refl, ap, ap₂, sym, subst, arith, append_assoc}
+use Rattle.std.specs.List.{flat_map}
 use Rattle.std.specs.Option.{option_map_or}
 use Rattle.std.proofs.lemmas.Bool.{cases_lt}
-use Rattle.std.proofs.lemmas.List.{length-append}
+use Rattle.std.proofs.lemmas.List.{append-nil, length-append}
+use Rattle.std.proofs.lemmas.Grind.{flat_map-append}
 use Rattle.std.proofs.lemmas.Nat.{pow_pos}
 use Rattle.query_laws.specs.Permuted.{Permuted, composed}
-use Rattle.query_laws.proofs.Permutations.{Permuted-append_left, Permuted-append_right}
+use Rattle.query_laws.proofs.Permutations.{Permuted-append_comm, Permuted-append_left, Permuted-append_right}
 use Rattle.builder_trait.specs.Parts.{Contents}
 use Rattle.partial_build.specs.Construction.{AllStampsDiffer}
 use Rattle.level_slots.specs.Slots.{Slots, IsPartOf, ticks_of, weight_in, weight_of, live_in, items_in, live_items, all_items}
 use Rattle.level_slots.specs.Neighbours.{IsBelow, IsVisited, IsTower, IsHalfway, IsFed, IsDue, IsDueSoon, Advances, stays, arrives, HaveRooms, HaveRoomsAbove, HaveRoomsAhead}
+use Rattle.level_slots.specs.Stack.{AreAllLevels}
 use Rattle.level_slots.proofs.Distinct.{IsPartOf-refl, IsPartOf-append, IsPartOf-then, IsPartOf-back, IsPartOf-front}
 use Rattle.level_slots.proofs.Publishing.{doubled}
 use Rattle.level_slots.proofs.Neighbouring.{none_ticks}
@@ -108,7 +111,7 @@ module _ {P Item : Type 0} (contents : P → Contents Item) (stamp : Item → �
       }
 
 module _ {P Item : Type 0} where
-  ahead-from_soon : (l l' : Slots P Item) (above : List (Slots P Item)) → HaveRooms IsDueSoon l above → ticks_of l' ≤ ticks_of l + 1
+  pub ahead-from_soon : (l l' : Slots P Item) (above : List (Slots P Item)) → HaveRooms IsDueSoon l above → ticks_of l' ≤ ticks_of l + 1
       → l'.level ≡ l.level → HaveRoomsAhead l' above
   ahead-from_soon l l' [] rooms later level = λ due. rooms (omega (arith, due, later, ap (λ k. 2 ^ k) level))
   ahead-from_soon l l' (next ∷ above) rooms later level = (λ due. rooms.0 (omega (arith, due, later, ap (λ k. 2 ^ k) level)), rooms.1)
@@ -182,3 +185,30 @@ module _ {P Item : Type 0} (contents : P → Contents Item) (stamp : Item → �
     where
       lighter : (l l' o n r : ℕ) → n + l' ≡ o + l → n + r ≤ l + (o + r)
       lighter l l' o n r same = omega (arith, same)
+
+-- the items of one more part
+pub pushed : {P A : Type 0} (f : P → List A) (xs : List A) (parts : List P) (p : P)
+    → Permuted (xs ++ flat_map f (parts ++ p ∷ [])) (f p ++ (xs ++ flat_map f parts))
+pushed f xs parts p =
+    let as_one : xs ++ flat_map f (parts ++ p ∷ []) ≡ (xs ++ flat_map f parts) ++ f p =
+    ap (λ l. xs ++ l) (flat_map-append f parts (p ∷ []) ∙ ap (λ l. flat_map f parts ++ l) (append-nil (f p)))
+    ∙ sym (append_assoc xs (flat_map f parts) (f p)) in
+    subst (λ l. Permuted l (f p ++ (xs ++ flat_map f parts))) (sym as_one) (Permuted-append_comm (xs ++ flat_map f parts) (f p))
+
+module _ {P Item : Type 0} (contents : P → Contents Item) (stamp : Item → ℕ) (before : ℕ → Item → Item → Bool)
+    (lowest : Slots P Item) (above : List (Slots P Item)) (h : AreAllLevels contents stamp before (lowest ∷ above)) where
+  pub at_once : 2 ^ lowest.level ≡ ticks_of lowest + 1
+  at_once = omega (arith, ap (λ k. 2 ^ k) h.0, none_ticks lowest h.1)
+
+  pub weight-pushed : (lowest' : Slots P Item) (p : P) → lowest'.parts ≡ lowest.parts ++ p ∷ [] → lowest'.level ≡ lowest.level
+      → weight_of (lowest' ∷ above) ≡ weight_of (lowest ∷ above) + 1
+  weight-pushed lowest' p parts level =
+      let one : 2 ^ lowest.level ≡ 1 = ap (λ k. 2 ^ k) h.0 in
+      let n = length lowest.parts in
+      let longer : length lowest'.parts ≡ n + 1 = ap length parts ∙ length-append lowest.parts (p ∷ []) in
+      let first : weight_in lowest' ≡ n + 1 = ap₂ (λ m w. m * w) longer (ap (λ k. 2 ^ k) level ∙ one) ∙ omega arith in
+      let second : weight_in lowest ≡ n = ap (λ w. n * w) one ∙ omega arith in
+      sum (weight_in lowest') (weight_in lowest) n (weight_of above) first second
+    where
+      sum : (a b n r : ℕ) → a ≡ n + 1 → b ≡ n → a + r ≡ b + r + 1
+      sum a b n r first second = omega (arith, first, second)

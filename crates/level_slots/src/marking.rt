@@ -1,14 +1,17 @@
 //! The item of a delete: it is marked as dead, and a construction that reads its part takes note.
-ghost use Rattle.std.specs.Prelude.{◌≡◌, ℕ, ◌+◌, ◌*◌, ◌^◌, ◌<◌, ◌≤◌, All, IfSome, length, map};
+ghost use Rattle.std.specs.Prelude.{◌≡◌, ℕ, ◌+◌, ◌*◌, ◌^◌, ◌<◌, ◌≤◌, All, Contains, length};
+ghost use Rattle.query_laws.specs.Permuted.{Permuted};
 ghost use Rattle.query_laws.specs.StepLedger.{Spends};
-ghost use Rattle.builder_trait.specs.Parts.{OwnsStamp, has_stamp};
+ghost use Rattle.builder_trait.specs.Parts.{OwnsStamp, has_stamp, without};
 ghost use Rattle.partial_build.specs.Construction.{AllStampsDiffer};
-ghost use Rattle.level_slots.specs.Slots.{weight_of, live_in, live_items, items_in, all_items, asked_in, asked};
-ghost use Rattle.level_slots.specs.Neighbours.{IsPunctual, IsTower};
-ghost use Rattle.level_slots.specs.Stack.{AreLevels};
+ghost use Rattle.level_slots.specs.Slots.{IsPartOf, weight_of, live_in, live_items, items_in, all_items, asked_in, asked};
+ghost use Rattle.level_slots.specs.Neighbours.{IsPunctual, IsDue, IsDueSoon, IsTower, HaveRoomsAbove};
+ghost use Rattle.level_slots.specs.Cost.{IsWithin, quotas};
+ghost use Rattle.level_slots.specs.Stack.{AreLevels, AreAllLevels};
 ghost use Rattle.level_slots.specs.Marking.{IsMarked, AreMarked, AreNoted};
 
 use crate::level::Level;
+use crate::visiting::take_tick;
 use builder_trait::{Builder, Part};
 use query_laws::Item;
 use query_laws::step_ledger::Steps;
@@ -16,7 +19,7 @@ use std::sync::ledger::Ledger;
 
 /// Marks an item as dead in the part that has it, and says whether one has. Parts are asked up to that one, those of the highest
 /// level first.
-pub(crate) fn mark_in<B: Builder, L: Ledger>(
+fn mark_in<B: Builder, L: Ledger>(
     levels: &mut [Level<B>],
     item: &B::Item,
     steps: &mut Steps<L>,
@@ -69,4 +72,32 @@ fn mark_and_note<B: Builder, L: Ledger>(
         }
     }
     true
+}
+
+/// One tick in which an item is marked as dead.
+pub(crate) fn take_out<B: Builder, L: Ledger>(
+    levels: &mut [Level<B>],
+    item: &B::Item,
+    steps: &mut Steps<L>,
+)
+    requires levels { AreAllLevels B.Part.Part.contents B.Item.stamp B.Item.before levels.old }
+    requires rooms { HaveRoomsAbove IsDue levels.old }
+    requires punctual { All (IsPunctual B.SLOPE B.BASE) levels.old }
+    requires apart { AllStampsDiffer B.Item.stamp (all_items B.Part.Part.contents levels.old) }
+    requires live { Contains (live_items B.Part.Part.contents levels.old) item.now }
+    ensures levels { AreAllLevels B.Part.Part.contents B.Item.stamp B.Item.before levels.new }
+    ensures punctual { All (IsPunctual B.SLOPE B.BASE) levels.new }
+    ensures live { Permuted (live_items B.Part.Part.contents levels.new)
+        (without B.Item.stamp (B.Item.stamp item.now) (live_items B.Part.Part.contents levels.old)) }
+    ensures items { IsPartOf (all_items B.Part.Part.contents levels.new) (all_items B.Part.Part.contents levels.old) }
+    ensures weight { weight_of levels.new ≡ weight_of levels.old }
+    ensures rooms { HaveRoomsAbove IsDueSoon levels.old → HaveRoomsAbove IsDue levels.new }
+    ensures as_many { length levels.new ≡ length levels.old }
+    ensures cost { (g : ℕ) → weight_of levels.new < 2 ^ (g + 1)
+        → IsWithin (quotas B.SLOPE B.BASE 1 g)
+        (2 * g + asked B.Part.Part.contents B.Item.stamp (B.Item.stamp item.now) levels.old)
+        (B.Part.Part.mark_touches g) steps.old steps.new }
+{
+    mark_in(levels, item, steps);
+    take_tick(levels, steps);
 }

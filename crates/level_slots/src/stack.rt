@@ -11,8 +11,8 @@ ghost use Rattle.level_slots.specs.Level.{IsOfLevel};
 ghost use Rattle.level_slots.specs.Cost.{IsWithin, quotas};
 
 use crate::level::Level;
-use crate::marking::mark_in;
-use crate::visiting::{arrive, take_tick};
+use crate::marking::take_out;
+use crate::visiting::take_in;
 use builder_trait::{Builder, Part, part_of_one};
 use query_laws::step_ledger::Steps;
 use query_laws::{Item, NoMemory};
@@ -36,7 +36,7 @@ pub struct Stack<B: Builder> {
 }
 
 impl<B: Builder> Model for Stack<B> {
-    ghost use Rattle.std.specs.Prelude.{◌≡◌, All, length};
+    ghost use Rattle.std.specs.Prelude.{◌≡◌, ◌≤◌, All, length};
     ghost use Rattle.builder_trait.specs.Builders.{begun};
     ghost use Rattle.level_slots.specs.Slots.{Stacked, live_items, weight_of};
     ghost use Rattle.level_slots.specs.Stack.{IsStack};
@@ -50,7 +50,7 @@ impl<B: Builder> Model for Stack<B> {
         (record { levels = s.levels.items; spare = s.spare; starters = length s.starters.items })
         × (s.weight ≡ weight_of s.levels.items)
         × (s.live ≡ length (live_items B.Part.Part.contents s.levels.items))
-        × All (λ b. B.progress b ≡ begun 0) s.starters.items };
+        × All (λ b. B.progress b ≡ begun 0) s.starters.items × (s.live ≤ s.weight) };
 }
 
 impl<B: Builder> Stack<B> {
@@ -83,8 +83,7 @@ impl<B: Builder> Stack<B> {
             → IsWithin (quotas B.SLOPE B.BASE 0 g) (2 * g) (B.Part.Part.mark_touches g) steps.old steps.new }
     {
         let part = part_of(&mut self.starters, item, steps);
-        arrive(&mut self.levels, part);
-        take_tick(&mut self.levels, steps);
+        take_in(&mut self.levels, part, steps);
         self.spare -= 1;
         self.weight += 1;
         self.live += 1;
@@ -107,8 +106,7 @@ impl<B: Builder> Stack<B> {
             (2 * g + asked B.Part.Part.contents B.Item.stamp (B.Item.stamp item.now) self.old.levels)
             (B.Part.Part.mark_touches g) steps.old steps.new }
     {
-        mark_in(&mut self.levels, item, steps);
-        take_tick(&mut self.levels, steps);
+        take_out(&mut self.levels, item, steps);
         self.spare -= 1;
         self.live -= 1;
     }

@@ -64,7 +64,7 @@ fn walk<B: Builder, L: Ledger>(lower: &mut Level<B>, above: &mut [Level<B>], ste
 }
 
 /// Takes in a part of level 0: level 0 has then taken its tick.
-pub(crate) fn arrive<B: Builder>(levels: &mut [Level<B>], part: B::Part)
+fn arrive<B: Builder>(levels: &mut [Level<B>], part: B::Part)
     requires some { 0 < length levels.old }
     requires levels { AreAllLevels B.Part.Part.contents B.Item.stamp B.Item.before levels.old }
     requires rooms { HaveRoomsAbove IsDue levels.old }
@@ -79,8 +79,8 @@ pub(crate) fn arrive<B: Builder>(levels: &mut [Level<B>], part: B::Part)
     ensures weight { weight_of levels.new ≡ weight_of levels.old + 1 }
     ensures as_many { length levels.new ≡ length levels.old }
 {
-    match levels.first_mut() {
-        Some(lowest) => lowest.arrive(part),
+    match levels.split_first_mut() {
+        Some((lowest, _above)) => lowest.arrive(part),
         None => unreachable!(),
     }
 }
@@ -104,4 +104,31 @@ pub(crate) fn take_tick<B: Builder, L: Ledger>(levels: &mut [Level<B>], steps: &
         Some((lowest, above)) => walk(lowest, above, steps),
         None => unreachable!(),
     }
+}
+
+/// One tick in which a part of level 0 arrives.
+pub(crate) fn take_in<B: Builder, L: Ledger>(
+    levels: &mut [Level<B>],
+    part: B::Part,
+    steps: &mut Steps<L>,
+)
+    requires some { 0 < length levels.old }
+    requires levels { AreAllLevels B.Part.Part.contents B.Item.stamp B.Item.before levels.old }
+    requires rooms { HaveRoomsAbove IsDue levels.old }
+    requires of_level { IsOfLevel 0 (B.Part.Part.contents part) }
+    requires apart { AllStampsDiffer B.Item.stamp ((B.Part.Part.contents part).items ++ all_items B.Part.Part.contents levels.old) }
+    ensures levels { AreAllLevels B.Part.Part.contents B.Item.stamp B.Item.before levels.new }
+    ensures punctual { All (IsPunctual B.SLOPE B.BASE) levels.new }
+    ensures live { Permuted (live_items B.Part.Part.contents levels.new)
+        (live_of (B.Part.Part.contents part) ++ live_items B.Part.Part.contents levels.old) }
+    ensures items { IsPartOf (all_items B.Part.Part.contents levels.new)
+        ((B.Part.Part.contents part).items ++ all_items B.Part.Part.contents levels.old) }
+    ensures weight { weight_of levels.new ≡ weight_of levels.old + 1 }
+    ensures rooms { HaveRoomsAbove IsDueSoon levels.old → HaveRoomsAbove IsDue levels.new }
+    ensures as_many { length levels.new ≡ length levels.old }
+    ensures cost { (g : ℕ) → weight_of levels.new < 2 ^ (g + 1)
+        → IsWithin (quotas B.SLOPE B.BASE 1 g) (2 * g) (B.Part.Part.mark_touches g) steps.old steps.new }
+{
+    arrive(levels, part);
+    take_tick(levels, steps);
 }
