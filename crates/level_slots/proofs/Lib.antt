@@ -5,3 +5,6 @@ pub mod Publishing
 pub mod Neighbouring
 pub mod Towers
 pub mod Stacks
+pub mod Marks
+pub mod Noting
+pub mod MarkedLevels

@@ -1,7 +1,7 @@
 -- Neighbouring levels through a tick.
-use Rattle.std.proofs.Common.{◌≡◌, ℕ, suc, ◌+◌, ◌-◌, ◌*◌, ◌^◌, ◌<◌, ◌≤◌, ◌⊎◌, ◌∙◌, Bool, List, [], ◌∷◌, ◌++◌, Some, None, true, length, drop, inl, inr, refl, ap, ap₂, sym, subst, arith}
+use Rattle.std.proofs.Common.{◌≡◌, ℕ, suc, ◌+◌, ◌-◌, ◌*◌, ◌^◌, ◌<◌, ◌≤◌, ◌⊎◌, ◌∙◌, Bool, Option, List, [], ◌∷◌, ◌++◌, Some, None, true, false, length, drop, inl, inr, refl, ap, ap₂, sym, subst, arith}
 use Rattle.std.specs.List.{flat_map}
-use Rattle.std.specs.Option.{option_map_or}
+use Rattle.std.specs.Option.{option_map_or, is_some}
 use Rattle.std.proofs.lemmas.Nat.{pow_pos}
 use Rattle.query_laws.specs.Permuted.{Permuted}
 use Rattle.query_laws.proofs.Permutations.{Permuted-refl}
@@ -14,6 +14,10 @@ use Rattle.level_slots.proofs.Publishing.{doubled, live-published, items-publish
 
 pub none_ticks : {P Item : Type 0} (l : Slots P Item) → l.construction ≡ None → ticks_of l ≡ 0
 none_ticks l none = ap (λ o. option_map_or (λ c. c.ticks) o 0) none
+
+pub not_some : {A : Type 0} (o : Option A) → is_some o ≡ false → o ≡ None
+not_some None none = refl
+not_some (Some x) none = absurd cc
 
 module _ {P Item : Type 0} (contents : P → Contents Item) (stamp : Item → ℕ) (before : ℕ → Item → Item → Bool) where
   pub fed_by : (lower mid : Slots P Item) {a b : P} → lower.parts ≡ a ∷ b ∷ drop 2 lower.parts

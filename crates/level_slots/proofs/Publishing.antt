@@ -97,12 +97,16 @@ module _ {P Item : Type 0} (contents : P → Contents Item) {old lower new lower
       ∙ balanced n m w
       ∙ sym (ap₂ (λ a b. a + b) (ap (λ a. n * a) upper') (ap (λ a. a * w) two_fewer))
 
+pub higher : (k g : ℕ) → k ≤ g → 2 ^ k ≤ 2 ^ g
+higher k g few = ⊎_elim (λ less. omega (arith, pow-lt less)) (λ more. let same : k ≡ g = omega (arith, few, more) in omega (arith, ap (λ m. 2 ^ m) same))
+    (cases_lt k g)
+
 -- a level with two parts isn't above that of the weight
 pub light_below : (n k g rest : ℕ) → 2 ≤ n → n * 2 ^ k + rest < 2 ^ (g + 1) → k + 1 ≤ g
 light_below n k g rest two light = ⊎_elim
     (λ less. absurd (
     let twice : 2 * 2 ^ k ≤ n * 2 ^ k = grind (arith, two) in
-    let higher : 2 ^ (g + 1) ≤ 2 ^ (k + 1) = ⊎_elim (λ below. omega (arith, pow-lt below)) (λ above. let same : g + 1 ≡ k + 1 = omega (arith, less, above) in omega (arith, ap (λ m. 2 ^ m) same)) (cases_lt (g + 1) (k + 1)) in
-    omega (arith, light, twice, higher, doubled k)))
+    let above : 2 ^ (g + 1) ≤ 2 ^ (k + 1) = higher (g + 1) (k + 1) (omega (arith, less)) in
+    omega (arith, light, twice, above, doubled k)))
     (λ more. more)
     (cases_lt g (k + 1))

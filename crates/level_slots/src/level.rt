@@ -9,7 +9,7 @@ ghost use Rattle.partial_build.specs.Quota.{quota};
 ghost use Rattle.level_slots.specs.Slots.{ticks_of, live_in, items_in, asked_in};
 ghost use Rattle.level_slots.specs.Level.{IsOfLevel};
 ghost use Rattle.level_slots.specs.Neighbours.{IsConstructionOf, IsFed, IsPunctual, IsPublication};
-ghost use Rattle.level_slots.specs.Marking.{IsLiveIn, IsLiveAt};
+ghost use Rattle.level_slots.specs.Marking.{IsLiveIn, AreMarkedAt};
 ghost use Rattle.level_slots.specs.Cost.{IsWithin};
 
 use builder_trait::{Builder, Part};
@@ -220,9 +220,7 @@ impl<B: Builder> Level<B> {
         requires apart { AllStampsDiffer B.Item.stamp (items_in B.Part.Part.contents self.old) }
         requires owner { OwnsStamp B.Item.stamp item.now (items_in B.Part.Part.contents self.old) }
         ensures found { is_some result ≡ has_stamp B.Item.stamp (B.Item.stamp item.now) (live_in B.Part.Part.contents self.old) }
-        ensures place { IfSome result (IsLiveAt B.Part.Part.contents item.now self.old.parts) }
-        ensures marked { map B.Part.Part.contents self.new.parts
-            ≡ map (λ p. marked B.Item.stamp (B.Item.stamp item.now) (B.Part.Part.contents p)) self.old.parts }
+        ensures marked { AreMarkedAt B.Part.Part.contents B.Item.stamp item.now result self.old.parts self.new.parts }
         ensures same { self.new ≡ record self.old { parts = self.new.parts } }
         ensures cost { (h : ℕ) → self.old.level ≤ h
             → let marks = asked_in B.Part.Part.contents B.Item.stamp (B.Item.stamp item.now) self.old.parts in
@@ -249,9 +247,10 @@ impl<B: Builder> Level<B> {
             → IsConstructionOf B.Part.Part.contents B.Item.stamp B.Item.before a b self.old
             → IsConstructionOf B.Part.Part.contents B.Item.stamp B.Item.before a b' self.new }
     {
-        if let Some(construction) = &mut self.construction {
-            construction.note(item);
-        }
+        let Some(construction) = &mut self.construction else {
+            return;
+        };
+        construction.note(item);
     }
 }
 
@@ -261,20 +260,26 @@ fn mark_parts<B: Builder, L: Ledger>(
     item: &B::Item,
     steps: &mut Steps<L>,
 ) -> Option<usize>
+    requires few { length parts.old ≤ 3 }
     requires apart { AllStampsDiffer B.Item.stamp (flat_map (λ p. (B.Part.Part.contents p).items) parts.old) }
     requires owner { OwnsStamp B.Item.stamp item.now (flat_map (λ p. (B.Part.Part.contents p).items) parts.old) }
     ensures found { is_some result ≡ has_stamp B.Item.stamp (B.Item.stamp item.now) (flat_map (λ p. live_of (B.Part.Part.contents p)) parts.old) }
-    ensures place { IfSome result (IsLiveAt B.Part.Part.contents item.now parts.old) }
-    ensures marked { map B.Part.Part.contents parts.new
-        ≡ map (λ p. marked B.Item.stamp (B.Item.stamp item.now) (B.Part.Part.contents p)) parts.old }
+    ensures marked { AreMarkedAt B.Part.Part.contents B.Item.stamp item.now result parts.old parts.new }
+    ensures within { IfSome result (λ place. place < length parts.old) }
     ensures cost { (h : ℕ) → All (λ p. length (B.Part.Part.contents p).items ≤ 2 ^ h) parts.old
         → let marks = asked_in B.Part.Part.contents B.Item.stamp (B.Item.stamp item.now) parts.old in
         Spends steps.old steps.new 0 marks (marks * B.Part.Part.mark_touches h) }
 {
-    let (part, rest) = parts.split_first_mut()?;
-    if part.mark(item, steps) {
-        return Some(0);
+    match parts.split_first_mut() {
+        Some((part, rest)) => {
+            if part.mark(item, steps) {
+                return Some(0);
+            }
+            match mark_parts::<B, L>(rest, item, steps) {
+                Some(place) => Some(place + 1),
+                None => None,
+            }
+        }
+        None => None,
     }
-    let place = mark_parts::<B, L>(rest, item, steps)?;
-    Some(place + 1)
 }

@@ -1,7 +1,7 @@
 use Rattle.std.proofs.Common.{◌≡◌, ◌++◌, ◌∙◌, Option, Some, None, false, refl, ap, sym}
 use Rattle.std.specs.Option.{is_some}
 use Rattle.level_slots.specs.Slots.{ticks_of}
-use Rattle.level_slots.proofs.Neighbouring.{none_ticks}
+use Rattle.level_slots.proofs.Neighbouring.{none_ticks, not_some}
 use Rattle.level_slots.proofs.Distinct.{AllStampsDiffer-part, StampsDiffer-parts, IsPartOf-front, IsPartOf-back}
 use Rattle.level_slots.proofs.level.Level.begin.Goals as goal
 
@@ -20,10 +20,6 @@ begin-requires-clause-other_apart g c =
 pub begin-requires-clause-differ : goal.begin-requires-clause-differ
 begin-requires-clause-differ g c =
     StampsDiffer-parts g.B.Item.Item.stamp (g.B.Part.Part.contents c.args.a.now).items (g.B.Part.Part.contents c.args.b.now).items c.requires.apart
-
-not_some : {A : Type 0} (o : Option A) → is_some o ≡ false → o ≡ None
-not_some None none = refl
-not_some (Some x) none = absurd cc
 
 pub start-requires : goal.start-requires
 start-requires g c =
