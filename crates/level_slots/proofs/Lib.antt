@@ -8,3 +8,4 @@ pub mod Stacks
 pub mod Marks
 pub mod Noting
 pub mod MarkedLevels
+pub mod Joining

@@ -7,6 +7,7 @@ ghost use Rattle.builder_trait.specs.Parts.{OwnsStamp, has_stamp, marked};
 ghost use Rattle.partial_build.specs.Construction.{AllStampsDiffer, live_of};
 ghost use Rattle.partial_build.specs.Quota.{quota};
 ghost use Rattle.level_slots.specs.Slots.{ticks_of, live_in, items_in, asked_in};
+ghost use Rattle.level_slots.specs.Asking.{IsIdle};
 ghost use Rattle.level_slots.specs.Level.{IsOfLevel};
 ghost use Rattle.level_slots.specs.Neighbours.{IsConstructionOf, IsFed, IsPunctual, IsPublication};
 ghost use Rattle.level_slots.specs.Marking.{IsLiveIn, AreMarkedAt};
@@ -84,8 +85,17 @@ impl<B: Builder> Level<B> {
     pub(crate) fn parts(&self) -> &[B::Part]
         ensures value { result.now ≡ self.now.parts }
         ensures of_level { All (λ p. IsOfLevel self.now.level (B.Part.Part.contents p)) self.now.parts }
+        ensures few { length self.now.parts ≤ 3 }
     {
         self.parts.as_slice()
+    }
+
+    /// Whether there is neither a complete part nor a construction.
+    pub(crate) fn is_idle(&self) -> bool
+        ensures idle { result ≡ true → IsIdle self.now }
+        ensures busy { result ≡ false → IsIdle self.now → ⊥ }
+    {
+        self.parts.is_empty() && self.construction.is_none()
     }
 
     /// Takes in a part as the newest.

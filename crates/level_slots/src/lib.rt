@@ -5,6 +5,7 @@
 //! under construction is made of the two oldest of the level below. A question is put to the complete parts alone.
 #![tactic(auto)]
 
+mod asking;
 mod level;
 mod marking;
 mod stack;

@@ -1,5 +1,5 @@
 //! The stack.
-ghost use Rattle.std.specs.Prelude.{◌≡◌, ◌≢◌, ℕ, ◌+◌, ◌*◌, ◌^◌, ◌<◌, ◌≤◌, true, [], ◌∷◌, All, Contains, IsTrue, IfOk, IsErr, OnOk, OnErr, length};
+ghost use Rattle.std.specs.Prelude.{◌≡◌, ◌≢◌, ℕ, ◌+◌, ◌*◌, ◌^◌, ◌<◌, ◌≤◌, true, false, [], ◌∷◌, All, Contains, IsTrue, IfOk, IsErr, OnOk, OnErr, length};
 ghost use Rattle.query_laws.specs.Permuted.{Permuted};
 ghost use Rattle.query_laws.specs.StepLedger.{Spends};
 ghost use Rattle.builder_trait.specs.Parts.{without};
@@ -7,15 +7,17 @@ ghost use Rattle.builder_trait.specs.Builders.{begun};
 ghost use Rattle.partial_build.specs.Construction.{live_of};
 ghost use Rattle.partial_build.specs.Quota.{quota};
 ghost use Rattle.level_slots.specs.Slots.{Stacked, IsPartOf, live_items, all_items, weight_of, parts_of, asked};
+ghost use Rattle.level_slots.specs.Asking.{IsHeight, touches_of};
 ghost use Rattle.level_slots.specs.Level.{IsOfLevel};
 ghost use Rattle.level_slots.specs.Cost.{IsWithin, quotas};
 
+use crate::asking::ask_levels;
 use crate::level::Level;
 use crate::marking::take_out;
 use crate::visiting::take_in;
-use builder_trait::{Builder, Part, part_of_one};
+use builder_trait::{Answers, Asking, Builder, Part, part_of_one};
 use query_laws::step_ledger::Steps;
-use query_laws::{Item, NoMemory};
+use query_laws::{Item, NoMemory, Question};
 use std::alloc::Global;
 use std::marker::Model;
 use std::sync::ledger::Ledger;
@@ -130,6 +132,56 @@ impl<B: Builder> Stack<B> {
         ensures { result ≡ length (live_items B.Part.Part.contents self.now.levels) }
     {
         self.live
+    }
+
+    /// Puts a question to all complete parts, once each, those of the highest level first; a part under construction isn't asked.
+    /// It takes no memory of its own.
+    ///
+    /// `NoMemory` where the tally of the question wanted memory that wasn't given. The asking is then given up.
+    pub fn ask<Q: Question<Item = B::Item>, L: Ledger>(
+        &self,
+        asking: &mut Asking<B::Part, Q>,
+        steps: &mut Steps<L>,
+    ) -> Result<(), NoMemory>
+    where
+        B::Part: Answers<Q>,
+        requires going { asking.old.is_given_up ≡ false }
+        requires room { asking.old.parts + parts_of self.now.levels < 2 ^ 32 }
+        ensures joined { IfOk result (λ _. asking.new ≡ record asking.old {
+          so_far = Q.join asking.old.question asking.old.so_far
+              (Q.value asking.old.question (live_items B.Part.Part.contents self.now.levels));
+          parts = asking.old.parts + parts_of self.now.levels;
+        }) }
+        ensures given_up { OnErr result (asking.new
+            ≡ record asking.old { so_far = asking.new.so_far; parts = asking.new.parts; is_given_up = true }) }
+        ensures refused { IsErr result → IsTrue asking.old.refusable }
+        ensures cost { Spends steps.old steps.new 0 0 (touches_of (B.Part.ask_touches asking.old.question) self.now.levels) }
+    {
+        // It says that what was answered so far is lawful.
+        asking.consulted();
+        ask_levels::<B, Q, L>(&self.levels, asking, steps)
+    }
+
+    /// The number of complete parts.
+    pub fn parts(&self) -> u32
+        ensures { result ≡ parts_of self.now.levels }
+    {
+        let mut parts = 0;
+        for level in &self.levels {
+            parts += level.parts().len() as u32;
+        }
+        parts
+    }
+
+    /// The least number above every level that has a complete part or a construction, and 0 where there is none.
+    pub fn levels(&self) -> u32
+        ensures { IsHeight self.now.levels result }
+    {
+        let mut height = self.levels.len();
+        while height > 0 && self.levels[height - 1].is_idle() {
+            height -= 1;
+        }
+        height as u32
     }
 }
 
