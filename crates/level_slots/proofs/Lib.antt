@@ -5,3 +5,4 @@ pub mod Publishing
 pub mod Neighbouring
 pub mod Towers
 pub mod Stacks
+pub mod Forecasting

@@ -5,3 +5,4 @@ pub mod Level
 pub mod Stack
 pub mod Marking
 pub mod Rooms
+pub mod Preparing

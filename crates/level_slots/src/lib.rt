@@ -7,6 +7,7 @@
 
 mod level;
 mod marking;
+mod preparing;
 mod stack;
 mod visiting;
 
