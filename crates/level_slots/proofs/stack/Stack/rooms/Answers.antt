@@ -1,4 +1,4 @@
-use Rattle.std.proofs.Common.{◌≡◌, ◌+◌, ◌∙◌, length, sym, subst, ap, ap₂, arith}
+use Rattle.std.proofs.Common.{◌≡◌, ◌+◌, ◌∙◌, length, sym, subst, ap, arith}
 use Rattle.level_slots.specs.Rooms.{rooms_in, rooms_of}
 use Rattle.level_slots.specs.Preparing.{AreRising}
 use Rattle.level_slots.proofs.Forecasting.{rising, IsBounded-fits}
@@ -17,4 +17,6 @@ overflow_add-result g c =
 pub returns : goal.returns
 returns g c =
     let starters : c.len.result ≡ length c.self.inside.starters.items = omega (arith, c.len.ensures, c.self.inside.starters.ok.0) in
-    ap₂ (λ m n. m + n) starters (c.rooms_held.ensures.value ∙ ap rooms_in c.deref.ensures.value) ∙ ap rooms_of c.self.view_is
+    let held : c.rooms_held.result ≡ rooms_in c.self.inside.levels.items = c.rooms_held.ensures.value ∙ ap rooms_in c.deref.ensures.value in
+    let same : length c.self.inside.starters.items + rooms_in c.self.inside.levels.items ≡ rooms_of c.args.self.now = ap rooms_of c.self.view_is in
+    omega (arith, starters, held, same)
