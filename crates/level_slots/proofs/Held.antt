@@ -1,7 +1,7 @@
 -- The lists of a level.
-use Rattle.std.proofs.Common.{◌≡◌, ℕ, ◌+◌, ◌<◌, ◌≤◌, Option, Some, None, List, [], ◌∷◌, ◌++◌, ◌∙◌, length, remove, All, arith, ap, subst, sym}
+use Rattle.std.proofs.Common.{◌≡◌, ℕ, ◌+◌, ◌<◌, ◌≤◌, Option, Some, None, List, [], ◌∷◌, ◌++◌, ◌∙◌, length, remove, option_to_list, All, arith, ap, subst, sym}
 use Rattle.std.proofs.lemmas.List.{length-append}
-use Rattle.std.proofs.lemmas.List.Elements.{All-append, All-cons, All-nil, All-tail}
+use Rattle.std.proofs.lemmas.List.Elements.{All-append, All-cons, All-nil, All-pop, All-tail}
 use Rattle.builder_trait.specs.Parts.{Contents}
 use Rattle.builder_trait.specs.Builders.{Progress}
 use Rattle.partial_build.specs.Construction.{Construction}
@@ -20,6 +20,14 @@ module _ {X : Type 0} {IsOne : X → Type 0} {most : ℕ} {room : ℕ} where
   AreHeld-rest (x ∷ xs) some h = record {
     each = All-tail IsOne x xs h.each;
     few = omega (arith, h.few);
+    place = h.place;
+  }
+
+  pub AreHeld-popped : (xs ys : List X) (last : Option X) → xs ≡ ys ++ option_to_list last → AreHeld IsOne most xs room
+      → AreHeld IsOne most ys room
+  AreHeld-popped xs ys last same h = record {
+    each = (All-pop IsOne xs ys last same h.each).0;
+    few = omega (arith, h.few, ap length same, length-append ys (option_to_list last));
     place = h.place;
   }
 

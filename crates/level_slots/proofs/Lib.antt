@@ -9,3 +9,4 @@ pub mod Marks
 pub mod Noting
 pub mod MarkedLevels
 pub mod Joining
+pub mod Forecasting

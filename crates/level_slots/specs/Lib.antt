@@ -6,3 +6,4 @@ pub mod Stack
 pub mod Marking
 pub mod Rooms
 pub mod Asking
+pub mod Preparing

@@ -13,6 +13,8 @@ ghost use Rattle.level_slots.specs.Neighbours.{IsConstructionOf, IsFed, IsPunctu
 ghost use Rattle.level_slots.specs.Marking.{IsLiveIn, AreMarkedAt};
 ghost use Rattle.level_slots.specs.Cost.{IsWithin};
 
+mod rooms;
+
 use builder_trait::{Builder, Part};
 use partial_build::{Build, Room, Tables};
 use query_laws::step_ledger::Steps;

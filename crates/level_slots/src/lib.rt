@@ -8,6 +8,7 @@
 mod asking;
 mod level;
 mod marking;
+mod preparing;
 mod stack;
 mod visiting;
 

@@ -10,10 +10,12 @@ ghost use Rattle.level_slots.specs.Slots.{Stacked, IsPartOf, live_items, all_ite
 ghost use Rattle.level_slots.specs.Asking.{IsHeight, touches_of};
 ghost use Rattle.level_slots.specs.Level.{IsOfLevel};
 ghost use Rattle.level_slots.specs.Cost.{IsWithin, quotas};
+ghost use Rattle.level_slots.specs.Rooms.{rooms_of, kept_in, forecast_of};
 
 use crate::asking::ask_levels;
 use crate::level::Level;
 use crate::marking::take_out;
+use crate::preparing::{builders_kept, rooms_held, take_memory};
 use crate::visiting::take_in;
 use builder_trait::{Answers, Asking, Builder, Part, part_of_one};
 use query_laws::step_ledger::Steps;
@@ -182,6 +184,39 @@ impl<B: Builder> Stack<B> {
             height -= 1;
         }
         height as u32
+    }
+
+    /// Takes all memory that the next two ticks may want, by forecast: rooms are made only for constructions that may begin by then,
+    /// and the others are given back.
+    ///
+    /// `NoMemory` where it isn't given; nothing but rooms, kept builders and those for single items has changed then, and the spare
+    /// isn't lower.
+    pub fn prepare(&mut self) -> Result<(), NoMemory>
+        ensures spare { IfOk result (λ _. 2 ≤ self.new.spare) }
+        ensures no_lower { self.old.spare ≤ self.new.spare }
+        ensures live { live_items B.Part.Part.contents self.new.levels ≡ live_items B.Part.Part.contents self.old.levels }
+        ensures items { all_items B.Part.Part.contents self.new.levels ≡ all_items B.Part.Part.contents self.old.levels }
+        ensures weight { weight_of self.new.levels ≡ weight_of self.old.levels }
+        ensures parts { parts_of self.new.levels ≡ parts_of self.old.levels }
+        ensures rooms { IfOk result (λ _. rooms_of self.new ≤ 2 + forecast_of self.new.levels) }
+    {
+        take_memory(&mut self.levels, &mut self.starters, self.alloc)?;
+        self.spare = 2;
+        Ok(())
+    }
+
+    /// The weight of the rooms that are held and not begun: a room of level i weighs `2^i`, and a builder for a single item 1.
+    pub fn rooms(&self) -> u64
+        ensures { result ≡ rooms_of self.now }
+    {
+        self.starters.len() as u64 + rooms_held(&self.levels)
+    }
+
+    /// The weight of the builders that are kept of retired parts, at most three of each level: one of level i weighs `2^i`.
+    pub fn kept(&self) -> u64
+        ensures { result ≡ kept_in self.now.levels }
+    {
+        builders_kept(&self.levels)
     }
 }
 
