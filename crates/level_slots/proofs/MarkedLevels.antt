@@ -1,26 +1,26 @@
 -- An item that is marked as dead in one of several levels.
-use Rattle.std.proofs.Common.{◌≡◌, ◌≢◌, ℕ, zero, suc, ◌+◌, ◌-◌, ◌*◌, ◌^◌, ◌<◌, ◌≤◌, ◌==◌, ◌||◌, ◌∙◌, inl, inr, ⊎_elim, Bool, true, false, not, cond, if◌then◌else◌, Option, Some, None, List, [], ◌∷◌, ◌++◌, length, get_or, All, Contains, slice_get, refl, sym, ap, ap₂, subst, arith}
+use Rattle.std.proofs.Common.{◌≡◌, ◌≢◌, ℕ, zero, suc, ◌+◌, ◌*◌, ◌^◌, ◌<◌, ◌≤◌, ◌==◌, ◌||◌, ◌∙◌, inl, inr, ⊎_elim, Bool, true, false, not, cond, if◌then◌else◌, Some, List, [], ◌∷◌, ◌++◌, length, get_or, All, Contains, slice_get, refl, sym, ap, ap₂, subst, arith}
 use Rattle.std.specs.List.{flat_map, items_where_true}
 use Rattle.std.proofs.lemmas.Bool.{cases_lt}
 use Rattle.std.proofs.lemmas.Bool.Decides.{nat_tests}
 use Rattle.std.proofs.lemmas.List.{get_or_default}
 use Rattle.std.proofs.lemmas.List.Elements.{All-head, All-tail, Contains-append_left}
 use Rattle.std.proofs.lemmas.List.Sorted.{All-permutation}
-use Rattle.query_laws.specs.Permuted.{Permuted, nothing, same_head, composed}
+use Rattle.query_laws.specs.Permuted.{nothing, same_head, composed}
 use Rattle.query_laws.proofs.Permutations.{IsPermutation-from_Permuted, Permuted-middle, Permuted-refl}
 use Rattle.std.proofs.lemmas.Option.{slice_get-get_or}
 use Rattle.query_laws.specs.StepLedger.{Counts, Spends}
 use Rattle.query_laws.proofs.Counting.{Spends-then, Spends-within}
-use Rattle.builder_trait.specs.Parts.{Contents, OwnsStamp, has_stamp, without, marked}
+use Rattle.builder_trait.specs.Parts.{Contents, OwnsStamp, has_stamp, without}
 use Rattle.builder_trait.proofs.Marking.{has_stamp_none}
 use Rattle.partial_build.specs.Construction.{AllStampsDiffer, live_of}
 use Rattle.level_slots.specs.Slots.{Slots, IsPartOf, ticks_of, weight_in, weight_of, live_in, items_in, live_items, all_items, asked_in, asked}
-use Rattle.level_slots.specs.Neighbours.{IsBelow, IsTower, IsDue, IsDueSoon, HaveRooms, HaveRoomsAbove, stays}
+use Rattle.level_slots.specs.Neighbours.{IsTower, IsDue, IsDueSoon, HaveRooms, HaveRoomsAbove, stays}
 use Rattle.level_slots.specs.Stack.{AreLevels, AreAllLevels, AreHalfway, HaveRoomsNow, HaveRoomsNext}
 use Rattle.level_slots.specs.Marking.{AreNoted, IsSameBelow}
 use Rattle.level_slots.proofs.Distinct.{AllStampsDiffer-part, IsPartOf-append, IsPartOf-permuted, StampsDiffer-parts}
 use Rattle.level_slots.proofs.Publishing.{higher}
-use Rattle.level_slots.proofs.Marks.{All-each, has_stamp-append, without-append, without-lacking}
+use Rattle.level_slots.proofs.Marks.{All-each, has_stamp-append, without-lacking}
 use Rattle.level_slots.proofs.Towers.{below-same, halfway-from_tower, rooms_above, ahead-from_soon}
 
 module _ {P Item : Type 0} where

@@ -1,14 +1,14 @@
 -- Neighbouring levels through a tick.
-use Rattle.std.proofs.Common.{◌≡◌, ℕ, suc, ◌+◌, ◌-◌, ◌*◌, ◌^◌, ◌<◌, ◌≤◌, ◌⊎◌, ◌∙◌, Bool, Option, List, [], ◌∷◌, ◌++◌, Some, None, true, false, length, drop, inl, inr, refl, ap, ap₂, sym, subst, arith}
+use Rattle.std.proofs.Common.{◌≡◌, ℕ, suc, ◌+◌, ◌*◌, ◌^◌, ◌<◌, ◌≤◌, ◌⊎◌, ◌∙◌, Bool, Option, [], ◌∷◌, ◌++◌, Some, None, false, length, drop, inl, inr, refl, ap, ap₂, sym, subst, arith}
 use Rattle.std.specs.List.{flat_map}
 use Rattle.std.specs.Option.{option_map_or, is_some}
 use Rattle.std.proofs.lemmas.Nat.{pow_pos}
 use Rattle.query_laws.specs.Permuted.{Permuted}
 use Rattle.query_laws.proofs.Permutations.{Permuted-refl}
 use Rattle.builder_trait.specs.Parts.{Contents}
-use Rattle.partial_build.specs.Construction.{Construction, Builds, live_of}
+use Rattle.partial_build.specs.Construction.{Builds, live_of}
 use Rattle.level_slots.specs.Slots.{Slots, IsPartOf, ticks_of, weight_in, live_in, items_in}
-use Rattle.level_slots.specs.Neighbours.{IsBelow, IsVisited, IsTower, IsHalfway, IsConstructionOf, IsFed, IsDue, IsDueSoon, Advances, stays, arrives, HaveRooms, HaveRoomsAbove, HaveRoomsAhead, IsPublication}
+use Rattle.level_slots.specs.Neighbours.{IsBelow, IsVisited, IsConstructionOf, IsFed, stays, arrives, IsPublication}
 use Rattle.level_slots.proofs.Distinct.{IsPartOf-refl}
 use Rattle.level_slots.proofs.Publishing.{doubled, live-published, items-published, weight-published}
 

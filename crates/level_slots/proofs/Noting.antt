@@ -1,10 +1,10 @@
 -- Two neighbouring levels, where an item of the lower one is marked as dead.
-use Rattle.std.proofs.Common.{◌≡◌, ℕ, ◌+◌, ◌-◌, ◌*◌, ◌^◌, ◌<◌, ◌≤◌, ◌∙◌, Bool, Option, Some, None, List, [], ◌∷◌, length, refl, sym, ap, ap₂, subst, arith}
-use Rattle.std.specs.Option.{option_map, option_map_or, is_some}
+use Rattle.std.proofs.Common.{◌≡◌, ℕ, ◌+◌, ◌-◌, ◌*◌, ◌^◌, ◌≤◌, ◌∙◌, Bool, Option, Some, None, List, [], ◌∷◌, length, refl, sym, ap, ap₂, subst, arith}
+use Rattle.std.specs.Option.{option_map, is_some}
 use Rattle.builder_trait.specs.Parts.{Contents, marked}
-use Rattle.partial_build.specs.Construction.{Construction, Builds, KeepsUp}
+use Rattle.partial_build.specs.Construction.{Builds}
 use Rattle.level_slots.specs.Slots.{Slots, ticks_of}
-use Rattle.level_slots.specs.Neighbours.{IsBelow, IsTower, IsConstructionOf, IsFed}
+use Rattle.level_slots.specs.Neighbours.{IsTower, IsConstructionOf, IsFed}
 use Rattle.level_slots.specs.Marking.{IsLiveIn, Lacks, AreNoted, AreMarkedAt, nowhere, here, later}
 use Rattle.level_slots.proofs.Marks.{unmarked, length-marked}
 use Rattle.level_slots.proofs.Neighbouring.{not_some}

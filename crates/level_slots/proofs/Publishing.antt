@@ -7,7 +7,7 @@ use Rattle.std.proofs.lemmas.Bool.{cases_lt}
 use Rattle.std.proofs.lemmas.List.{append-nil, length-append}
 use Rattle.std.proofs.lemmas.Grind.{flat_map-append}
 use Rattle.query_laws.specs.Permuted.{Permuted}
-use Rattle.query_laws.proofs.Permutations.{Permuted-refl, Permuted-append_left, Permuted-append_right}
+use Rattle.query_laws.proofs.Permutations.{Permuted-append_left, Permuted-append_right}
 use Rattle.builder_trait.specs.Parts.{Contents}
 use Rattle.partial_build.specs.Construction.{live_of}
 use Rattle.level_slots.specs.Slots.{Slots, IsPartOf, weight_in, live_in, items_in}

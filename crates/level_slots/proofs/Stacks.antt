@@ -1,11 +1,11 @@
 -- A stack after a tick.
-use Rattle.std.proofs.Common.{◌≡◌, ℕ, zero, suc, ◌+◌, ◌-◌, ◌*◌, ◌^◌, ◌<◌, ◌≤◌, ◌∙◌, List, [], ◌∷◌, ◌++◌, Bool, length, take, drop, All, refl, ap, sym, subst, arith}
-use Rattle.std.proofs.lemmas.List.{append-nil}
+use Rattle.std.proofs.Common.{◌≡◌, ℕ, zero, suc, ◌+◌, ◌*◌, ◌^◌, ◌≤◌, ◌∙◌, List, [], ◌∷◌, ◌++◌, Bool, length, take, drop, All, refl, ap, sym, subst, arith}
+use Rattle.std.proofs.lemmas.List.Elements.{All-nil}
 use Rattle.query_laws.specs.StepLedger.{Counts}
 use Rattle.builder_trait.specs.Parts.{Contents}
 use Rattle.partial_build.specs.Construction.{AllStampsDiffer}
 use Rattle.partial_build.specs.Quota.{quota}
-use Rattle.level_slots.specs.Slots.{Slots, Stacked, weight_of, all_items}
+use Rattle.level_slots.specs.Slots.{Stacked, weight_of, all_items}
 use Rattle.level_slots.specs.Cost.{IsWithin, quotas}
 use Rattle.level_slots.specs.Neighbours.{IsPunctual, IsDue, IsDueSoon, HaveRoomsAbove}
 use Rattle.level_slots.specs.Stack.{IsStack, AreAllLevels}
@@ -27,6 +27,20 @@ written {A} n old new same as_long = subst (λ k. take k (new ++ drop (length ne
     whole (x ∷ l) = ap (λ m. x ∷ m) (whole l)
 
 module _ {P Item : Type 0} {contents : P → Contents Item} {stamp : Item → ℕ} {before : ℕ → Item → Item → Bool} {slope base : ℕ} where
+  pub IsStack-empty : IsStack contents stamp before slope base (record { levels = []; spare = 0; starters = 0 })
+  IsStack-empty = record {
+    levels = tt;
+    punctual = All-nil (IsPunctual slope base);
+    apart = λ i j d below within. absurd (omega (arith, within));
+    light = omega arith;
+    few = omega arith;
+    starters_few = omega arith;
+    spare_few = omega arith;
+    some = λ one. absurd (omega (arith, one));
+    rooms = λ one still. absurd (omega (arith, one));
+    rooms_ahead = λ two still. absurd (omega (arith, two));
+  }
+
   pub IsStack-ticked : (s s' : Stacked P Item) → IsStack contents stamp before slope base s → AreAllLevels contents stamp before s'.levels
       → All (IsPunctual slope base) s'.levels → AllStampsDiffer stamp (all_items contents s'.levels)
       → weight_of s.levels ≤ weight_of s'.levels → weight_of s'.levels ≤ 2 ^ 31 → length s'.levels ≡ length s.levels

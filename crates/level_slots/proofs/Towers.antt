@@ -1,19 +1,17 @@
 -- The levels above one, through a tick.
-use Rattle.std.proofs.Common.{◌≡◌, ℕ, suc, ◌+◌, ◌-◌, ◌*◌, ◌^◌, ◌<◌, ◌≤◌, ◌⊎◌, ◌∙◌, Bool, List, [], ◌∷◌, ◌++◌, Some, None, true, length, All, inl, inr, ⊎_elim, refl, ap, ap₂, sym, subst, arith, append_assoc}
+use Rattle.std.proofs.Common.{◌≡◌, ℕ, ◌+◌, ◌-◌, ◌*◌, ◌^◌, ◌<◌, ◌≤◌, ◌⊎◌, ◌∙◌, Bool, List, [], ◌∷◌, ◌++◌, Some, None, length, ⊎_elim, refl, ap, ap₂, sym, subst, arith, append_assoc}
 use Rattle.std.specs.List.{flat_map}
 use Rattle.std.specs.Option.{option_map_or}
 use Rattle.std.proofs.lemmas.Bool.{cases_lt}
 use Rattle.std.proofs.lemmas.List.{append-nil, length-append}
 use Rattle.std.proofs.lemmas.Grind.{flat_map-append}
-use Rattle.std.proofs.lemmas.Nat.{pow_pos}
 use Rattle.query_laws.specs.Permuted.{Permuted, composed}
 use Rattle.query_laws.proofs.Permutations.{Permuted-append_comm, Permuted-append_left, Permuted-append_right}
 use Rattle.builder_trait.specs.Parts.{Contents}
-use Rattle.partial_build.specs.Construction.{AllStampsDiffer}
 use Rattle.level_slots.specs.Slots.{Slots, IsPartOf, ticks_of, weight_in, weight_of, live_in, items_in, live_items, all_items}
 use Rattle.level_slots.specs.Neighbours.{IsBelow, IsVisited, IsTower, IsHalfway, IsFed, IsDue, IsDueSoon, Advances, stays, arrives, HaveRooms, HaveRoomsAbove, HaveRoomsAhead}
 use Rattle.level_slots.specs.Stack.{AreAllLevels}
-use Rattle.level_slots.proofs.Distinct.{IsPartOf-refl, IsPartOf-append, IsPartOf-then, IsPartOf-back, IsPartOf-front}
+use Rattle.level_slots.proofs.Distinct.{IsPartOf-refl, IsPartOf-append, IsPartOf-then, IsPartOf-front}
 use Rattle.level_slots.proofs.Publishing.{doubled}
 use Rattle.level_slots.proofs.Neighbouring.{none_ticks}
 

@@ -13,3 +13,6 @@ mod stack;
 mod visiting;
 
 pub use stack::Stack;
+
+#[cfg(test)]
+mod tests;

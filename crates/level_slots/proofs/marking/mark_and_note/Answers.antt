@@ -1,10 +1,9 @@
-use Rattle.std.proofs.Common.{◌≡◌, ◌≢◌, ℕ, ◌+◌, ◌-◌, ◌*◌, ◌^◌, ◌<◌, ◌≤◌, ◌∙◌, Bool, Option, Some, None, List, [], ◌∷◌, ◌++◌, length, All, refl, sym, ap, subst, arith}
+use Rattle.std.proofs.Common.{◌≡◌, ℕ, ◌∙◌, Some, None, ◌∷◌, All, sym, ap, subst, arith}
 use Rattle.std.proofs.lemmas.List.Elements.{All-head}
-use Rattle.level_slots.specs.Slots.{Slots, ticks_of}
+use Rattle.level_slots.specs.Slots.{ticks_of}
 use Rattle.level_slots.specs.Neighbours.{IsTower, IsConstructionOf, IsPunctual}
-use Rattle.level_slots.specs.Marking.{AreMarkedAt}
 use Rattle.level_slots.proofs.Marks.{live-marked, items-marked, length-marked, AreNoted-refl}
-use Rattle.level_slots.proofs.Noting.{Noted, tower-marked}
+use Rattle.level_slots.proofs.Noting.{tower-marked}
 use Rattle.level_slots.proofs.marking.mark_and_note.Goals as goal
 
 is_at : {m n : ℕ} → Some m ≡ Some n → m ≡ n

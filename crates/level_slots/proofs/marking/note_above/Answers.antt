@@ -1,5 +1,4 @@
-use Rattle.std.proofs.Common.{◌≡◌, ◌<◌, ◌∙◌, List, [], ◌∷◌, refl, sym, ap, subst, arith}
-use Rattle.level_slots.specs.Slots.{Slots}
+use Rattle.std.proofs.Common.{◌≡◌, ◌∙◌, ◌∷◌, refl, sym, subst}
 use Rattle.level_slots.specs.Neighbours.{IsConstructionOf}
 use Rattle.level_slots.specs.Marking.{AreNoted}
 use Rattle.level_slots.proofs.Marks.{AreNoted-refl}

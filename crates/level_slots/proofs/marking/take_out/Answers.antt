@@ -1,4 +1,4 @@
-use Rattle.std.proofs.Common.{◌≡◌, ℕ, ◌+◌, ◌*◌, ◌^◌, ◌<◌, ◌≤◌, ◌∙◌, List, refl, sym, ap, subst, arith}
+use Rattle.std.proofs.Common.{◌≡◌, ◌+◌, ◌*◌, ◌^◌, ◌<◌, ◌∙◌, sym, subst, arith}
 use Rattle.partial_build.specs.Construction.{AllStampsDiffer}
 use Rattle.level_slots.specs.Slots.{IsPartOf, weight_of, all_items, asked}
 use Rattle.level_slots.specs.Cost.{IsWithin, quotas}

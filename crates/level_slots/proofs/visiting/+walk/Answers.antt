@@ -1,17 +1,17 @@
-use Rattle.std.proofs.Common.{◌≡◌, ℕ, ◌+◌, ◌-◌, ◌*◌, ◌^◌, ◌<◌, ◌≤◌, ◌∙◌, List, [], ◌∷◌, ◌++◌, length, All, subst, sym, ap, inl, inr, ⊎_elim, arith}
+use Rattle.std.proofs.Common.{◌≡◌, ℕ, ◌+◌, ◌-◌, ◌*◌, ◌^◌, ◌<◌, ◌≤◌, ◌∙◌, ◌∷◌, length, subst, sym, ap, ⊎_elim, arith}
 use Rattle.std.proofs.lemmas.Bool.{cases_lt}
 use Rattle.std.proofs.lemmas.List.Elements.{All-cons}
 use Rattle.query_laws.specs.Permuted.{Permuted}
 use Rattle.query_laws.proofs.Permutations.{Permuted-refl}
 use Rattle.partial_build.specs.Construction.{AllStampsDiffer}
 use Rattle.partial_build.specs.Quota.{quota}
-use Rattle.level_slots.specs.Slots.{Slots, IsPartOf, ticks_of, weight_of, items_in, live_items, all_items}
+use Rattle.level_slots.specs.Slots.{IsPartOf, ticks_of, weight_of, items_in, live_items, all_items}
 use Rattle.level_slots.specs.Neighbours.{IsHalfway, IsTower, IsPunctual, IsDue, HaveRooms, HaveRoomsAbove, HaveRoomsAhead}
 use Rattle.level_slots.specs.Cost.{IsWithin, quotas}
 use Rattle.level_slots.proofs.Distinct.{AllStampsDiffer-part, IsPartOf-back, IsPartOf-refl}
 use Rattle.level_slots.proofs.Publishing.{light_below, none_of}
 use Rattle.level_slots.proofs.Towers.{place, rooms_above, halfway-from_tower, below-same, rooms-walked, live-walked, items-walked, part_of_rest, weight-walked, weight-rest}
-use Rattle.level_slots.proofs.Spending.{IsWithin-level, IsWithin-above, IsWithin-nothing}
+use Rattle.level_slots.proofs.Spending.{IsWithin-level, IsWithin-above}
 use Rattle.level_slots.proofs.visiting.+walk.Goals as goal
 
 lighter : {a b m : ℕ} → a ≤ b → b < m → a < m

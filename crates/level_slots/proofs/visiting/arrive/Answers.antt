@@ -1,11 +1,11 @@
-use Rattle.std.proofs.Common.{◌≡◌, ◌≢◌, ℕ, ◌+◌, ◌-◌, ◌*◌, ◌^◌, ◌<◌, ◌≤◌, ◌∙◌, Bool, List, [], ◌∷◌, ◌++◌, length, subst, sym, ap, arith}
+use Rattle.std.proofs.Common.{◌≡◌, ◌+◌, ◌∙◌, List, ◌∷◌, ◌++◌, subst, sym, ap, arith}
 use Rattle.std.specs.List.{flat_map}
 use Rattle.query_laws.specs.Permuted.{Permuted}
 use Rattle.partial_build.specs.Construction.{live_of}
-use Rattle.level_slots.specs.Slots.{Slots, ticks_of, weight_of, live_items, all_items}
+use Rattle.level_slots.specs.Slots.{ticks_of, weight_of, live_items, all_items}
 use Rattle.level_slots.specs.Level.{IsOfLevel}
-use Rattle.level_slots.specs.Neighbours.{IsDue, IsDueSoon, HaveRooms, HaveRoomsAbove, HaveRoomsAhead, arrives}
-use Rattle.level_slots.specs.Stack.{AreAllLevels, AreHalfway}
+use Rattle.level_slots.specs.Neighbours.{IsDue, IsDueSoon, HaveRooms, HaveRoomsAbove, arrives}
+use Rattle.level_slots.specs.Stack.{AreAllLevels}
 use Rattle.level_slots.proofs.Neighbouring.{none_ticks}
 use Rattle.level_slots.proofs.Towers.{place, halfway-from_tower, rooms_above, ahead-from_soon, pushed, at_once, weight-pushed}
 use Rattle.level_slots.proofs.visiting.arrive.Goals as goal

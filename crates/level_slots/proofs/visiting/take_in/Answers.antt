@@ -1,6 +1,5 @@
-use Rattle.std.proofs.Common.{◌≡◌, ◌++◌}
-use Rattle.query_laws.specs.Permuted.{Permuted, composed}
-use Rattle.query_laws.proofs.Permutations.{Permuted-sym}
+use Rattle.std.proofs.Common.{◌++◌}
+use Rattle.query_laws.specs.Permuted.{composed}
 use Rattle.level_slots.specs.Slots.{all_items}
 use Rattle.level_slots.proofs.Distinct.{AllStampsDiffer-part, IsPartOf-permuted, IsPartOf-then}
 use Rattle.level_slots.proofs.visiting.take_in.Goals as goal

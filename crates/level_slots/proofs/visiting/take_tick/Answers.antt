@@ -1,10 +1,10 @@
-use Rattle.std.proofs.Common.{◌≡◌, ◌≢◌, ℕ, ◌+◌, ◌-◌, ◌*◌, ◌^◌, ◌<◌, ◌≤◌, ◌∙◌, List, [], ◌∷◌, ◌++◌, Some, None, length, All, subst, sym, ap, arith}
+use Rattle.std.proofs.Common.{◌≡◌, ◌+◌, ◌-◌, ◌*◌, ◌^◌, ◌<◌, ◌∙◌, ◌∷◌, Some, None, subst, sym, ap, arith}
 use Rattle.std.proofs.lemmas.List.Elements.{All-cons}
 use Rattle.partial_build.specs.Construction.{AllStampsDiffer}
-use Rattle.level_slots.specs.Slots.{Slots, IsPartOf, weight_of, all_items}
-use Rattle.level_slots.specs.Neighbours.{IsPunctual, IsDue, HaveRooms}
+use Rattle.level_slots.specs.Slots.{IsPartOf, weight_of, all_items}
+use Rattle.level_slots.specs.Neighbours.{IsPunctual}
 use Rattle.level_slots.specs.Cost.{IsWithin, quotas}
-use Rattle.level_slots.specs.Stack.{AreAllLevels, AreHalfway, HaveRoomsNext}
+use Rattle.level_slots.specs.Stack.{AreHalfway, HaveRoomsNext}
 use Rattle.level_slots.proofs.Publishing.{none_of}
 use Rattle.level_slots.proofs.visiting.take_tick.Goals as goal
 

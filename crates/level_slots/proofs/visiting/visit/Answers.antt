@@ -1,7 +1,6 @@
-use Rattle.std.proofs.Common.{◌≡◌, ◌≢◌, ℕ, ◌+◌, ◌-◌, ◌*◌, ◌^◌, ◌<◌, ◌≤◌, ◌⊎◌, ◌∙◌, Option, Some, None, true, List, [], ◌∷◌, ◌++◌, length, get_or, drop, refl, sym, ap, subst, inl, inr, ⊎_elim, arith}
+use Rattle.std.proofs.Common.{◌≡◌, ◌+◌, ◌^◌, ◌<◌, ◌≤◌, ◌⊎◌, ◌∙◌, Option, Some, None, true, List, ◌++◌, length, drop, refl, sym, ap, subst, inl, inr, ⊎_elim, arith}
 use Rattle.std.specs.Option.{is_some}
 use Rattle.std.proofs.lemmas.Bool.{cases_lt}
-use Rattle.partial_build.specs.Construction.{Construction}
 use Rattle.level_slots.specs.Slots.{ticks_of, items_in}
 use Rattle.level_slots.specs.Neighbours.{IsVisited}
 use Rattle.level_slots.proofs.Distinct.{AllStampsDiffer-part}

@@ -1,6 +1,6 @@
-use Rattle.std.proofs.Common.{◌≡◌, ℕ, ◌<◌, ap, subst, sym, arith, length}
+use Rattle.std.proofs.Common.{ap, subst, sym, arith, length}
 use Rattle.std.specs.Vec.{vec_capacity}
-use Rattle.level_slots.specs.Level.{IsLevel, IsOfLevel, AreHeld}
+use Rattle.level_slots.specs.Level.{IsOfLevel, AreHeld}
 use Rattle.level_slots.proofs.Held.{AreHeld-push}
 use Rattle.level_slots.proofs.level.Level.arrive.Goals as goal
 

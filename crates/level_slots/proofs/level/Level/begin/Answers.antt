@@ -1,4 +1,4 @@
-use Rattle.std.proofs.Common.{◌≡◌, ◌++◌, ◌∙◌, Option, Some, None, false, refl, ap, sym}
+use Rattle.std.proofs.Common.{◌≡◌, ◌++◌, ◌∙◌, None, ap, sym}
 use Rattle.std.specs.Option.{is_some}
 use Rattle.level_slots.specs.Slots.{ticks_of}
 use Rattle.level_slots.proofs.Neighbouring.{none_ticks, not_some}

@@ -1,9 +1,7 @@
-use Rattle.std.proofs.Common.{◌≡◌, ℕ, ◌*◌, ◌^◌, ◌≤◌, ◌<◌, ◌++◌, ◌∙◌, Bool, List, length, get_or, take, drop, All, ap, sym, subst, arith}
-use Rattle.std.proofs.Math.Pow.{pow-lt}
-use Rattle.std.proofs.lemmas.Bool.{cases_lt}
+use Rattle.std.proofs.Common.{◌≡◌, ℕ, ◌*◌, ◌^◌, ◌≤◌, ◌∙◌, length, All, ap, sym, subst, arith}
 use Rattle.query_laws.specs.StepLedger.{Spends}
-use Rattle.level_slots.specs.Slots.{Slots, asked_in}
-use Rattle.level_slots.specs.Level.{IsLevel, IsOfLevel, AreHeld}
+use Rattle.level_slots.specs.Slots.{asked_in}
+use Rattle.level_slots.specs.Level.{IsOfLevel, AreHeld}
 use Rattle.level_slots.specs.Marking.{AreMarkedAt}
 use Rattle.level_slots.proofs.Publishing.{higher}
 use Rattle.level_slots.proofs.Marks.{of_level-marked, length-marked}

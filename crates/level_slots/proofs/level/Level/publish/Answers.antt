@@ -1,6 +1,6 @@
-use Rattle.std.proofs.Common.{◌≡◌, ℕ, ◌+◌, ◌-◌, ◌^◌, ◌<◌, ◌≤◌, ◌∙◌, List, [], ◌∷◌, ◌++◌, Option, Some, None, length, refl, ap, sym, subst, arith}
+use Rattle.std.proofs.Common.{◌≡◌, ◌^◌, ◌<◌, ◌∙◌, [], ◌∷◌, ◌++◌, Option, length, ap, sym, subst, arith}
 use Rattle.std.specs.Option.{option_map_or}
-use Rattle.partial_build.specs.Construction.{Construction, IsPublished, skipped_of}
+use Rattle.partial_build.specs.Construction.{Construction, skipped_of}
 use Rattle.level_slots.specs.Slots.{ticks_of}
 use Rattle.level_slots.specs.Level.{IsOfLevel}
 use Rattle.level_slots.proofs.Publishing.{two_oldest, none_of}

@@ -1,7 +1,7 @@
-use Rattle.std.proofs.Common.{◌≡◌, ℕ, ◌<◌, ◌≤◌, ◌++◌, ◌∷◌, [], ◌∙◌, length, remove, ap, sym, subst, arith}
+use Rattle.std.proofs.Common.{◌≡◌, ◌<◌, ◌∙◌, length, ap, sym, subst, arith}
 use Rattle.std.specs.Vec.{vec_capacity}
 use Rattle.builder_trait.specs.Builders.{begun}
-use Rattle.level_slots.specs.Level.{IsLevel, IsOfLevel, AreHeld}
+use Rattle.level_slots.specs.Level.{IsOfLevel, AreHeld}
 use Rattle.level_slots.proofs.Held.{AreHeld-push, AreHeld-rest}
 use Rattle.level_slots.proofs.level.Level.retire.Goals as goal
 

@@ -1,4 +1,4 @@
-use Rattle.std.proofs.Common.{◌≡◌, ◌∙◌, ap, sym}
+use Rattle.std.proofs.Common.{◌∙◌, ap, sym}
 use Rattle.level_slots.proofs.Held.{IsLevel-building}
 use Rattle.level_slots.proofs.level.Level.start.Goals as goal
 

@@ -1,5 +1,4 @@
-use Rattle.std.proofs.Common.{◌≡◌, ℕ, ◌+◌, ◌-◌, ◌*◌, ◌≤◌, ◌∙◌, Some, ap, sym, subst, arith, Bool, true, false, if◌then◌else◌, min, length}
-use Rattle.query_laws.specs.StepLedger.{Spends}
+use Rattle.std.proofs.Common.{◌≡◌, ℕ, ◌≤◌, ◌∙◌, ap, sym, subst, arith, Bool, true, false, if◌then◌else◌, min, length}
 use Rattle.partial_build.specs.Quota.{quota}
 use Rattle.level_slots.specs.Cost.{IsWithin}
 use Rattle.level_slots.proofs.Held.{IsLevel-building}

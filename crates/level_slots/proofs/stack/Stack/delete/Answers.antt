@@ -1,14 +1,14 @@
-use Rattle.std.proofs.Common.{◌≡◌, ◌≢◌, ℕ, ◌+◌, ◌-◌, ◌*◌, ◌^◌, ◌<◌, ◌≤◌, ◌∙◌, List, length, All, Contains, refl, ap, sym, subst, arith}
+use Rattle.std.proofs.Common.{◌≡◌, ◌+◌, ◌-◌, ◌*◌, ◌^◌, ◌<◌, ◌≤◌, ◌∙◌, length, All, Contains, ap, sym, subst, arith}
 use Rattle.query_laws.specs.Permuted.{Permuted}
 use Rattle.query_laws.proofs.Permutations.{Permuted-length}
 use Rattle.builder_trait.specs.Parts.{without}
 use Rattle.builder_trait.specs.Builders.{begun}
 use Rattle.partial_build.specs.Construction.{AllStampsDiffer}
-use Rattle.level_slots.specs.Slots.{Slots, Stacked, IsPartOf, weight_of, live_items, all_items, asked}
+use Rattle.level_slots.specs.Slots.{Stacked, IsPartOf, weight_of, live_items, all_items, asked}
 use Rattle.level_slots.specs.Neighbours.{IsPunctual, IsDue, IsDueSoon, HaveRoomsAbove}
 use Rattle.level_slots.specs.Stack.{IsStack, AreAllLevels}
 use Rattle.level_slots.specs.Cost.{IsWithin, quotas}
-use Rattle.level_slots.proofs.Distinct.{AllStampsDiffer-part, IsPartOf-permuted}
+use Rattle.level_slots.proofs.Distinct.{AllStampsDiffer-part}
 use Rattle.level_slots.proofs.MarkedLevels.{one_fewer}
 use Rattle.level_slots.proofs.Stacks.{written, IsStack-ticked}
 use Rattle.level_slots.proofs.stack.Stack.delete.Goals as goal

@@ -1,12 +1,11 @@
-use Rattle.std.proofs.Common.{◌≡◌, ◌≢◌, ℕ, ◌+◌, ◌-◌, ◌*◌, ◌^◌, ◌<◌, ◌≤◌, ◌∙◌, List, [], ◌∷◌, ◌++◌, length, All, Fits, w64, refl, ap, sym, subst, arith}
+use Rattle.std.proofs.Common.{◌≡◌, ◌≢◌, ℕ, ◌+◌, ◌-◌, ◌^◌, ◌<◌, ◌≤◌, ◌∙◌, List, [], ◌∷◌, ◌++◌, length, All, ap, sym, subst, arith}
 use Rattle.query_laws.specs.Permuted.{Permuted}
 use Rattle.query_laws.proofs.Permutations.{Permuted-length}
 use Rattle.builder_trait.specs.Builders.{begun}
-use Rattle.partial_build.specs.Construction.{AllStampsDiffer, live_of}
-use Rattle.level_slots.specs.Slots.{Slots, Stacked, IsPartOf, weight_of, live_items, all_items}
-use Rattle.level_slots.specs.Neighbours.{IsPunctual, IsDue, IsDueSoon, HaveRoomsAbove}
+use Rattle.partial_build.specs.Construction.{AllStampsDiffer}
+use Rattle.level_slots.specs.Slots.{Stacked, IsPartOf, weight_of, live_items, all_items}
+use Rattle.level_slots.specs.Neighbours.{IsDue, IsDueSoon, HaveRoomsAbove}
 use Rattle.level_slots.specs.Stack.{IsStack, AreAllLevels}
-use Rattle.level_slots.specs.Cost.{IsWithin, quotas}
 use Rattle.level_slots.proofs.Distinct.{AllStampsDiffer-push, AllStampsDiffer-part}
 use Rattle.level_slots.proofs.Stacks.{written, IsStack-ticked, IsWithin-first}
 use Rattle.level_slots.proofs.stack.Stack.insert.Goals as goal
