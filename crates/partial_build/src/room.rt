@@ -112,6 +112,15 @@ impl<B: Builder> Room<B> {
         Room { builder, tables }
     }
 
+    /// Its builder and its tables, to which nothing was put.
+    pub fn into_parts(self) -> (B, Tables<B>)
+        ensures tables { result.1 ≡ self }
+        ensures begun { B.progress result.0 ≡ begun self }
+    {
+        let Room { builder, tables } = self;
+        (builder, tables)
+    }
+
     /// Begins the construction of the part of a and b, whose items have all different stamps. It counts nothing.
     pub fn begin(self, a: &B::Part, b: &B::Part) -> Build<B>
         requires fits { length (B.Part.Part.contents a.now).items ≤ 2 ^ (self - 1) }

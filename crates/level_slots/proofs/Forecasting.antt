@@ -1,0 +1,468 @@
+-- Rooms by forecast, and what a preparation keeps.
+use Rattle.std.proofs.Common.{◌≡◌, ℕ, suc, ◌+◌, ◌-◌, ◌*◌, ◌^◌, ◌<◌, ◌≤◌, ◌∙◌, Bool, false, List, [], ◌∷◌, ◌++◌, Some, None, length, All, if◌then◌else◌, nat_le, ⊎_elim, Result, Ok, Err, IfOk, slice_get, get_or, set, refl, ap, ap₂, sym, subst, arith, pow_mono, le-leb}
+use Rattle.std.proofs.Math.Nat.{mul-le-mul_left, mul-le-mul_right}
+use Rattle.std.proofs.lemmas.Bool.{cases_lt}
+use Rattle.std.proofs.lemmas.List.{length-append}
+use Rattle.std.proofs.lemmas.Nat.{pow_pos}
+use Rattle.std.proofs.lemmas.List.Elements.{All-cons, All-head, All-push, All-tail}
+use Rattle.builder_trait.specs.Parts.{Contents}
+use Rattle.partial_build.specs.Construction.{AllStampsDiffer}
+use Rattle.level_slots.specs.Slots.{Slots, ticks_of, weight_in, weight_of, parts_of, live_in, items_in, live_items, all_items}
+use Rattle.level_slots.specs.Neighbours.{IsBelow, IsTower, IsPunctual, IsDue, IsDueSoon, HaveRooms, HaveRoomsAbove}
+use Rattle.level_slots.specs.Rooms.{rooms_in, forecast_of}
+use Rattle.level_slots.specs.Stack.{AreAllLevels, IsStack}
+use Rattle.level_slots.specs.Preparing.{AreNumbered, AreRising, KeepRooms, KeepRoomsAbove, AreForecast, IsHighestQuiet, AreEnough, IsBounded, IsKept}
+use Rattle.level_slots.proofs.Publishing.{doubled}
+use Rattle.level_slots.proofs.Neighbouring.{none_ticks}
+
+module _ {P Item : Type 0} where
+  -- a level is as it was, but for its room and kept builders
+  abbrev pub IsSame : Slots P Item → Slots P Item → Type 0
+  IsSame l l' = l' ≡ record l { has_room = l'.has_room; kept = l'.kept }
+
+  -- a level without parts
+  abbrev pub unused : ℕ → Slots P Item
+  unused n = record { level = n; parts = []; construction = None; has_room = false; kept = 0 }
+
+  pub KeepRooms-refl : (lower : Slots P Item) (above : List (Slots P Item)) → KeepRooms lower above above
+  KeepRooms-refl lower [] = refl
+  KeepRooms-refl lower (l ∷ above) = (refl, (λ soon held. held), KeepRooms-refl l above)
+
+  pub numbered-from : (l l' : Slots P Item) (above : List (Slots P Item)) → l'.level ≡ l.level → AreNumbered l above → AreNumbered l' above
+  numbered-from l l' [] same h = tt
+  numbered-from l l' (next ∷ above) same h = (h.0 ∙ ap (λ k. k + 1) (sym same), h.1)
+
+  pub rising-rest : (l : Slots P Item) (above : List (Slots P Item)) → AreNumbered l above → AreRising above
+  rising-rest l [] h = tt
+  rising-rest l (next ∷ above) h = h.1
+
+  pub numbered-kept : (lower lower' : Slots P Item) (old new : List (Slots P Item)) → lower'.level ≡ lower.level → KeepRooms lower old new
+      → AreNumbered lower old → AreNumbered lower' new
+  numbered-kept lower lower' [] new same k h = subst (AreNumbered lower') (sym k) tt
+  numbered-kept lower lower' (l ∷ old) [] same k h = absurd k
+  numbered-kept lower lower' (l ∷ old) (l' ∷ new) same k h =
+      (ap (λ v. v.level) k.0 ∙ h.0 ∙ ap (λ n. n + 1) (sym same), numbered-kept l l' old new (ap (λ v. v.level) k.0) k.2 h.1)
+
+  -- the lower level's room and kept builders don't matter
+  pub KeepRooms-from : (l l' : Slots P Item) (old new : List (Slots P Item)) → IsSame l l' → KeepRooms l' old new → KeepRooms l old new
+  KeepRooms-from l l' [] new same k = k
+  KeepRooms-from l l' (m ∷ old) [] same k = absurd k
+  KeepRooms-from l l' (m ∷ old) (m' ∷ new) same k =
+      (k.0, (λ soon. k.1 (subst (λ (v : Slots P Item). IsDueSoon l → IsDueSoon v) (sym same) (λ d. d) soon)), k.2)
+
+  -- where only kept builders changed
+  pub IsSame-kept : (l l' : Slots P Item) (n : ℕ) → l' ≡ record l { kept = n } → IsSame l l'
+  IsSame-kept l l' n same = subst (λ (v : Slots P Item). v ≡ record l { has_room = v.has_room; kept = v.kept }) (sym same) refl
+
+  pub rooms-forecast : (lower : Slots P Item) (above : List (Slots P Item)) → AreNumbered lower above → AreForecast lower above
+      → rooms_in above ≤ forecast_of (lower ∷ above)
+  rooms-forecast lower [] numbered h = omega arith
+  rooms-forecast lower (next ∷ above) numbered h =
+      let first : (if next.has_room then 2 ^ next.level else 0) ≡ (if nat_le (2 ^ lower.level) (ticks_of lower + 2) then 2 ^ (lower.level + 1) else 0) =
+      ap₂ (λ b n. if b then 2 ^ n else 0) h.0 numbered.0 in
+      omega (arith, first, rooms-forecast next above numbered.1 h.1)
+
+  pub rooms-few : (l : Slots P Item) (above : List (Slots P Item)) → l.has_room ≡ false → AreNumbered l above → AreForecast l above
+      → rooms_in (l ∷ above) ≤ forecast_of (l ∷ above)
+  rooms-few l above none numbered h =
+      let nothing : (if l.has_room then 2 ^ l.level else 0) ≡ 0 = ap (λ b. if b then 2 ^ l.level else 0) none in
+      omega (arith, nothing, rooms-forecast l above numbered h)
+
+  pub rooms-ready : (lower : Slots P Item) (above : List (Slots P Item)) → AreForecast lower above → IsHighestQuiet lower above
+      → HaveRooms IsDueSoon lower above
+  rooms-ready lower [] h quiet = quiet
+  rooms-ready lower (next ∷ above) h quiet =
+      (λ due. h.0 ∙ le-leb (2 ^ lower.level) (ticks_of lower + 2) due, rooms-ready next above h.1 quiet)
+
+  pub quiet-highest : (lower : Slots P Item) (above : List (Slots P Item)) (highest : Slots P Item)
+      → slice_get (lower ∷ above) (length above) ≡ Some highest → (IsDueSoon highest → ⊥) → IsHighestQuiet lower above
+  quiet-highest lower [] highest is quiet = let same : lower ≡ highest = cc in subst (λ (v : Slots P Item). IsDueSoon v → ⊥) (sym same) quiet
+  quiet-highest lower (next ∷ above) highest is quiet = quiet-highest next above highest is quiet
+
+  pub enough-highest : (levels : List (Slots P Item)) (highest : Slots P Item) → slice_get levels (length levels - 1) ≡ Some highest
+      → (IsDueSoon highest → ⊥) → AreEnough levels
+  enough-highest [] highest is quiet = absurd cc
+  enough-highest (lower ∷ above) highest is quiet =
+      let last : suc (length above) - 1 ≡ length above = omega arith in
+      quiet-highest lower above highest (subst (λ n. slice_get (lower ∷ above) n ≡ Some highest) last is) quiet
+
+  rooms-from : (due : Slots P Item → Type 0) (l l' : Slots P Item) (above : List (Slots P Item)) → (due l' → due l) → HaveRooms due l above
+      → HaveRooms due l' above
+  rooms-from due l l' [] back h = λ d. h (back d)
+  rooms-from due l l' (next ∷ above) back h = (λ d. h.0 (back d), h.1)
+
+  rooms-kept : (due : Slots P Item → Type 0) → ((l : Slots P Item) → due l → IsDueSoon l) → ((l l' : Slots P Item) → IsSame l l' → due l' → due l)
+      → (lower lower' : Slots P Item) (old new : List (Slots P Item)) → IsSame lower lower' → KeepRooms lower old new → HaveRooms due lower old
+      → HaveRooms due lower' new
+  rooms-kept due soon back lower lower' [] new same k h = subst (HaveRooms due lower') (sym k) (λ d. h (back lower lower' same d))
+  rooms-kept due soon back lower lower' (l ∷ old) [] same k h = absurd k
+  rooms-kept due soon back lower lower' (l ∷ old) (l' ∷ new) same k h = (
+    λ d. let due' = back lower lower' same d in k.1 (soon lower due') (h.0 due'),
+    rooms-kept due soon back l l' old new k.0 k.2 h.1,
+  )
+
+  rooms_above-kept : (due : Slots P Item → Type 0) → ((l : Slots P Item) → due l → IsDueSoon l) → ((l l' : Slots P Item) → IsSame l l' → due l' → due l)
+      → (old new : List (Slots P Item)) → KeepRoomsAbove old new → HaveRoomsAbove due old → HaveRoomsAbove due new
+  rooms_above-kept due soon back [] new k h = subst (HaveRoomsAbove due) (sym k) tt
+  rooms_above-kept due soon back (l ∷ old) [] k h = absurd k
+  rooms_above-kept due soon back (l ∷ old) (l' ∷ new) k h = rooms-kept due soon back l l' old new k.0 k.1 h
+
+  due_is_soon : (l : Slots P Item) → IsDue l → IsDueSoon l
+  due_is_soon l d = omega (arith, d.1)
+
+  due-back : (l l' : Slots P Item) → IsSame l l' → IsDue l' → IsDue l
+  due-back l l' same = subst (λ (v : Slots P Item). IsDue v → IsDue l) (sym same) (λ d. d)
+
+  soon-back : (l l' : Slots P Item) → IsSame l l' → IsDueSoon l' → IsDueSoon l
+  soon-back l l' same = subst (λ (v : Slots P Item). IsDueSoon v → IsDueSoon l) (sym same) (λ d. d)
+
+  pub IsBounded-more : (k : ℕ) (l : Slots P Item) (above : List (Slots P Item)) (m n : ℕ) → AreNumbered l above → l.level < 32
+      → m ≤ k * 2 ^ l.level → IsBounded k above n → IsBounded k (l ∷ above) (m + n)
+  IsBounded-more k l [] m n numbered most few h =
+      let up : l.level + 1 ≤ 32 = omega (arith, most) in
+      let higher : 2 ^ (l.level + 1) ≤ 2 ^ 32 = pow_mono up in
+      more k (2 ^ l.level) (2 ^ 32) m n (omega (arith, higher, doubled l.level)) few h
+    where
+      more : (k p q m n : ℕ) → 2 * p ≤ q → m ≤ k * p → n ≡ 0 → m + n + k * p ≤ k * q
+      more k p q m n higher few none = let product : k * (2 * p) ≤ k * q = mul-le-mul_left k higher in omega (arith, product, few, none)
+  IsBounded-more k l (next ∷ above) m n numbered most few h =
+      more k (2 ^ l.level) (2 ^ next.level) (k * 2 ^ 32) m n (ap (λ j. 2 ^ j) numbered.0 ∙ doubled l.level) few h
+    where
+      more : (k p q b m n : ℕ) → q ≡ 2 * p → m ≤ k * p → n + k * q ≤ b → m + n + k * p ≤ b
+      more k p q b m n double few h = let product : k * q ≡ k * (2 * p) = ap (λ v. k * v) double in omega (arith, product, few, h)
+
+  pub IsBounded-fits : (k : ℕ) (levels : List (Slots P Item)) (n : ℕ) → IsBounded k levels n → n ≤ k * 2 ^ 32
+  IsBounded-fits k [] n h = omega (arith, h)
+  IsBounded-fits k (l ∷ above) n h = omega (arith, h)
+
+  quiet-kept : (lower lower' : Slots P Item) (old new : List (Slots P Item)) → IsSame lower lower' → KeepRooms lower old new
+      → IsHighestQuiet lower old → IsHighestQuiet lower' new
+  quiet-kept lower lower' [] new same k quiet = subst (IsHighestQuiet lower') (sym k) (λ d. quiet (soon-back lower lower' same d))
+  quiet-kept lower lower' (l ∷ old) [] same k quiet = absurd k
+  quiet-kept lower lower' (l ∷ old) (l' ∷ new) same k quiet = quiet-kept l l' old new k.0 k.2 quiet
+
+  enough-kept : (old new : List (Slots P Item)) → KeepRoomsAbove old new → AreEnough old → AreEnough new
+  enough-kept [] new k quiet = absurd quiet
+  enough-kept (l ∷ old) [] k quiet = absurd k
+  enough-kept (l ∷ old) (l' ∷ new) k quiet = quiet-kept l l' old new k.0 k.1 quiet
+
+  due_from_soon : (lower : Slots P Item) (above : List (Slots P Item)) → HaveRooms IsDueSoon lower above → HaveRooms IsDue lower above
+  due_from_soon lower [] h = λ d. h (due_is_soon lower d)
+  due_from_soon lower (next ∷ above) h = (λ d. h.0 (due_is_soon lower d), due_from_soon next above h.1)
+
+  due_above-from_soon : (levels : List (Slots P Item)) → HaveRoomsAbove IsDueSoon levels → HaveRoomsAbove IsDue levels
+  due_above-from_soon [] h = tt
+  due_above-from_soon (lower ∷ above) h = due_from_soon lower above h
+
+pub when_ok : {A E p q : Type 0} (r : Result A E) → (p → q) → IfOk r (λ _. p) → IfOk r (λ _. q)
+when_ok (Ok x) f h = f h
+when_ok (Err e) f h = tt
+
+pub anyway_ok : {A E p : Type 0} (r : Result A E) → p → IfOk r (λ _. p)
+anyway_ok (Ok x) h = h
+anyway_ok (Err e) h = tt
+
+module _ {P Item : Type 0} (contents : P → Contents Item) where
+  same-kept : (lower : Slots P Item) (old new : List (Slots P Item)) → KeepRooms lower old new
+      → (live_items contents new ≡ live_items contents old) × (all_items contents new ≡ all_items contents old)
+      × (weight_of new ≡ weight_of old) × (parts_of new ≡ parts_of old) × (length new ≡ length old)
+  same-kept lower [] new k = (ap (live_items contents) k, ap (all_items contents) k, ap weight_of k, ap parts_of k, ap length k)
+  same-kept lower (l ∷ old) [] k = absurd k
+  same-kept lower (l ∷ old) (l' ∷ new) k =
+      let rest = same-kept l old new k.2 in (
+        ap₂ (λ xs ys. xs ++ ys) rest.0 (ap (live_in contents) k.0),
+        ap₂ (λ xs ys. xs ++ ys) rest.1 (ap (items_in contents) k.0),
+        ap₂ (λ m n. m + n) (ap weight_in k.0) rest.2,
+        ap₂ (λ m n. m + n) (ap (λ v. length v.parts) k.0) rest.3,
+        ap suc rest.4,
+      )
+
+  module _ (stamp : Item → ℕ) (before : ℕ → Item → Item → Bool) where
+    pub numbered-tower : (lower : Slots P Item) (above : List (Slots P Item)) → IsTower contents stamp before lower above → AreNumbered lower above
+    numbered-tower lower [] tower = tt
+    numbered-tower lower (next ∷ above) tower = (tower.0.next_level, numbered-tower next above tower.1)
+
+    pub rising : (levels : List (Slots P Item)) → AreAllLevels contents stamp before levels → AreRising levels
+    rising [] h = tt
+    rising (lowest ∷ above) h = numbered-tower lowest above h.2
+
+    pub lowest_level : (levels : List (Slots P Item)) (l : Slots P Item) → 0 < length levels → l ≡ get_or levels 0 l
+        → AreAllLevels contents stamp before levels → l.level ≡ 0
+    lowest_level [] l some is h = absurd (omega (arith, some))
+    lowest_level (x ∷ above) l some is h = ap (λ v. v.level) is ∙ h.0
+
+    below-kept : (lower lower' l l' : Slots P Item) → IsSame lower lower' → IsSame l l' → IsBelow contents stamp before 1 lower l
+        → IsBelow contents stamp before 1 lower' l'
+    below-kept lower lower' l l' below same h =
+        let level : lower'.level ≡ lower.level = ap (λ v. v.level) below in
+        let parts : lower'.parts ≡ lower.parts = ap (λ v. v.parts) below in
+        let as_long : length lower'.parts ≡ length lower.parts = ap length parts in
+        let construction : l'.construction ≡ l.construction = ap (λ v. v.construction) same in
+        let upper : l'.level ≡ l.level = ap (λ v. v.level) same in
+        let ticks : ticks_of l' ≡ ticks_of l = ap (λ v. ticks_of v) same in
+        let ticks_below : ticks_of lower' ≡ ticks_of lower = ap (λ v. ticks_of v) below in
+        let weight : (length lower'.parts - 2) * 2 ^ lower'.level ≡ (length lower.parts - 2) * 2 ^ lower.level =
+        ap₂ (λ n k. (n - 2) * 2 ^ k) as_long level in
+        record {
+          next_level = upper ∙ h.next_level ∙ ap (λ k. k + 1) (sym level);
+          few = omega (arith, as_long, h.few);
+          idle = λ less. construction ∙ h.idle (omega (arith, less, as_long));
+          fed = λ a b rest are c is. h.fed a b rest (sym parts ∙ are) c (sym construction ∙ is);
+          early = omega (arith, ticks, h.early, ap (λ k. 2 ^ k) upper);
+          clock = λ two. omega (arith, weight, ticks, ticks_below, h.clock (omega (arith, two, as_long)));
+        }
+
+    tower-kept : (lower lower' : Slots P Item) (old new : List (Slots P Item)) → IsSame lower lower' → KeepRooms lower old new
+        → IsTower contents stamp before lower old → IsTower contents stamp before lower' new
+    tower-kept lower lower' [] new same k tower =
+        subst (IsTower contents stamp before lower') (sym k) (omega (arith, tower, ap (λ v. length v.parts) same))
+    tower-kept lower lower' (l ∷ old) [] same k tower = absurd k
+    tower-kept lower lower' (l ∷ old) (l' ∷ new) same k tower =
+        (below-kept lower lower' l l' same k.0 tower.0, tower-kept l l' old new k.0 k.2 tower.1)
+
+    all_levels-kept : (old new : List (Slots P Item)) → KeepRoomsAbove old new → AreAllLevels contents stamp before old
+        → AreAllLevels contents stamp before new
+    all_levels-kept [] new k h = subst (AreAllLevels contents stamp before) (sym k) tt
+    all_levels-kept (l ∷ old) [] k h = absurd k
+    all_levels-kept (l ∷ old) (l' ∷ new) k h =
+        (ap (λ v. v.level) k.0 ∙ h.0, ap (λ v. v.construction) k.0 ∙ h.1, tower-kept l l' old new k.0 k.1 h.2)
+
+    -- a construction into level 31 wants two parts of the weight 2^30
+    quiet-light : (below : ℕ) (lower : Slots P Item) (above : List (Slots P Item)) → IsTower contents stamp before lower above
+        → lower.level + length above ≡ 31 → (1 ≤ ticks_of lower → 2 ^ lower.level ≤ below) → below + weight_of (lower ∷ above) < 2 ^ 31
+        → IsHighestQuiet lower above
+    quiet-light below lower [] tower highest paid light =
+        let last : lower.level ≡ 31 = omega (arith, highest) in
+        let wide : 2 ^ lower.level ≡ 2 ^ 31 = ap (λ k. 2 ^ k) last in
+        λ due. ⊎_elim
+        (λ none. absurd (omega (arith, none, wide, due)))
+        (λ some. absurd (omega (arith, paid some, wide, light)))
+        (cases_lt (ticks_of lower) 1)
+    quiet-light below lower (next ∷ above) tower highest paid light =
+        let h = tower.0 in
+        quiet-light (below + weight_in lower) next above tower.1 (omega (arith, highest, h.next_level))
+        (λ some. ⊎_elim
+        (λ less. absurd (omega (arith, some, none_ticks next (h.idle less))))
+        (λ two. heavy below (length lower.parts) (2 ^ lower.level) (2 ^ next.level) two (ap (λ k. 2 ^ k) h.next_level ∙ doubled lower.level))
+        (cases_lt (length lower.parts) 2))
+        (omega (arith, light))
+      where
+        heavy : (b n w u : ℕ) → 2 ≤ n → u ≡ 2 * w → u ≤ b + n * w
+        heavy b n w u two double = let product : 2 * w ≤ n * w = mul-le-mul_right w two in omega (arith, product, double)
+
+    pub enough-light : (levels : List (Slots P Item)) → AreAllLevels contents stamp before levels → length levels ≡ 32 → weight_of levels < 2 ^ 31
+        → AreEnough levels
+    enough-light [] h all light = absurd (omega (arith, all))
+    enough-light (lowest ∷ above) h all light =
+        quiet-light 0 lowest above h.2 (omega (arith, h.0, all)) (λ some. absurd (omega (arith, some, none_ticks lowest h.1))) (omega (arith, light))
+
+    tower-added : (lower : Slots P Item) (above : List (Slots P Item)) (n : ℕ) → n ≡ lower.level + length above + 1
+        → IsTower contents stamp before lower above → IsTower contents stamp before lower (above ++ unused n ∷ [])
+    tower-added lower [] n next tower = (
+      record {
+        next_level = omega (arith, next);
+        few = omega (arith, tower);
+        idle = λ less. refl;
+        fed = λ a b rest are c is. absurd cc;
+        early = pow_pos n;
+        clock = λ two. absurd (omega (arith, two, tower));
+      },
+      omega arith,
+    )
+    tower-added lower (l ∷ above) n next tower =
+        (tower.0, tower-added l above n (omega (arith, next, tower.0.next_level)) tower.1)
+
+    all_levels-added : (levels : List (Slots P Item)) (n : ℕ) → n ≡ length levels → AreAllLevels contents stamp before levels
+        → AreAllLevels contents stamp before (levels ++ unused n ∷ [])
+    all_levels-added [] n next h = (next, refl, omega arith)
+    all_levels-added (lowest ∷ above) n next h = (h.0, h.1, tower-added lowest above n (omega (arith, next, h.0)) h.2)
+
+    rooms-added : (lower : Slots P Item) (above : List (Slots P Item)) (n : ℕ) → HaveRooms IsDue lower above
+        → HaveRooms IsDue lower (above ++ unused n ∷ [])
+    rooms-added lower [] n h = (λ d. absurd (h d), λ d. omega (arith, d.0))
+    rooms-added lower (l ∷ above) n h = (h.0, rooms-added l above n h.1)
+
+    rooms_ahead-added : (lower : Slots P Item) (above : List (Slots P Item)) (n : ℕ) → n ≡ lower.level + length above + 1
+        → IsTower contents stamp before lower above → HaveRooms IsDueSoon lower above → HaveRooms IsDueSoon lower (above ++ unused n ∷ [])
+    rooms_ahead-added lower [] n next tower h = (
+      λ d. absurd (h d),
+      λ d. ⊎_elim
+          (λ quiet. let double : 2 ^ n ≡ 2 * 2 ^ lower.level = ap (λ k. 2 ^ k) next ∙ (let up : lower.level + 0 + 1 ≡ lower.level + 1 = omega arith in ap (λ k. 2 ^ k) up) ∙ doubled lower.level in omega (arith, quiet, double, d))
+          (λ due. h due)
+          (cases_lt (ticks_of lower + 2) (2 ^ lower.level)),
+    )
+    rooms_ahead-added lower (l ∷ above) n next tower h =
+        (h.0, rooms_ahead-added l above n (omega (arith, next, tower.0.next_level)) tower.1 h.1)
+
+    quiet-added : (lower : Slots P Item) (above : List (Slots P Item)) (n : ℕ) → n ≡ lower.level + length above + 1
+        → IsTower contents stamp before lower above → IsHighestQuiet lower above → IsHighestQuiet lower (above ++ unused n ∷ [])
+    quiet-added lower [] n next tower quiet = (rooms_ahead-added lower [] n next tower quiet).1
+    quiet-added lower (l ∷ above) n next tower quiet = quiet-added l above n (omega (arith, next, tower.0.next_level)) tower.1 quiet
+
+    enough-added : (levels : List (Slots P Item)) (n : ℕ) → n ≡ length levels → AreAllLevels contents stamp before levels → AreEnough levels
+        → AreEnough (levels ++ unused n ∷ [])
+    enough-added [] n next h quiet = absurd quiet
+    enough-added (lowest ∷ above) n next h quiet = quiet-added lowest above n (omega (arith, next, h.0)) h.2 quiet
+
+    same-added : (levels : List (Slots P Item)) (n : ℕ)
+        → (live_items contents (levels ++ unused n ∷ []) ≡ live_items contents levels)
+        × (all_items contents (levels ++ unused n ∷ []) ≡ all_items contents levels)
+        × (weight_of (levels ++ unused n ∷ []) ≡ weight_of levels) × (parts_of (levels ++ unused n ∷ []) ≡ parts_of levels)
+    same-added [] n = (refl, refl, omega arith, omega arith)
+    same-added (l ∷ above) n =
+        let rest = same-added above n in (
+          ap (λ xs. xs ++ live_in contents l) rest.0,
+          ap (λ xs. xs ++ items_in contents l) rest.1,
+          ap (λ m. weight_in l + m) rest.2,
+          ap (λ m. length l.parts + m) rest.3,
+        )
+
+    module _ (slope base : ℕ) where
+      pub IsKept-added : (levels : List (Slots P Item)) (n : ℕ) → n ≡ length levels → n < 32
+          → IsKept contents stamp before slope base levels (levels ++ unused n ∷ [])
+      IsKept-added levels n next less =
+          let same = same-added levels n in
+          record {
+            live = same.0;
+            items = same.1;
+            weight = same.2;
+            parts = same.3;
+            levels = all_levels-added levels n next;
+            punctual = λ h. All-push (IsPunctual slope base) levels (unused n) h (λ c is. absurd cc);
+            few = λ few. omega (arith, less, next, length-append levels (unused n ∷ []));
+            some = omega (arith, length-append levels (unused n ∷ []));
+            enough = enough-added levels n next;
+            rooms = rooms levels n;
+            rooms_ahead = ahead levels n next;
+          }
+        where
+          rooms : (levels : List (Slots P Item)) (n : ℕ) → AreAllLevels contents stamp before levels → 0 < length levels → HaveRoomsAbove IsDue levels
+              → HaveRoomsAbove IsDue (levels ++ unused n ∷ [])
+          rooms [] n h some r = absurd (omega (arith, some))
+          rooms (lowest ∷ above) n h some r = rooms-added lowest above n r
+
+          ahead : (levels : List (Slots P Item)) (n : ℕ) → n ≡ length levels → AreAllLevels contents stamp before levels → 0 < length levels
+              → HaveRoomsAbove IsDueSoon levels → HaveRoomsAbove IsDueSoon (levels ++ unused n ∷ [])
+          ahead [] n next h some r = absurd (omega (arith, some))
+          ahead (lowest ∷ above) n next h some r = rooms_ahead-added lowest above n (omega (arith, next, h.0)) h.2 r
+
+      punctual-kept : (lower : Slots P Item) (old new : List (Slots P Item)) → KeepRooms lower old new → All (IsPunctual slope base) old
+          → All (IsPunctual slope base) new
+      punctual-kept lower [] new k h = subst (All (IsPunctual slope base)) (sym k) h
+      punctual-kept lower (l ∷ old) [] k h = absurd k
+      punctual-kept lower (l ∷ old) (l' ∷ new) k h =
+          All-cons (IsPunctual slope base) l' new (subst (IsPunctual slope base) (sym k.0) (All-head (IsPunctual slope base) l old h))
+          (punctual-kept l old new k.2 (All-tail (IsPunctual slope base) l old h))
+
+      punctual_above-kept : (old new : List (Slots P Item)) → KeepRoomsAbove old new → All (IsPunctual slope base) old
+          → All (IsPunctual slope base) new
+      punctual_above-kept [] new k h = subst (All (IsPunctual slope base)) (sym k) h
+      punctual_above-kept (l ∷ old) [] k h = absurd k
+      punctual_above-kept (l ∷ old) (l' ∷ new) k h =
+          All-cons (IsPunctual slope base) l' new (subst (IsPunctual slope base) (sym k.0) (All-head (IsPunctual slope base) l old h))
+          (punctual-kept l old new k.1 (All-tail (IsPunctual slope base) l old h))
+
+      pub IsKept-refl : (levels : List (Slots P Item)) → IsKept contents stamp before slope base levels levels
+      IsKept-refl levels = record {
+        live = refl;
+        items = refl;
+        weight = refl;
+        parts = refl;
+        levels = λ h. h;
+        punctual = λ h. h;
+        few = λ h. h;
+        some = omega arith;
+        enough = λ h quiet. quiet;
+        rooms = λ h some r. r;
+        rooms_ahead = λ h some r. r;
+      }
+
+      pub IsKept-then : {a b c : List (Slots P Item)} → IsKept contents stamp before slope base a b → IsKept contents stamp before slope base b c
+          → IsKept contents stamp before slope base a c
+      IsKept-then {a} {b} {c} h k = record {
+        live = k.live ∙ h.live;
+        items = k.items ∙ h.items;
+        weight = k.weight ∙ h.weight;
+        parts = k.parts ∙ h.parts;
+        levels = λ l. k.levels (h.levels l);
+        punctual = λ l. k.punctual (h.punctual l);
+        few = λ l. k.few (h.few l);
+        some = omega (arith, h.some, k.some);
+        enough = λ l quiet. k.enough (h.levels l) (h.enough l quiet);
+        rooms = λ l some r. k.rooms (h.levels l) (omega (arith, some, h.some)) (h.rooms l some r);
+        rooms_ahead = λ l some r. k.rooms_ahead (h.levels l) (omega (arith, some, h.some)) (h.rooms_ahead l some r);
+      }
+
+      -- the same of all levels
+      same_above-kept : (old new : List (Slots P Item)) → KeepRoomsAbove old new
+          → (live_items contents new ≡ live_items contents old) × (all_items contents new ≡ all_items contents old)
+          × (weight_of new ≡ weight_of old) × (parts_of new ≡ parts_of old) × (length new ≡ length old)
+      same_above-kept [] new k = (ap (live_items contents) k, ap (all_items contents) k, ap weight_of k, ap parts_of k, ap length k)
+      same_above-kept (l ∷ old) [] k = absurd k
+      same_above-kept (l ∷ old) (l' ∷ new) k =
+          let rest = same-kept l old new k.1 in (
+            ap₂ (λ xs ys. xs ++ ys) rest.0 (ap (live_in contents) k.0),
+            ap₂ (λ xs ys. xs ++ ys) rest.1 (ap (items_in contents) k.0),
+            ap₂ (λ m n. m + n) (ap weight_in k.0) rest.2,
+            ap₂ (λ m n. m + n) (ap (λ v. length v.parts) k.0) rest.3,
+            ap suc rest.4,
+          )
+
+      pub IsKept-rooms : (old new : List (Slots P Item)) → KeepRoomsAbove old new → IsKept contents stamp before slope base old new
+      IsKept-rooms old new k =
+          let same = same_above-kept old new k in
+          record {
+            live = same.0;
+            items = same.1;
+            weight = same.2;
+            parts = same.3;
+            levels = all_levels-kept old new k;
+            punctual = punctual_above-kept old new k;
+            few = λ few. omega (arith, few, same.4);
+            some = omega (arith, same.4);
+            enough = λ h quiet. enough-kept old new k quiet;
+            rooms = λ h some r. rooms_above-kept IsDue due_is_soon due-back old new k r;
+            rooms_ahead = λ h some r. rooms_above-kept IsDueSoon (λ l d. d) soon-back old new k r;
+          }
+
+      -- the lowest level alone changed
+      pub IsKept-lowest : (levels : List (Slots P Item)) (l l' : Slots P Item) → 0 < length levels → l ≡ get_or levels 0 l → IsSame l l'
+          → IsKept contents stamp before slope base levels (set levels 0 l')
+      IsKept-lowest [] l l' some is same = absurd (omega (arith, some))
+      IsKept-lowest (x ∷ above) l l' some is same =
+          IsKept-rooms (x ∷ above) (l' ∷ above) (subst (λ v. IsSame v l') is same, KeepRooms-refl x above)
+
+      module _ {old new : List (Slots P Item)} {spare starters : ℕ}
+          (h : IsStack contents stamp before slope base (record { levels = old; spare = spare; starters = starters }))
+          (k : IsKept contents stamp before slope base old new) where
+        -- not all memory was given
+        pub IsStack-kept : (starters' : ℕ) → starters ≤ starters' → starters' ≤ 2
+            → IsStack contents stamp before slope base (record { levels = new; spare = spare; starters = starters' })
+        IsStack-kept starters' more few = record {
+          levels = k.levels h.levels;
+          punctual = k.punctual h.punctual;
+          apart = subst (AllStampsDiffer stamp) (sym k.items) h.apart;
+          light = omega (arith, h.light, k.weight);
+          few = k.few h.few;
+          starters_few = few;
+          spare_few = omega (arith, h.spare_few, more);
+          some = λ s. omega (arith, h.some s, k.some);
+          rooms = λ s light. k.rooms h.levels (h.some s) (h.rooms (omega (arith, s)) (omega (arith, light, k.weight)));
+          rooms_ahead = λ s light. k.rooms_ahead h.levels (h.some (omega (arith, s))) (h.rooms_ahead (omega (arith, s)) (omega (arith, light, k.weight)));
+        }
+
+        -- two ticks need no more
+        pub IsStack-ready : 0 < length new → (weight_of new < 2 ^ 31 → HaveRoomsAbove IsDueSoon new)
+            → IsStack contents stamp before slope base (record { levels = new; spare = 2; starters = 2 })
+        IsStack-ready some ready = record {
+          levels = k.levels h.levels;
+          punctual = k.punctual h.punctual;
+          apart = subst (AllStampsDiffer stamp) (sym k.items) h.apart;
+          light = omega (arith, h.light, k.weight);
+          few = k.few h.few;
+          starters_few = omega arith;
+          spare_few = omega arith;
+          some = λ s. some;
+          rooms = λ s light. due_above-from_soon new (ready light);
+          rooms_ahead = λ s light. ready light;
+        }

@@ -1,0 +1,69 @@
+-- A stack after a tick.
+use Rattle.std.proofs.Common.{◌≡◌, ℕ, zero, suc, ◌+◌, ◌*◌, ◌^◌, ◌≤◌, ◌∙◌, List, [], ◌∷◌, ◌++◌, Bool, length, take, drop, All, refl, ap, sym, subst, arith}
+use Rattle.std.proofs.lemmas.List.Elements.{All-nil}
+use Rattle.query_laws.specs.StepLedger.{Counts}
+use Rattle.builder_trait.specs.Parts.{Contents}
+use Rattle.partial_build.specs.Construction.{AllStampsDiffer}
+use Rattle.partial_build.specs.Quota.{quota}
+use Rattle.level_slots.specs.Slots.{Stacked, weight_of, all_items}
+use Rattle.level_slots.specs.Cost.{IsWithin, quotas}
+use Rattle.level_slots.specs.Neighbours.{IsPunctual, IsDue, IsDueSoon, HaveRoomsAbove}
+use Rattle.level_slots.specs.Stack.{IsStack, AreAllLevels}
+use Rattle.level_slots.proofs.Spending.{quotas-first, IsWithin-then}
+
+-- a slice of a whole list was written
+pub written : {A : Type 0} (n : ℕ) (old new : List A) → n ≡ length old → length new ≡ length old → take n (new ++ drop (length new) old) ≡ new
+written {A} n old new same as_long = subst (λ k. take k (new ++ drop (length new) old) ≡ new) (as_long ∙ sym same)
+    (ap (λ l. take (length new) (new ++ l)) (none_left old (length new) (omega (arith, as_long))) ∙ whole new)
+  where
+    none_left : (l : List A) (k : ℕ) → length l ≤ k → drop k l ≡ []
+    none_left [] zero few = refl
+    none_left [] (suc k) few = refl
+    none_left (x ∷ l) zero few = absurd (omega (arith, few))
+    none_left (x ∷ l) (suc k) few = none_left l k (omega (arith, few))
+
+    whole : (l : List A) → take (length l) (l ++ []) ≡ l
+    whole [] = refl
+    whole (x ∷ l) = ap (λ m. x ∷ m) (whole l)
+
+module _ {P Item : Type 0} {contents : P → Contents Item} {stamp : Item → ℕ} {before : ℕ → Item → Item → Bool} {slope base : ℕ} where
+  pub IsStack-empty : IsStack contents stamp before slope base (record { levels = []; spare = 0; starters = 0 })
+  IsStack-empty = record {
+    levels = tt;
+    punctual = All-nil (IsPunctual slope base);
+    apart = λ i j d below within. absurd (omega (arith, within));
+    light = omega arith;
+    few = omega arith;
+    starters_few = omega arith;
+    spare_few = omega arith;
+    some = λ one. absurd (omega (arith, one));
+    rooms = λ one still. absurd (omega (arith, one));
+    rooms_ahead = λ two still. absurd (omega (arith, two));
+  }
+
+  pub IsStack-ticked : (s s' : Stacked P Item) → IsStack contents stamp before slope base s → AreAllLevels contents stamp before s'.levels
+      → All (IsPunctual slope base) s'.levels → AllStampsDiffer stamp (all_items contents s'.levels)
+      → weight_of s.levels ≤ weight_of s'.levels → weight_of s'.levels ≤ 2 ^ 31 → length s'.levels ≡ length s.levels
+      → s'.spare + 1 ≡ s.spare → s'.starters ≤ 2 → s'.spare ≤ s'.starters
+      → (HaveRoomsAbove IsDueSoon s.levels → HaveRoomsAbove IsDue s'.levels) → IsStack contents stamp before slope base s'
+  IsStack-ticked s s' h levels punctual apart heavier light as_many fewer few spare rooms = record {
+    levels = levels;
+    punctual = punctual;
+    apart = apart;
+    light = light;
+    few = omega (arith, as_many, h.few);
+    starters_few = few;
+    spare_few = spare;
+    some = λ one. omega (arith, as_many, h.some (omega (arith, fewer)));
+    rooms = λ one still. rooms (h.rooms_ahead (omega (arith, one, fewer)) (omega (arith, heavier, still)));
+    rooms_ahead = λ two still. absurd (omega (arith, two, fewer, h.spare_few, h.starters_few));
+  }
+
+-- a part of level 0 is made, and then the levels above are visited
+pub IsWithin-first : (slope base g : ℕ) {touches : ℕ} {old mid new : Counts} → IsWithin (quota slope base 0) 0 touches old mid
+    → IsWithin (quotas slope base 1 g) (2 * g) touches mid new → IsWithin (quotas slope base 0 g) (2 * g) touches old new
+IsWithin-first slope base g {touches} {old} {mid} {new} first rest =
+    let sum : quota slope base 0 + quotas slope base 1 g ≡ quotas slope base 0 g = sym (quotas-first slope base 0 g (omega arith)) in
+    let marks : 0 + 2 * g ≡ 2 * g = omega arith in
+    subst (λ n. IsWithin n (2 * g) touches old new) sum
+    (subst (λ m. IsWithin (quota slope base 0 + quotas slope base 1 g) m touches old new) marks (IsWithin-then first rest))

@@ -1,0 +1,28 @@
+use Rattle.std.proofs.Common.{◌≡◌, IfSome, ap, subst, sym}
+use Rattle.std.proofs.lemmas.List.Elements.{All-pop}
+use Rattle.builder_trait.specs.Builders.{begun}
+use Rattle.level_slots.specs.Level.{AreHeld}
+use Rattle.level_slots.proofs.Held.{AreHeld-popped}
+use Rattle.level_slots.proofs.level.Level.take_kept.Goals as goal
+
+pub invariant_of-self : goal.invariant_of-self
+invariant_of-self g c =
+    let h = c.self.invariant in
+    let v = c.self.inside in
+    let IsBegun : g.row.B.Denot → Type 0 = λ b. g.B.Builder.progress b ≡ begun v.level in
+    record {
+      most = h.most;
+      parts_held = h.parts_held;
+      builds = h.builds;
+      rooms = h.rooms;
+      builders_held = subst (AreHeld IsBegun 3 c.pop.new.self.items) (sym c.pop.ensures.capacity)
+          (AreHeld-popped v.builders.items c.pop.new.self.items c.pop.result c.pop.ensures.items h.builders_held);
+      tables_held = h.tables_held;
+    }
+
+pub returns-clause-begun : goal.returns-clause-begun
+returns-clause-begun g c =
+    let v = c.self.inside in
+    subst (λ k. IfSome c.pop.result (λ b. g.B.Builder.progress b ≡ begun k)) (ap (λ l. l.level) c.self.view_is)
+    (All-pop (λ b. g.B.Builder.progress b ≡ begun v.level) v.builders.items c.pop.new.self.items c.pop.result c.pop.ensures.items
+    c.self.invariant.builders_held.each).1

@@ -1,0 +1,23 @@
+use Rattle.std.proofs.Common.{arith}
+use Rattle.level_slots.proofs.Forecasting.{IsKept-then}
+use Rattle.level_slots.proofs.preparing.add_starters.Goals as goal
+
+pub add_starter-requires-clause-levels : goal.add_starter-requires-clause-levels
+add_starter-requires-clause-levels g c = c.loop-alloc.invariant.kept.levels c.requires.levels
+
+pub loop-alloc-preserved : goal.loop-alloc-preserved
+loop-alloc-preserved g c =
+    let more = c.in_ok-add_starter.ensures.more in
+    let before = c.loop-alloc.invariant.more in
+    record {
+      kept = IsKept-then g.B.Part.Part.contents g.B.Item.Item.stamp g.B.Item.Item.before g.B.Builder.SLOPE g.B.Builder.BASE
+          c.loop-alloc.invariant.kept c.add_starter.ensures.kept;
+      begun = c.add_starter.ensures.begun;
+      few = omega (arith, more, c.loop-alloc-test.true, c.len.ensures);
+      more = omega (arith, more, before);
+    }
+
+pub returns-in_err-add_starter-clause-kept : goal.returns-in_err-add_starter-clause-kept
+returns-in_err-add_starter-clause-kept g c =
+    IsKept-then g.B.Part.Part.contents g.B.Item.Item.stamp g.B.Item.Item.before g.B.Builder.SLOPE g.B.Builder.BASE
+    c.loop-alloc.invariant.kept c.add_starter.ensures.kept

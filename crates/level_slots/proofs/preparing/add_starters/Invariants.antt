@@ -1,0 +1,15 @@
+use Rattle.std.proofs.Common.{◌≡◌, ◌-◌, ◌≤◌, All, length}
+use Rattle.builder_trait.specs.Builders.{begun}
+use Rattle.level_slots.specs.Preparing.{IsKept}
+use Rattle.level_slots.proofs.preparing.add_starters.Given as goal
+
+abbrev pub invariant-loop-alloc : goal.invariant-loop-alloc
+invariant-loop-alloc g l = record {
+  kept : IsKept g.B.Part.Part.contents g.B.Item.Item.stamp g.B.Item.Item.before g.B.Builder.SLOPE g.B.Builder.BASE l.initial.levels l.levels;
+  begun : All (λ b. g.B.Builder.progress b ≡ begun 0) l.starters.items;
+  few : length l.starters.items ≤ 2;
+  more : length l.initial.starters.items ≤ length l.starters.items;
+}
+
+abbrev pub decreases-loop-alloc : goal.decreases-loop-alloc
+decreases-loop-alloc g l = 2 - length l.starters.items

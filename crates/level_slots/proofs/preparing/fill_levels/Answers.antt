@@ -1,0 +1,13 @@
+use Rattle.level_slots.proofs.Forecasting.{IsKept-then, anyway_ok}
+use Rattle.level_slots.proofs.preparing.fill_levels.Goals as goal
+
+pub forecast_rooms-requires : goal.forecast_rooms-requires
+forecast_rooms-requires g c = c.add_starters.ensures.kept.levels c.requires.levels
+
+pub returns-clause-kept : goal.returns-clause-kept
+returns-clause-kept g c =
+    IsKept-then g.B.Part.Part.contents g.B.Item.Item.stamp g.B.Item.Item.before g.B.Builder.SLOPE g.B.Builder.BASE
+    c.add_starters.ensures.kept c.forecast_rooms.ensures.kept
+
+pub returns-clause-both : goal.returns-clause-both
+returns-clause-both g c = anyway_ok c.forecast_rooms.result c.in_ok-add_starters.ensures.ready

@@ -1,0 +1,31 @@
+use Rattle.std.proofs.Common.{◌≡◌, ℕ, ◌<◌, ◌∙◌, List, length, take, get_or, sum_by, refl, ap, arith}
+use Rattle.std.proofs.lemmas.Grind.{common_steps}
+use Rattle.std.proofs.lemmas.List.Sums.{sum_by_more}
+use Rattle.std.proofs.lemmas.List.Recursion.{is_sum_by}
+use Rattle.level_slots.specs.Slots.{Slots, parts_of}
+use Rattle.level_slots.proofs.stack.Stack.parts.Goals as goal
+
+summed : {P Item : Type 0} (levels : List (Slots P Item)) (n : ℕ) → n ≡ length levels
+    → sum_by (λ v. length v.parts) (take n levels) ≡ parts_of levels
+summed levels n e = grind (arith, common_steps, is_sum_by parts_of (λ v. length v.parts) refl (λ _ _. refl) levels)
+
+pub loop-level-preserved : goal.loop-level-preserved
+loop-level-preserved g c =
+    let levels = c.args.self.now.levels in
+    let level = c.level-item.result in
+    let i = c.loop-level.level-index in
+    let same : c.deref-level-items.result.now ≡ levels = c.deref-level-items.ensures.value ∙ ap (λ s. s.levels) c.self.view_is in
+    let less : i < length levels = omega (arith, c.loop-level-test.true, ap length same) in
+    let here : level ≡ get_or levels i level = c.level-item.is ∙ ap (λ ls. get_or ls i level) same in
+    let len : length c.parts.result.now ≡ length level.parts = ap length c.parts.ensures.value in
+    record {
+      parts = omega (arith, len, c.loop-level.invariant.parts, ap (λ l. length l.parts) here, sum_by_more (λ v. length v.parts) levels i level less);
+      few = omega (arith, c.parts.ensures.few, len, c.loop-level.invariant.few);
+    }
+
+pub returns : goal.returns
+returns g c =
+    let levels = c.args.self.now.levels in
+    let same : c.deref-level-items.result.now ≡ levels = c.deref-level-items.ensures.value ∙ ap (λ s. s.levels) c.self.view_is in
+    c.loop-level.invariant.parts
+    ∙ summed levels c.loop-level.level-index (omega (arith, c.loop-level-test.false, c.loop-level.auto.level-index-end, ap length same))

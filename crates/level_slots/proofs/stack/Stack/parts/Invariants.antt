@@ -1,0 +1,8 @@
+use Rattle.std.proofs.Common.{◌≡◌, ◌*◌, ◌≤◌, length, sum_by, take}
+use Rattle.level_slots.proofs.stack.Stack.parts.Given as goal
+
+abbrev pub invariant-loop-level : goal.invariant-loop-level
+invariant-loop-level g l = record {
+  parts : l.parts ≡ sum_by (λ v. length v.parts) (take l.level-index l.self.levels);
+  few : l.parts ≤ 3 * l.level-index;
+}

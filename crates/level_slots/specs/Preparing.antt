@@ -1,0 +1,65 @@
+-- What a preparation keeps, and what it makes ready.
+use Rattle.std.specs.Prelude.{◌≡◌, ℕ, ◌+◌, ◌*◌, ◌^◌, ◌<◌, ◌≤◌, Bool, true, List, [], ◌∷◌, All, length, nat_le}
+use Rattle.builder_trait.specs.Parts.{Contents}
+use Rattle.level_slots.specs.Slots.{Slots, ticks_of, live_items, all_items, weight_of, parts_of}
+use Rattle.level_slots.specs.Neighbours.{IsPunctual, IsDue, IsDueSoon, HaveRoomsAbove}
+use Rattle.level_slots.specs.Stack.{AreAllLevels}
+
+module _ {P Item : Type 0} where
+  -- the levels above one have the next numbers
+  abbrev pub AreNumbered : Slots P Item → List (Slots P Item) → Type 0
+  AreNumbered lower [] = Unit {0}
+  AreNumbered lower (next ∷ above) = (next.level ≡ lower.level + 1) × AreNumbered next above
+
+  -- the same from the lowest of these levels on
+  abbrev pub AreRising : List (Slots P Item) → Type 0
+  AreRising [] = Unit {0}
+  AreRising (lower ∷ above) = AreNumbered lower above
+
+  -- the levels above one are as they were, but for rooms and kept builders, and a room above a level that is due soon is still held
+  abbrev pub KeepRooms : Slots P Item → List (Slots P Item) → List (Slots P Item) → Type 0
+  KeepRooms lower [] new = new ≡ []
+  KeepRooms lower (l ∷ old) [] = ⊥
+  KeepRooms lower (l ∷ old) (l' ∷ new) = (l' ≡ record l { has_room = l'.has_room; kept = l'.kept })
+      × (IsDueSoon lower → l.has_room ≡ true → l'.has_room ≡ true) × KeepRooms l old new
+
+  -- the same from the lowest of these levels on
+  abbrev pub KeepRoomsAbove : List (Slots P Item) → List (Slots P Item) → Type 0
+  KeepRoomsAbove [] new = new ≡ []
+  KeepRoomsAbove (l ∷ old) [] = ⊥
+  KeepRoomsAbove (l ∷ old) (l' ∷ new) = (l' ≡ record l { has_room = l'.has_room; kept = l'.kept }) × KeepRooms l old new
+
+  -- above each level that is due soon, and there alone, a room is held, but for the highest level
+  abbrev pub AreForecast : Slots P Item → List (Slots P Item) → Type 0
+  AreForecast lower [] = Unit {0}
+  AreForecast lower (next ∷ above) = (next.has_room ≡ nat_le (2 ^ lower.level) (ticks_of lower + 2)) × AreForecast next above
+
+  -- the highest of these levels isn't due soon
+  abbrev pub IsHighestQuiet : Slots P Item → List (Slots P Item) → Type 0
+  IsHighestQuiet lower [] = IsDueSoon lower → ⊥
+  IsHighestQuiet lower (next ∷ above) = IsHighestQuiet next above
+
+  -- there are levels, and the highest isn't due soon
+  abbrev pub AreEnough : List (Slots P Item) → Type 0
+  AreEnough [] = ⊥
+  AreEnough (lower ∷ above) = IsHighestQuiet lower above
+
+  -- the sum of weights of levels stays below the bound that a level k times as heavy as its number says would reach next
+  abbrev pub IsBounded : ℕ → List (Slots P Item) → ℕ → Type 0
+  IsBounded k [] n = n ≡ 0
+  IsBounded k (l ∷ above) n = n + k * 2 ^ l.level ≤ k * 2 ^ 32
+
+  module _ (contents : P → Contents Item) (stamp : Item → ℕ) (before : ℕ → Item → Item → Bool) (slope base : ℕ) where
+    -- levels hold what they held, and the rooms that were due
+    pub record IsKept (old new : List (Slots P Item)) : Type 0 where
+      pub live : live_items contents new ≡ live_items contents old
+      pub items : all_items contents new ≡ all_items contents old
+      pub weight : weight_of new ≡ weight_of old
+      pub parts : parts_of new ≡ parts_of old
+      pub levels : AreAllLevels contents stamp before old → AreAllLevels contents stamp before new
+      pub punctual : All (IsPunctual slope base) old → All (IsPunctual slope base) new
+      pub few : length old ≤ 32 → length new ≤ 32
+      pub some : length old ≤ length new
+      pub enough : AreAllLevels contents stamp before old → AreEnough old → AreEnough new
+      pub rooms : AreAllLevels contents stamp before old → 0 < length old → HaveRoomsAbove IsDue old → HaveRoomsAbove IsDue new
+      pub rooms_ahead : AreAllLevels contents stamp before old → 0 < length old → HaveRoomsAbove IsDueSoon old → HaveRoomsAbove IsDueSoon new

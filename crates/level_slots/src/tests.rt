@@ -1,0 +1,100 @@
+//! Twelve inserts, and a delete after five.
+ghost use Rattle.std.specs.Prelude.{◌≡◌, ◌<◌, ◌≤◌, ◌^◌, [], Contains, OnOk};
+ghost use Rattle.level_slots.specs.Slots.{weight_of, live_items};
+
+mod item;
+
+use crate::Stack;
+use builder_trait::flat::FlatBuilder;
+use builder_trait::{Builder, Part};
+use item::Pair;
+use query_laws::NoMemory;
+use query_laws::step_ledger::{SHARES, Steps, blank};
+use std::alloc::Global;
+use std::marker::Brand;
+use std::sync::ledger::{Blank, Ledger};
+use std::test::Fail;
+
+/// The item with a stamp.
+fn pair(stamp: u64) -> Pair
+    ensures { result ≡ record { x = 1; y = 2; stamp = stamp } }
+{
+    Pair { x: 1, y: 2, stamp }
+}
+
+/// Inserts so many items into an empty stack, and gives the number of parts and the weight after each.
+fn insert_up_to<B: Builder<Item = Pair>, L: Ledger>(
+    alloc: Global,
+    stack: &mut Stack<B>,
+    count: u64,
+    steps: &mut Steps<L>,
+) -> Result<Vec<(u32, u64)>, NoMemory>
+    requires few { count < 2 ^ 10 }
+    requires empty { stack.old.levels ≡ [] }
+    ensures weight { OnOk result (weight_of stack.new.levels ≡ count) }
+    ensures first { OnOk result (0 < count → Contains (live_items B.Part.Part.contents stack.new.levels) (record { x = 1; y = 2; stamp = 0 })) }
+{
+    let mut seen = Vec::new(alloc);
+    for stamp in 0..count {
+        stack.prepare()?;
+        stack.insert(pair(stamp), steps);
+        seen.push((stack.parts(), stack.weight()))?;
+    }
+    Ok(seen)
+}
+
+/// The numbers of parts and the weights after each of twelve inserts.
+fn traced<B: Builder<Item = Pair>, L: Ledger>(
+    alloc: Global,
+    blank: Blank,
+) -> Result<Vec<(u32, u64)>, NoMemory>
+    requires name { blank.name ≡ L.name }
+    requires parts { blank.parts ≡ L.parts }
+    requires shares { blank.parts ≡ SHARES }
+{
+    let mut steps = Steps::<L>::new(blank);
+    let mut stack = Stack::<B>::new(alloc);
+    insert_up_to(alloc, &mut stack, 12, &mut steps)
+}
+
+/// Five inserts, and the first item is deleted: the weight, the live items, the parts, the levels and the spare after that.
+fn deleted<B: Builder<Item = Pair>, L: Ledger>(
+    alloc: Global,
+    blank: Blank,
+) -> Result<(u64, u64, u32, u32, u32), NoMemory>
+    requires name { blank.name ≡ L.name }
+    requires parts { blank.parts ≡ L.parts }
+    requires shares { blank.parts ≡ SHARES }
+{
+    let mut steps = Steps::<L>::new(blank);
+    let mut stack = Stack::<B>::new(alloc);
+    insert_up_to(alloc, &mut stack, 5, &mut steps)?;
+    stack.prepare()?;
+    stack.delete(&pair(0), &mut steps);
+    Ok((
+        stack.weight(),
+        stack.live(),
+        stack.parts(),
+        stack.levels(),
+        stack.spare(),
+    ))
+}
+
+#[test]
+fn twelve_inserts(rt: HostRuntime) -> Result<(), Fail> {
+    let seen = traced::<FlatBuilder<Pair>, Brand>(rt.alloc(), blank())?;
+    let parts = [1, 2, 2, 3, 3, 4, 4, 4, 4, 5, 5, 5];
+    assert_eq!(rt; seen.len(), parts.len());
+    for (place, (found, weight)) in seen.iter().enumerate() {
+        assert_eq!(rt; *found, parts[place]);
+        assert_eq!(rt; *weight, place as u64 + 1);
+    }
+    Ok(())
+}
+
+#[test]
+fn deletes_the_first_of_five(rt: HostRuntime) -> Result<(), Fail> {
+    let seen = deleted::<FlatBuilder<Pair>, Brand>(rt.alloc(), blank())?;
+    assert_eq!(rt; seen, (5, 4, 3, 3, 1));
+    Ok(())
+}

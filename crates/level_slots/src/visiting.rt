@@ -1,0 +1,134 @@
+//! One tick: the levels are visited from the lowest one up.
+ghost use Rattle.std.specs.Prelude.{◌≡◌, ℕ, ◌+◌, ◌-◌, ◌*◌, ◌^◌, ◌<◌, ◌≤◌, true, None, ◌∷◌, ◌++◌, ◌⊎◌, All, length};
+ghost use Rattle.query_laws.specs.Permuted.{Permuted};
+ghost use Rattle.partial_build.specs.Construction.{AllStampsDiffer, live_of};
+ghost use Rattle.partial_build.specs.Quota.{quota};
+ghost use Rattle.level_slots.specs.Slots.{Slots, IsPartOf, ticks_of, weight_in, weight_of, live_in, items_in, live_items, all_items};
+ghost use Rattle.level_slots.specs.Neighbours.{IsBelow, IsVisited, IsTower, IsHalfway, IsPunctual, IsDue, IsDueSoon, HaveRooms, HaveRoomsAbove, HaveRoomsAhead};
+ghost use Rattle.level_slots.specs.Level.{IsOfLevel};
+ghost use Rattle.level_slots.specs.Stack.{AreAllLevels, AreHalfway, HaveRoomsNow, HaveRoomsNext};
+ghost use Rattle.level_slots.specs.Cost.{IsWithin, quotas};
+
+use crate::level::Level;
+use builder_trait::{Builder, Part};
+use query_laws::Item;
+use query_laws::step_ledger::Steps;
+use std::sync::ledger::Ledger;
+
+/// Visits a level: where the one below has two parts or more, a construction of the two oldest begins, takes its tick, or ends.
+fn visit<B: Builder, L: Ledger>(lower: &mut Level<B>, level: &mut Level<B>, steps: &mut Steps<L>)
+    requires below { IsBelow B.Part.Part.contents B.Item.stamp B.Item.before 0 lower.old level.old }
+    requires roomy { 2 ≤ length lower.old.parts → level.old.construction ≡ None → level.old.has_room ≡ true }
+    requires place { ticks_of level.old + 1 ≡ 2 ^ level.old.level → length level.old.parts < 3 }
+    requires apart { AllStampsDiffer B.Item.stamp (items_in B.Part.Part.contents lower.old) }
+    ensures visited { IsVisited B.Part.Part.contents B.Item.stamp B.Item.before level.old lower.old level.new lower.new }
+    ensures punctual { IsPunctual B.SLOPE B.BASE level.new }
+    ensures same { level.new ≡ record level.old {
+      parts = level.new.parts;
+      construction = level.new.construction;
+      has_room = level.new.has_room;
+    } }
+    ensures same_below { lower.new ≡ record lower.old { parts = lower.new.parts; kept = lower.new.kept } }
+    ensures idle { length lower.old.parts < 2 → steps.new ≡ steps.old }
+    ensures cost { IsWithin (quota B.SLOPE B.BASE level.old.level) 2 (B.Part.Part.mark_touches level.old.level) steps.old steps.new }
+{
+    if lower.parts().len() < 2 {
+        return;
+    }
+    let (a, b) = (&lower.parts()[0], &lower.parts()[1]);
+    level.begin(a, b);
+    level.tick(a, b, steps);
+    level.publish(lower);
+}
+
+/// Visits the levels above one that has taken its tick, in rising order.
+fn walk<B: Builder, L: Ledger>(lower: &mut Level<B>, above: &mut [Level<B>], steps: &mut Steps<L>)
+    requires halfway { IsHalfway B.Part.Part.contents B.Item.stamp B.Item.before lower.old above.old }
+    requires rooms { HaveRoomsAbove IsDue above.old }
+    requires apart { AllStampsDiffer B.Item.stamp (all_items B.Part.Part.contents (lower.old ∷ above.old)) }
+    ensures tower { IsTower B.Part.Part.contents B.Item.stamp B.Item.before lower.new above.new }
+    ensures punctual { All (IsPunctual B.SLOPE B.BASE) above.new }
+    ensures live { Permuted (live_items B.Part.Part.contents (lower.new ∷ above.new)) (live_items B.Part.Part.contents (lower.old ∷ above.old)) }
+    ensures items { IsPartOf (all_items B.Part.Part.contents (lower.new ∷ above.new)) (all_items B.Part.Part.contents (lower.old ∷ above.old)) }
+    ensures weight { weight_of (lower.new ∷ above.new) ≡ weight_of (lower.old ∷ above.old) }
+    ensures same { lower.new ≡ record lower.old { parts = lower.new.parts; kept = lower.new.kept } }
+    ensures as_many { length above.new ≡ length above.old }
+    ensures rooms { HaveRoomsAhead lower.old above.old → HaveRooms IsDue lower.new above.new }
+    ensures cost { (g : ℕ) → weight_of (lower.old ∷ above.old) < 2 ^ (g + 1)
+        → IsWithin (quotas B.SLOPE B.BASE (lower.old.level + 1) g) (2 * (g - lower.old.level)) (B.Part.Part.mark_touches g) steps.old steps.new }
+{
+    if let Some((level, above)) = above.split_first_mut() {
+        visit(lower, level, steps);
+        walk(level, above, steps);
+    }
+}
+
+/// Takes in a part of level 0: level 0 has then taken its tick.
+fn arrive<B: Builder>(levels: &mut [Level<B>], part: B::Part)
+    requires some { 0 < length levels.old }
+    requires levels { AreAllLevels B.Part.Part.contents B.Item.stamp B.Item.before levels.old }
+    requires rooms { HaveRoomsAbove IsDue levels.old }
+    requires of_level { IsOfLevel 0 (B.Part.Part.contents part) }
+    ensures halfway { AreHalfway B.Part.Part.contents B.Item.stamp B.Item.before levels.new }
+    ensures rooms { HaveRoomsNow levels.new }
+    ensures rooms_ahead { HaveRoomsAbove IsDueSoon levels.old → HaveRoomsNext levels.new }
+    ensures live { Permuted (live_items B.Part.Part.contents levels.new)
+        (live_of (B.Part.Part.contents part) ++ live_items B.Part.Part.contents levels.old) }
+    ensures items { Permuted (all_items B.Part.Part.contents levels.new)
+        ((B.Part.Part.contents part).items ++ all_items B.Part.Part.contents levels.old) }
+    ensures weight { weight_of levels.new ≡ weight_of levels.old + 1 }
+    ensures as_many { length levels.new ≡ length levels.old }
+{
+    match levels.split_first_mut() {
+        Some((lowest, _above)) => lowest.arrive(part),
+        None => unreachable!(),
+    }
+}
+
+/// The rest of a tick that level 0 has taken: all levels above are visited.
+pub(crate) fn take_tick<B: Builder, L: Ledger>(levels: &mut [Level<B>], steps: &mut Steps<L>)
+    requires halfway { AreHalfway B.Part.Part.contents B.Item.stamp B.Item.before levels.old }
+    requires rooms { HaveRoomsNow levels.old }
+    requires apart { AllStampsDiffer B.Item.stamp (all_items B.Part.Part.contents levels.old) }
+    ensures levels { AreAllLevels B.Part.Part.contents B.Item.stamp B.Item.before levels.new }
+    ensures punctual { All (IsPunctual B.SLOPE B.BASE) levels.new }
+    ensures live { Permuted (live_items B.Part.Part.contents levels.new) (live_items B.Part.Part.contents levels.old) }
+    ensures items { IsPartOf (all_items B.Part.Part.contents levels.new) (all_items B.Part.Part.contents levels.old) }
+    ensures weight { weight_of levels.new ≡ weight_of levels.old }
+    ensures rooms { HaveRoomsNext levels.old → HaveRoomsAbove IsDue levels.new }
+    ensures as_many { length levels.new ≡ length levels.old }
+    ensures cost { (g : ℕ) → weight_of levels.old < 2 ^ (g + 1)
+        → IsWithin (quotas B.SLOPE B.BASE 1 g) (2 * g) (B.Part.Part.mark_touches g) steps.old steps.new }
+{
+    match levels.split_first_mut() {
+        Some((lowest, above)) => walk(lowest, above, steps),
+        None => unreachable!(),
+    }
+}
+
+/// One tick in which a part of level 0 arrives.
+pub(crate) fn take_in<B: Builder, L: Ledger>(
+    levels: &mut [Level<B>],
+    part: B::Part,
+    steps: &mut Steps<L>,
+)
+    requires some { 0 < length levels.old }
+    requires levels { AreAllLevels B.Part.Part.contents B.Item.stamp B.Item.before levels.old }
+    requires rooms { HaveRoomsAbove IsDue levels.old }
+    requires of_level { IsOfLevel 0 (B.Part.Part.contents part) }
+    requires apart { AllStampsDiffer B.Item.stamp ((B.Part.Part.contents part).items ++ all_items B.Part.Part.contents levels.old) }
+    ensures levels { AreAllLevels B.Part.Part.contents B.Item.stamp B.Item.before levels.new }
+    ensures punctual { All (IsPunctual B.SLOPE B.BASE) levels.new }
+    ensures live { Permuted (live_items B.Part.Part.contents levels.new)
+        (live_of (B.Part.Part.contents part) ++ live_items B.Part.Part.contents levels.old) }
+    ensures items { IsPartOf (all_items B.Part.Part.contents levels.new)
+        ((B.Part.Part.contents part).items ++ all_items B.Part.Part.contents levels.old) }
+    ensures weight { weight_of levels.new ≡ weight_of levels.old + 1 }
+    ensures rooms { HaveRoomsAbove IsDueSoon levels.old → HaveRoomsAbove IsDue levels.new }
+    ensures as_many { length levels.new ≡ length levels.old }
+    ensures cost { (g : ℕ) → weight_of levels.new < 2 ^ (g + 1)
+        → IsWithin (quotas B.SLOPE B.BASE 1 g) (2 * g) (B.Part.Part.mark_touches g) steps.old steps.new }
+{
+    arrive(levels, part);
+    take_tick(levels, steps);
+}
