@@ -1,5 +1,5 @@
 -- Rooms for the constructions to come, made by forecast.
-use Rattle.std.specs.Prelude.{◌≡◌, ℕ, ◌+◌, ◌*◌, ◌^◌, List, [], ◌∷◌, if◌then◌else◌, nat_le}
+use Rattle.std.specs.Prelude.{ℕ, ◌+◌, ◌*◌, ◌^◌, List, [], ◌∷◌, if◌then◌else◌, nat_le}
 use Rattle.level_slots.specs.Slots.{Slots, Stacked, ticks_of}
 
 module _ {P Item : Type 0} where
@@ -21,9 +21,3 @@ module _ {P Item : Type 0} where
   abbrev pub forecast_of : List (Slots P Item) → ℕ
   forecast_of [] = 0
   forecast_of (l ∷ above) = (if nat_le (2 ^ l.level) (ticks_of l + 2) then 2 ^ (l.level + 1) else 0) + forecast_of above
-
-  -- levels are as they were, but for rooms and kept builders
-  abbrev pub ArePrepared : List (Slots P Item) → List (Slots P Item) → Type 0
-  ArePrepared [] new = new ≡ []
-  ArePrepared (l ∷ old) [] = ⊥
-  ArePrepared (l ∷ old) (l' ∷ new) = (l' ≡ record l { has_room = l'.has_room; kept = l'.kept }) × ArePrepared old new
