@@ -1,8 +1,9 @@
 -- What contracts see of two parts and the construction of one of both.
 use Rattle.std.specs.Prelude.{◌≡◌, ℕ, ◌-◌, ◌<◌, ◌≤◌, ◌^◌, Bool, true, false, Option, Some, None, List, length, slice_get}
+use Rattle.query_laws.specs.Orders.{AllStampsDiffer}
 use Rattle.builder_trait.specs.Parts.{Contents, marked}
 use Rattle.ordered_merge.specs.Merging.{StampsDiffer}
-use Rattle.partial_build.specs.Construction.{Construction, AllStampsDiffer, Builds, IsOnTime}
+use Rattle.partial_build.specs.Construction.{Construction, Builds, IsOnTime}
 use Rattle.build_trials.specs.declared.construction.Source.{Source}
 use Rattle.build_trials.specs.declared.construction.Source.TheVariants.{A, B}
 

@@ -1,7 +1,8 @@
 //! Two parts and the construction of one of both.
 ghost use Rattle.std.specs.Prelude.{◌≡◌, ◌==◌, ◌+◌, ◌<◌, ◌≤◌, ◌^◌, length};
+ghost use Rattle.query_laws.specs.Orders.{AllStampsDiffer};
 ghost use Rattle.builder_trait.specs.Parts.{Contents};
-ghost use Rattle.partial_build.specs.Construction.{AllStampsDiffer, Builds, IsOnTime, IsPublished, live_of};
+ghost use Rattle.partial_build.specs.Construction.{Builds, IsOnTime, IsPublished, live_of};
 ghost use Rattle.build_trials.specs.Stage.{MayBegin, source_of, IsAfterDeath, IsDeath};
 
 use builder_trait::{Builder, Part};

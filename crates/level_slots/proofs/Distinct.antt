@@ -1,36 +1,16 @@
 -- Lists of items with different stamps, and parts of them.
 use Rattle.std.proofs.Common.{◌≡◌, ◌≢◌, ℕ, zero, suc, ◌+◌, ◌<◌, List, [], ◌∷◌, ◌++◌, length, get_or, sym, ap, subst, ◌∙◌, arith, All, AllPairs, append_assoc}
 use Rattle.std.proofs.lemmas.List.{get_or_append_left, append-nil, get_or-append-add, length-append}
-use Rattle.std.proofs.lemmas.List.Elements.{All-cons, All-tail}
 use Rattle.std.proofs.lemmas.List.Kept.{AllPairs-cons}
-use Rattle.std.proofs.lemmas.List.Sorted.{All-permutation}
 use Rattle.std.proofs.lemmas.Option.{slice_get_within, get_or_from_slice_get}
-use Rattle.query_laws.specs.Permuted.{Permuted, nothing, same_head, swapped_heads, composed}
-use Rattle.query_laws.proofs.Permutations.{IsPermutation-from_Permuted, Permuted-refl, Permuted-sym, Permuted-append, Permuted-append_left, Permuted-append_right, Permuted-append_comm}
-use Rattle.partial_build.specs.Construction.{AllStampsDiffer}
+use Rattle.query_laws.specs.Permuted.{Permuted, composed}
+use Rattle.query_laws.proofs.Permutations.{Permuted-refl, Permuted-sym, Permuted-append, Permuted-append_left, Permuted-append_right, Permuted-append_comm}
+use Rattle.query_laws.specs.Orders.{AllStampsDiffer}
+use Rattle.query_laws.proofs.Stamps.{AllStampsDiffer-permuted}
 use Rattle.ordered_merge.specs.Merging.{StampsDiffer}
 use Rattle.level_slots.specs.Slots.{IsPartOf}
 
 module _ {A : Type 0} (R : A → A → Type 0) where
-  head_to_all : (x : A) (xs : List A) → AllPairs R (x ∷ xs) → All (R x) xs
-  head_to_all x xs pairs = λ k d within. pairs zero (suc k) d (omega arith) (omega arith)
-
-  pairs_of_tail : (x : A) (xs : List A) → AllPairs R (x ∷ xs) → AllPairs R xs
-  pairs_of_tail x xs pairs = λ i j d below within. pairs (suc i) (suc j) d (omega arith) (omega arith)
-
-  -- what holds of any two items, in either order, holds of them in any list of theirs
-  AllPairs-Permuted : ((x y : A) → R x y → R y x) → {xs ys : List A} → Permuted xs ys → AllPairs R xs → AllPairs R ys
-  AllPairs-Permuted symmetric nothing pairs = pairs
-  AllPairs-Permuted symmetric (same_head x {xs} {ys} p) pairs =
-      AllPairs-cons R x ys (All-permutation (R x) xs ys (IsPermutation-from_Permuted p) (head_to_all x xs pairs))
-      (AllPairs-Permuted symmetric p (pairs_of_tail x xs pairs))
-  AllPairs-Permuted symmetric (swapped_heads x y xs) pairs =
-      let rest = pairs_of_tail x (y ∷ xs) pairs in
-      let from_x = head_to_all x (y ∷ xs) pairs in
-      AllPairs-cons R y (x ∷ xs) (All-cons (R y) x xs (symmetric x y (from_x 0 x (omega arith))) (head_to_all y xs rest))
-      (AllPairs-cons R x xs (All-tail (R x) y xs from_x) (pairs_of_tail y xs rest))
-  AllPairs-Permuted symmetric (composed p q) pairs = AllPairs-Permuted symmetric q (AllPairs-Permuted symmetric p pairs)
-
   AllPairs-front : (xs ys : List A) → AllPairs R (xs ++ ys) → AllPairs R xs
   AllPairs-front xs ys pairs i j d below within =
       let longer : j < length (xs ++ ys) = omega (arith, within, length-append xs ys) in
@@ -73,7 +53,7 @@ module _ {Item : Type 0} where
     pub AllStampsDiffer-part : (xs ys : List Item) → IsPartOf xs ys → AllStampsDiffer stamp ys → AllStampsDiffer stamp xs
     AllStampsDiffer-part xs ys within apart =
         AllPairs-front (λ x y. stamp x ≢ stamp y) xs within.0
-        (AllPairs-Permuted (λ x y. stamp x ≢ stamp y) (λ x y differ same. differ (sym same)) (Permuted-sym within.1) apart)
+        (AllStampsDiffer-permuted stamp (Permuted-sym within.1) apart)
 
     -- the stamps of one part differ from those of another
     pub StampsDiffer-parts : (xs ys : List Item) → AllStampsDiffer stamp (xs ++ ys) → StampsDiffer stamp xs ys

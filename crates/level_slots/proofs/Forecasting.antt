@@ -5,8 +5,8 @@ use Rattle.std.proofs.lemmas.Bool.{cases_lt}
 use Rattle.std.proofs.lemmas.List.{length-append}
 use Rattle.std.proofs.lemmas.Nat.{pow_pos}
 use Rattle.std.proofs.lemmas.List.Elements.{All-cons, All-head, All-push, All-tail}
+use Rattle.query_laws.specs.Orders.{AllStampsDiffer}
 use Rattle.builder_trait.specs.Parts.{Contents}
-use Rattle.partial_build.specs.Construction.{AllStampsDiffer}
 use Rattle.level_slots.specs.Slots.{Slots, ticks_of, weight_in, weight_of, parts_of, live_in, items_in, live_items, all_items}
 use Rattle.level_slots.specs.Neighbours.{IsBelow, IsTower, IsPunctual, IsDue, IsDueSoon, HaveRooms, HaveRoomsAbove}
 use Rattle.level_slots.specs.Rooms.{rooms_in, forecast_of}

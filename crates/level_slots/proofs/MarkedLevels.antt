@@ -9,11 +9,12 @@ use Rattle.std.proofs.lemmas.List.Sorted.{All-permutation}
 use Rattle.query_laws.specs.Permuted.{nothing, same_head, composed}
 use Rattle.query_laws.proofs.Permutations.{IsPermutation-from_Permuted, Permuted-middle, Permuted-refl}
 use Rattle.std.proofs.lemmas.Option.{slice_get-get_or}
+use Rattle.query_laws.specs.Orders.{AllStampsDiffer}
 use Rattle.query_laws.specs.StepLedger.{Counts, Spends}
 use Rattle.query_laws.proofs.Counting.{Spends-then, Spends-within}
 use Rattle.builder_trait.specs.Parts.{Contents, OwnsStamp, has_stamp, without}
 use Rattle.builder_trait.proofs.Marking.{has_stamp_none}
-use Rattle.partial_build.specs.Construction.{AllStampsDiffer, live_of}
+use Rattle.partial_build.specs.Construction.{live_of}
 use Rattle.level_slots.specs.Slots.{Slots, IsPartOf, ticks_of, weight_in, weight_of, live_in, items_in, live_items, all_items, asked_in, asked}
 use Rattle.level_slots.specs.Neighbours.{IsTower, IsDue, IsDueSoon, HaveRooms, HaveRoomsAbove, stays}
 use Rattle.level_slots.specs.Stack.{AreLevels, AreAllLevels, AreHalfway, HaveRoomsNow, HaveRoomsNext}

@@ -5,11 +5,12 @@ use Rattle.std.proofs.lemmas.Bool.Decides.{nat_tests}
 use Rattle.std.proofs.lemmas.List.{get_or_append_left, get_or-append-add, length-append}
 use Rattle.std.proofs.lemmas.List.Elements.{All-cons, All-head, All-nil, All-tail}
 use Rattle.std.proofs.lemmas.Option.{get_or_from_slice_get, slice_get_within, slice_get-get_or}
+use Rattle.query_laws.specs.Orders.{AllStampsDiffer}
 use Rattle.query_laws.specs.StepLedger.{Counts, Spends}
 use Rattle.query_laws.proofs.Counting.{Spends-then, Spends-within}
 use Rattle.builder_trait.specs.Parts.{Contents, OwnsStamp, has_stamp, without, marked}
 use Rattle.builder_trait.proofs.Marking.{fallen, items-fallen, has_stamp_none, marked-same}
-use Rattle.partial_build.specs.Construction.{AllStampsDiffer, live_of}
+use Rattle.partial_build.specs.Construction.{live_of}
 use Rattle.level_slots.specs.Slots.{Slots, asked_in}
 use Rattle.level_slots.specs.Level.{IsOfLevel}
 use Rattle.level_slots.specs.Marking.{IsLiveIn, Lacks, AreNoted, AreMarkedAt, nowhere, here, later}

@@ -1,9 +1,9 @@
 -- A stack after a tick.
 use Rattle.std.proofs.Common.{◌≡◌, ℕ, zero, suc, ◌+◌, ◌*◌, ◌^◌, ◌≤◌, ◌∙◌, List, [], ◌∷◌, ◌++◌, Bool, length, take, drop, All, refl, ap, sym, subst, arith}
 use Rattle.std.proofs.lemmas.List.Elements.{All-nil}
+use Rattle.query_laws.specs.Orders.{AllStampsDiffer}
 use Rattle.query_laws.specs.StepLedger.{Counts}
 use Rattle.builder_trait.specs.Parts.{Contents}
-use Rattle.partial_build.specs.Construction.{AllStampsDiffer}
 use Rattle.partial_build.specs.Quota.{quota}
 use Rattle.level_slots.specs.Slots.{Stacked, weight_of, all_items}
 use Rattle.level_slots.specs.Cost.{IsWithin, quotas}

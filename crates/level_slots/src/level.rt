@@ -2,9 +2,10 @@
 ghost use Rattle.std.specs.Prelude.{◌≡◌, ℕ, ◌+◌, ◌-◌, ◌*◌, ◌^◌, ◌<◌, ◌≤◌, true, false, List, [], ◌∷◌, ◌++◌, Some, None, IfOk, IfSome, IsNone, All, length, map, min};
 ghost use Rattle.std.specs.List.{flat_map};
 ghost use Rattle.std.specs.Option.{is_some};
+ghost use Rattle.query_laws.specs.Orders.{AllStampsDiffer};
 ghost use Rattle.query_laws.specs.StepLedger.{Spends};
 ghost use Rattle.builder_trait.specs.Parts.{OwnsStamp, has_stamp, marked};
-ghost use Rattle.partial_build.specs.Construction.{AllStampsDiffer, live_of};
+ghost use Rattle.partial_build.specs.Construction.{live_of};
 ghost use Rattle.partial_build.specs.Quota.{quota};
 ghost use Rattle.level_slots.specs.Slots.{ticks_of, live_in, items_in, asked_in};
 ghost use Rattle.level_slots.specs.Asking.{IsIdle};

@@ -1,9 +1,9 @@
 //! The item of a delete: it is marked as dead, and a construction that reads its part takes note.
 ghost use Rattle.std.specs.Prelude.{◌≡◌, ℕ, ◌+◌, ◌*◌, ◌^◌, ◌<◌, ◌≤◌, false, List, ◌∷◌, All, Contains, length};
+ghost use Rattle.query_laws.specs.Orders.{AllStampsDiffer};
 ghost use Rattle.query_laws.specs.Permuted.{Permuted};
 ghost use Rattle.query_laws.specs.StepLedger.{Spends};
 ghost use Rattle.builder_trait.specs.Parts.{OwnsStamp, has_stamp, without, marked};
-ghost use Rattle.partial_build.specs.Construction.{AllStampsDiffer};
 ghost use Rattle.level_slots.specs.Slots.{Slots, IsPartOf, ticks_of, weight_of, live_in, live_items, items_in, all_items, asked_in, asked};
 ghost use Rattle.level_slots.specs.Neighbours.{IsConstructionOf, IsPunctual, IsDue, IsDueSoon, IsTower, HaveRoomsAbove};
 ghost use Rattle.level_slots.specs.Cost.{IsWithin, quotas};

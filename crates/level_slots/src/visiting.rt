@@ -1,7 +1,8 @@
 //! One tick: the levels are visited from the lowest one up.
 ghost use Rattle.std.specs.Prelude.{◌≡◌, ℕ, ◌+◌, ◌-◌, ◌*◌, ◌^◌, ◌<◌, ◌≤◌, true, None, ◌∷◌, ◌++◌, ◌⊎◌, All, length};
+ghost use Rattle.query_laws.specs.Orders.{AllStampsDiffer};
 ghost use Rattle.query_laws.specs.Permuted.{Permuted};
-ghost use Rattle.partial_build.specs.Construction.{AllStampsDiffer, live_of};
+ghost use Rattle.partial_build.specs.Construction.{live_of};
 ghost use Rattle.partial_build.specs.Quota.{quota};
 ghost use Rattle.level_slots.specs.Slots.{Slots, IsPartOf, ticks_of, weight_in, weight_of, live_in, items_in, live_items, all_items};
 ghost use Rattle.level_slots.specs.Neighbours.{IsBelow, IsVisited, IsTower, IsHalfway, IsPunctual, IsDue, IsDueSoon, HaveRooms, HaveRoomsAbove, HaveRoomsAhead};

@@ -1,12 +1,9 @@
 -- Items in both orders, as builders take them.
-use Rattle.std.specs.Prelude.{ℕ, ◌≢◌, ◌≤◌, ◌^◌, Bool, true, List, length, map, replicate, AllPairs}
+use Rattle.std.specs.Prelude.{ℕ, ◌≤◌, ◌^◌, Bool, true, List, length, map, replicate}
+use Rattle.query_laws.specs.Orders.{AllStampsDiffer}
 use Rattle.builder_trait.specs.Parts.{Contents, IsPart}
 
 module _ {Item : Type 0} where
-  -- no two items have the same stamp
-  abbrev pub AllStampsDiffer : (Item → ℕ) → List Item → Type 0
-  AllStampsDiffer stamp xs = AllPairs (λ x y. stamp x ≢ stamp y) xs
-
   -- the part of these items, each live: in order 0, and in order 1 each with its place; of the least level, until a builder has them
   abbrev pub contents_of : List Item → List (Item × ℕ) → Contents Item
   contents_of items entries = record {

@@ -3,10 +3,9 @@ ghost use Rattle.std.specs.Prelude.{◌≡◌, ◌==◌, ◌+◌, ◌-◌, ◌*�
 ghost use Rattle.std.specs.Ordering.{is_lt};
 ghost use Rattle.std.specs.List.Sorted.{IsPermutation};
 ghost use Rattle.query_laws.specs.StepLedger.{Spends};
-ghost use Rattle.query_laws.specs.Orders.{before_in};
+ghost use Rattle.query_laws.specs.Orders.{AllStampsDiffer, before_in};
 ghost use Rattle.builder_trait.specs.Parts.{OwnsStamp};
 ghost use Rattle.builder_trait.specs.Builders.{begun, all_live};
-ghost use Rattle.map_samples.specs.BothOrders.{AllStampsDiffer};
 
 use builder_trait::{Builder, completed};
 use map_shapes::Point;

@@ -1,7 +1,7 @@
 //! Seeded points and rectangles.
 ghost use Rattle.std.specs.Prelude.{◌≡◌, ◌+◌, ◌<◌, ◌≤◌, ◌^◌, ℕ, IfOk, Some, slice_get, vec_len};
+ghost use Rattle.query_laws.specs.Orders.{AllStampsDiffer};
 ghost use Rattle.map_shapes.specs.declared.point.Point.{Point};
-ghost use Rattle.map_samples.specs.BothOrders.{AllStampsDiffer};
 
 use crate::generator::Generator;
 use map_shapes::{Point, Rect};

@@ -4,11 +4,12 @@ use Rattle.std.specs.List.{items_where_true}
 use Rattle.std.specs.Option.{is_some}
 use Rattle.std.proofs.lemmas.Bool.Decides.{nat_tests}
 use Rattle.std.proofs.lemmas.Option.{slice_get_within, get_or_from_slice_get, same_Some}
+use Rattle.query_laws.specs.Orders.{AllStampsDiffer}
 use Rattle.query_laws.specs.Permuted.{Permuted, nothing, same_head, composed}
 use Rattle.query_laws.proofs.Permutations.{Permuted-append_left, Permuted-append_right, Permuted-append_comm, Permuted-middle}
 use Rattle.builder_trait.specs.Parts.{has_stamp, without}
 use Rattle.builder_trait.proofs.Marking.{fallen}
-use Rattle.partial_build.specs.Construction.{AllStampsDiffer, is_taken, skipped_of}
+use Rattle.partial_build.specs.Construction.{is_taken, skipped_of}
 
 test_other : (a b : ℕ) → a ≢ b → (a == b) ≡ false
 test_other a b e = grind (arith, nat_tests)

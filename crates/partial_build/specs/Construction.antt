@@ -1,7 +1,8 @@
 -- What contracts see of a construction: a new part made of two older ones, some ticks at a time, while items of these still die.
-use Rattle.std.specs.Prelude.{◌≡◌, ◌≢◌, ℕ, ◌+◌, ◌-◌, ◌*◌, ◌^◌, ◌<◌, ◌≤◌, ◌&&◌, Bool, true, false, not, if◌then◌else◌, Option, Some, None, List, [], ◌++◌, length, map, All, AllPairs, ◌⊎◌, slice_get, slice_index_or}
+use Rattle.std.specs.Prelude.{◌≡◌, ℕ, ◌+◌, ◌-◌, ◌*◌, ◌^◌, ◌<◌, ◌≤◌, ◌&&◌, Bool, true, false, not, if◌then◌else◌, Option, Some, None, List, [], ◌++◌, length, map, All, ◌⊎◌, slice_get, slice_index_or}
 use Rattle.std.specs.List.{items_where_true}
 use Rattle.std.specs.Option.{is_some}
+use Rattle.query_laws.specs.Orders.{AllStampsDiffer}
 use Rattle.query_laws.specs.Permuted.{Permuted}
 use Rattle.builder_trait.specs.Parts.{Contents, IsPart, has_stamp}
 use Rattle.ordered_merge.specs.Merging.{Merging, Merges, unbegun}
@@ -37,10 +38,6 @@ module _ {Item : Type 0} where
     pub in_time : turns_left slope base c ≤ (half_of c - c.ticks) * quota slope base c.level
     pub few_waiting : length c.waiting ≤ c.ticks
     pub few_to_come : length c.waiting ≤ 2 ^ c.level - c.ticks
-
-  -- the items have different stamps
-  abbrev pub AllStampsDiffer : (Item → ℕ) → List Item → Type 0
-  AllStampsDiffer stamp xs = AllPairs (λ x y. stamp x ≢ stamp y) xs
 
   abbrev pub live_of : Contents Item → List Item
   live_of part = items_where_true part.flags part.items

@@ -1,8 +1,9 @@
 //! The memory of a construction, before it begins.
 ghost use Rattle.std.specs.Prelude.{◌≡◌, ◌+◌, ◌-◌, ◌<◌, ◌≤◌, ◌^◌, [], IfOk, length, vec_capacity};
+ghost use Rattle.query_laws.specs.Orders.{AllStampsDiffer};
 ghost use Rattle.builder_trait.specs.Builders.{begun};
 ghost use Rattle.ordered_merge.specs.Merging.{StampsDiffer};
-ghost use Rattle.partial_build.specs.Construction.{AllStampsDiffer, Builds, IsOnTime};
+ghost use Rattle.partial_build.specs.Construction.{Builds, IsOnTime};
 
 use crate::build::Build;
 use builder_trait::{Builder, Part};

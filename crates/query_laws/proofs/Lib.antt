@@ -1,3 +1,4 @@
 pub mod Permutations
 pub mod Values
 pub mod Counting
+pub mod Stamps

@@ -1,11 +1,15 @@
 -- Orders of items.
-use Rattle.std.specs.Prelude.{◌≡◌, ◌≢◌, ℕ, ◌==◌, ◌&&◌, ◌||◌, Bool, false, nat_lt, if◌then◌else◌, IsTrue, ◌⊎◌}
+use Rattle.std.specs.Prelude.{◌≡◌, ◌≢◌, ℕ, ◌==◌, ◌&&◌, ◌||◌, Bool, false, nat_lt, if◌then◌else◌, IsTrue, ◌⊎◌, List, AllPairs}
 
 -- a strict order, which tells apart any two items with different stamps
 pub record IsStrictTotalOrder {Item : Type 0} (stamp : Item → ℕ) (before : Item → Item → Bool) : Type 0 where
   pub irreflexive : (a : Item) → before a a ≡ false
   pub transitive : (a b c : Item) → IsTrue (before a b) → IsTrue (before b c) → IsTrue (before a c)
   pub total : (a b : Item) → stamp a ≢ stamp b → IsTrue (before a b) ⊎ IsTrue (before b a)
+
+-- no two items of the list have the same stamp
+abbrev pub AllStampsDiffer : {Item : Type 0} → (Item → ℕ) → List Item → Type 0
+AllStampsDiffer stamp xs = AllPairs (λ x y. stamp x ≢ stamp y) xs
 
 -- the order by one number, then by a second, then by the stamp
 abbrev pub before_by : {Item : Type 0} → (Item → ℕ) → (Item → ℕ) → (Item → ℕ) → Item → Item → Bool

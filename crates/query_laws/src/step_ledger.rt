@@ -15,9 +15,11 @@ pub use rows::Row;
 use std::alloc::{AllocError, AllocFailed};
 use std::marker::Model;
 use std::sync::ledger::{Blank, Book, Ledger};
+use thiserror::Error;
 
 /// Memory was wanted and not given. `?` makes it of each error that std's collections give for that.
-#[derive(Clone, Copy, Debug, PartialEq, Eq)]
+#[derive(Clone, Copy, Debug, Error, PartialEq, Eq)]
+#[error("no memory")]
 pub struct NoMemory;
 
 impl From<AllocError> for NoMemory {

@@ -171,3 +171,10 @@ fn counts_nothing(rt: HostRuntime) -> Result<(), Fail> {
     assert_eq!(rt; largest_uncounted(rt.alloc(), &[3, 9, 4])?, 9);
     Ok(())
 }
+
+#[test]
+fn refused_memory_says_so(rt: HostRuntime) -> Result<(), Fail> {
+    let text = NoMemory.to_string(rt.alloc())?;
+    assert_eq!(rt; text.as_str(), "no memory");
+    Ok(())
+}

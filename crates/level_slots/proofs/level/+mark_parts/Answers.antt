@@ -1,8 +1,8 @@
 use Rattle.std.proofs.Common.{◌≡◌, ◌+◌, ◌^◌, ◌<◌, ◌≤◌, ◌∙◌, Some, None, IfSome, List, ◌∷◌, ◌++◌, length, All, sym, ap, subst, arith}
 use Rattle.std.specs.List.{flat_map}
 use Rattle.std.proofs.lemmas.List.Elements.{All-head, All-tail}
+use Rattle.query_laws.specs.Orders.{AllStampsDiffer}
 use Rattle.builder_trait.specs.Parts.{OwnsStamp, has_stamp}
-use Rattle.partial_build.specs.Construction.{AllStampsDiffer}
 use Rattle.level_slots.specs.Slots.{asked_in}
 use Rattle.level_slots.specs.Marking.{AreMarkedAt, nowhere, here, later}
 use Rattle.level_slots.proofs.Distinct.{AllStampsDiffer-part, IsPartOf-back}

@@ -1,10 +1,10 @@
 use Rattle.std.proofs.Common.{◌≡◌, ℕ, ◌+◌, ◌*◌, ◌^◌, ◌<◌, ◌||◌, ◌∙◌, ⊎_elim, true, false, ◌∷◌, ◌++◌, length, All, refl, sym, ap, ap₂, subst, arith}
 use Rattle.std.proofs.lemmas.Bool.{cases_lt}
 use Rattle.std.proofs.lemmas.List.Elements.{All-cons, All-head, All-tail}
+use Rattle.query_laws.specs.Orders.{AllStampsDiffer}
 use Rattle.query_laws.specs.StepLedger.{Spends}
 use Rattle.query_laws.proofs.Counting.{Spends-nothing, Spends-within}
 use Rattle.builder_trait.specs.Parts.{OwnsStamp, has_stamp, without}
-use Rattle.partial_build.specs.Construction.{AllStampsDiffer}
 use Rattle.level_slots.specs.Slots.{ticks_of, weight_in, weight_of, live_in, items_in, live_items, all_items, asked_in, asked}
 use Rattle.level_slots.specs.Neighbours.{IsPunctual, IsDue, IsDueSoon, HaveRoomsAbove}
 use Rattle.level_slots.specs.Stack.{AreLevels}

@@ -1,5 +1,5 @@
 use Rattle.std.proofs.Common.{◌≡◌, ◌+◌, ◌*◌, ◌^◌, ◌<◌, ◌∙◌, sym, subst, arith}
-use Rattle.partial_build.specs.Construction.{AllStampsDiffer}
+use Rattle.query_laws.specs.Orders.{AllStampsDiffer}
 use Rattle.level_slots.specs.Slots.{IsPartOf, weight_of, all_items, asked}
 use Rattle.level_slots.specs.Cost.{IsWithin, quotas}
 use Rattle.level_slots.proofs.Spending.{IsWithin-of, IsWithin-then}

@@ -1,9 +1,9 @@
 use Rattle.std.proofs.Common.{◌≡◌, ℕ, ◌+◌, ◌-◌, ◌*◌, ◌^◌, ◌<◌, ◌≤◌, ◌∙◌, ◌∷◌, length, subst, sym, ap, ⊎_elim, arith}
 use Rattle.std.proofs.lemmas.Bool.{cases_lt}
 use Rattle.std.proofs.lemmas.List.Elements.{All-cons}
+use Rattle.query_laws.specs.Orders.{AllStampsDiffer}
 use Rattle.query_laws.specs.Permuted.{Permuted}
 use Rattle.query_laws.proofs.Permutations.{Permuted-refl}
-use Rattle.partial_build.specs.Construction.{AllStampsDiffer}
 use Rattle.partial_build.specs.Quota.{quota}
 use Rattle.level_slots.specs.Slots.{IsPartOf, ticks_of, weight_of, items_in, live_items, all_items}
 use Rattle.level_slots.specs.Neighbours.{IsHalfway, IsTower, IsPunctual, IsDue, HaveRooms, HaveRoomsAbove, HaveRoomsAhead}

@@ -1,6 +1,6 @@
 use Rattle.std.proofs.Common.{◌≡◌, ◌+◌, ◌-◌, ◌*◌, ◌^◌, ◌<◌, ◌∙◌, ◌∷◌, Some, None, subst, sym, ap, arith}
 use Rattle.std.proofs.lemmas.List.Elements.{All-cons}
-use Rattle.partial_build.specs.Construction.{AllStampsDiffer}
+use Rattle.query_laws.specs.Orders.{AllStampsDiffer}
 use Rattle.level_slots.specs.Slots.{IsPartOf, weight_of, all_items}
 use Rattle.level_slots.specs.Neighbours.{IsPunctual}
 use Rattle.level_slots.specs.Cost.{IsWithin, quotas}

@@ -1,9 +1,9 @@
 use Rattle.std.proofs.Common.{◌≡◌, ◌+◌, ◌-◌, ◌*◌, ◌^◌, ◌<◌, ◌≤◌, ◌∙◌, length, All, Contains, ap, sym, subst, arith}
+use Rattle.query_laws.specs.Orders.{AllStampsDiffer}
 use Rattle.query_laws.specs.Permuted.{Permuted}
 use Rattle.query_laws.proofs.Permutations.{Permuted-length}
 use Rattle.builder_trait.specs.Parts.{without}
 use Rattle.builder_trait.specs.Builders.{begun}
-use Rattle.partial_build.specs.Construction.{AllStampsDiffer}
 use Rattle.level_slots.specs.Slots.{Stacked, IsPartOf, weight_of, live_items, all_items, asked}
 use Rattle.level_slots.specs.Neighbours.{IsPunctual, IsDue, IsDueSoon, HaveRoomsAbove}
 use Rattle.level_slots.specs.Stack.{IsStack, AreAllLevels}

@@ -1,6 +1,6 @@
 use Rattle.std.proofs.Common.{ap, length, subst, arith}
+use Rattle.query_laws.specs.Orders.{AllStampsDiffer}
 use Rattle.builder_trait.specs.Parts.{Contents}
-use Rattle.map_samples.specs.BothOrders.{AllStampsDiffer}
 use Rattle.map_samples.proofs.Putting.{read-at}
 use Rattle.map_samples.proofs.Sorting.{OwnsStamp-apart}
 use Rattle.map_samples.proofs.both_orders.BothOrders.item.Goals as goal
