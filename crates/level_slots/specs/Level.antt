@@ -23,5 +23,5 @@ pub record IsLevel {P B Item : Type 0} (contents : P → Contents Item) (progres
   pub parts_held : AreHeld (λ p. IsOfLevel level (contents p)) 3 parts parts_room
   pub builds : (c : Construction Item) → construction ≡ Some c → c.level ≡ level
   pub rooms : (r : ℕ) → room ≡ Some r → r ≡ level
-  pub builders_held : AreHeld (λ b. progress b ≡ begun level) 3 builders builders_room
+  pub builders_held : AreHeld (λ b. progress b ≡ begun level) 5 builders builders_room
   pub tables_held : AreHeld (λ t. t ≡ level) 2 tables tables_room

@@ -24,8 +24,12 @@ use std::alloc::Global;
 use std::marker::Model;
 use std::sync::ledger::Ledger;
 
-/// The most complete parts of a level, and the most builders that are kept for it.
+/// The most complete parts of a level.
 const PARTS: usize = 3;
+
+/// The most builders that are kept for a level. So many parts and rooms of a level are in memory at most: three that are complete, one
+/// under construction, and the room for the next one.
+const BUILDERS: usize = 5;
 
 /// The most tables that are kept for a level: those of its construction, and those of the room for the next one.
 const TABLES: usize = 2;
@@ -72,7 +76,7 @@ impl<B: Builder> Level<B> {
         ensures { IfOk result (λ made. made ≡ record { level = level; parts = []; construction = None; has_room = false; kept = 0 }) }
     {
         let parts = Vec::with_capacity(alloc, PARTS)?;
-        let builders = Vec::with_capacity(alloc, PARTS)?;
+        let builders = Vec::with_capacity(alloc, BUILDERS)?;
         let tables = Vec::with_capacity(alloc, TABLES)?;
         Ok(Level {
             level,
@@ -110,14 +114,14 @@ impl<B: Builder> Level<B> {
         self.parts.push_reserved(part);
     }
 
-    /// Retires the oldest part: its memory is kept as a builder where fewer than three are, and freed else.
+    /// Retires the oldest part: its memory is kept as a builder where fewer than five are, and freed else.
     fn retire(&mut self)
         requires { 0 < length self.old.parts }
         ensures retired { (p : B.Part) (rest : List B.Part) → self.old.parts ≡ p ∷ rest → self.new.parts ≡ rest }
-        ensures same { self.new ≡ record self.old { parts = self.new.parts; kept = min 3 (self.old.kept + 1) } }
+        ensures same { self.new ≡ record self.old { parts = self.new.parts; kept = min BUILDERS (self.old.kept + 1) } }
     {
         let builder = B::recycle(self.parts.remove(0));
-        if self.builders.len() < PARTS {
+        if self.builders.len() < BUILDERS {
             self.builders.push_reserved(builder);
         }
     }

@@ -218,7 +218,7 @@ pub(crate) fn rooms_held<B: Builder>(levels: &[Level<B>]) -> u64
 pub(crate) fn builders_kept<B: Builder>(levels: &[Level<B>]) -> u64
     requires { AreRising levels.now }
     ensures value { result ≡ kept_in levels.now }
-    ensures few { IsBounded 3 levels.now result }
+    ensures few { IsBounded 5 levels.now result }
 {
     match levels.split_first() {
         Some((level, above)) => level.kept_weight() + builders_kept(above),

@@ -212,7 +212,7 @@ impl<B: Builder> Stack<B> {
         self.starters.len() as u64 + rooms_held(&self.levels)
     }
 
-    /// The weight of the builders that are kept of retired parts, at most three of each level: one of level i weighs `2^i`.
+    /// The weight of the builders that are kept of retired parts, at most five of each level: one of level i weighs `2^i`.
     pub fn kept(&self) -> u64
         ensures { result ≡ kept_in self.now.levels }
     {

@@ -97,7 +97,7 @@ impl<B: Builder> Build<B> {
         let reading = quota.min(self.merge.left());
         self.read(reading, a, b, steps);
         self.grow(quota - reading, steps);
-        self.drain(steps);
+        self.drain(MARKS, steps);
         self.ticks += 1;
     }
 
@@ -142,15 +142,15 @@ impl<B: Builder> Build<B> {
         }
     }
 
-    /// Marks two of the items that wait in the new part, where that is built, or all where fewer wait.
-    fn drain<L: Ledger>(&mut self, steps: &mut Steps<L>)
+    /// Marks so many of the items that wait in the new part, where that is built, or all where fewer wait.
+    fn drain<L: Ledger>(&mut self, most: u64, steps: &mut Steps<L>)
         requires some { (a : Contents B.Item) × (b : Contents B.Item) × Builds B.Item.stamp B.Item.before self.old a b }
         ensures builds { (a b : Contents B.Item) → Builds B.Item.stamp B.Item.before self.old a b → Builds B.Item.stamp B.Item.before self.new a b }
         ensures same { self.new ≡ record self.old {
           part = record self.old.part { contents = self.new.part.contents };
           waiting = self.new.waiting;
         } }
-        ensures marks { steps.new.marks - steps.old.marks ≡ (if self.old.part.is_built then min MARKS (length self.old.waiting) else 0) }
+        ensures marks { steps.new.marks - steps.old.marks ≡ (if self.old.part.is_built then min most (length self.old.waiting) else 0) }
         ensures drained { length self.new.waiting + (steps.new.marks - steps.old.marks) ≡ length self.old.waiting }
         ensures cost { let marks = steps.new.marks - steps.old.marks in
             Spends steps.old steps.new 0 marks (marks * B.Part.Part.mark_touches self.old.level) }
@@ -158,7 +158,7 @@ impl<B: Builder> Build<B> {
         if !self.part.is_built() {
             return;
         }
-        for _drained in 0..MARKS {
+        for _drained in 0..most {
             self.mark_next(steps);
         }
     }
@@ -198,9 +198,10 @@ impl<B: Builder> Build<B> {
             → slice_get b.items k ≡ Some item.now → slice_get b.flags k ≡ Some true
             → Builds B.Item.stamp B.Item.before self.new a (marked B.Item.stamp (B.Item.stamp item.now) b) }
     {
-        if self.merge.passed(item) {
-            self.waiting.push_reserved(*item);
+        if !self.merge.passed(item) {
+            return;
         }
+        self.waiting.push_reserved(*item);
     }
 
     /// The new part, after all ticks, and tables for the next construction into the level. It counts nothing, and takes and frees no

@@ -3,7 +3,7 @@ ghost use Rattle.std.specs.Prelude.{◌≡◌, ◌+◌, ◌-◌, ◌*◌, ◌^�
 ghost use Rattle.builder_trait.specs.Builders.{begun};
 ghost use Rattle.level_slots.specs.Slots.{ticks_of};
 
-use crate::level::{Level, PARTS};
+use crate::level::{BUILDERS, Level};
 use builder_trait::Builder;
 use partial_build::{Room, Tables};
 use query_laws::NoMemory;
@@ -95,12 +95,12 @@ impl<B: Builder> Level<B> {
         self.room.take()
     }
 
-    /// Keeps a builder where fewer than three are kept, and frees it else.
+    /// Keeps a builder where fewer than five are kept, and frees it else.
     fn keep_builder(&mut self, builder: B)
         requires { B.progress builder ≡ begun self.old.level }
-        ensures { self.new ≡ record self.old { kept = min 3 (self.old.kept + 1) } }
+        ensures { self.new ≡ record self.old { kept = min BUILDERS (self.old.kept + 1) } }
     {
-        if self.builders.len() < PARTS {
+        if self.builders.len() < BUILDERS {
             self.builders.push_reserved(builder);
         }
     }
@@ -163,10 +163,10 @@ impl<B: Builder> Level<B> {
         }
     }
 
-    /// What the builders that are kept weigh: `2^level` each, and at most three.
+    /// What the builders that are kept weigh: `2^level` each, and at most five.
     pub(crate) fn kept_weight(&self) -> u64
         ensures value { result ≡ self.now.kept * 2 ^ self.now.level }
-        ensures few { self.now.kept ≤ 3 }
+        ensures few { self.now.kept ≤ 5 }
         ensures most { self.now.level < 32 }
     {
         self.builders.len() as u64 * 2u64.pow(self.level)

@@ -15,10 +15,10 @@ invariant_of-self g c =
       parts_held = h.parts_held;
       builds = h.builds;
       rooms = h.rooms;
-      builders_held = subst (AreHeld IsBegun 3 c.push_reserved.new.self.items) (sym c.push_reserved.ensures.capacity)
-          (subst (λ bs. AreHeld IsBegun 3 bs (vec_capacity v.builders)) (sym c.push_reserved.ensures.items)
+      builders_held = subst (AreHeld IsBegun 5 c.push_reserved.new.self.items) (sym c.push_reserved.ensures.capacity)
+          (subst (λ bs. AreHeld IsBegun 5 bs (vec_capacity v.builders)) (sym c.push_reserved.ensures.items)
           (AreHeld-push v.builders.items c.args.builder h.builders_held
           (c.requires ∙ ap (λ l. begun l.level) (sym c.self.view_is))
-          (omega (arith, c.if-len-lt-PARTS.true, c.len.ensures))));
+          (omega (arith, c.if-len-lt-BUILDERS.true, c.len.ensures))));
       tables_held = h.tables_held;
     }

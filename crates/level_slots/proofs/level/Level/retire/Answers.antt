@@ -20,15 +20,15 @@ invariant_of-self g c =
           (subst (λ ps. AreHeld IsPart 3 ps (vec_capacity v.parts)) (sym c.remove.ensures.items) (AreHeld-rest v.parts.items some h.parts_held));
       builds = h.builds;
       rooms = h.rooms;
-      builders_held = subst (AreHeld IsBegun 3 c.push_reserved.new.self.items) (sym c.push_reserved.ensures.capacity)
-          (subst (λ bs. AreHeld IsBegun 3 bs (vec_capacity v.builders)) (sym c.push_reserved.ensures.items)
+      builders_held = subst (AreHeld IsBegun 5 c.push_reserved.new.self.items) (sym c.push_reserved.ensures.capacity)
+          (subst (λ bs. AreHeld IsBegun 5 bs (vec_capacity v.builders)) (sym c.push_reserved.ensures.items)
           (AreHeld-push v.builders.items c.recycle-builder.result h.builders_held (c.recycle-builder.ensures ∙ ap begun part.at_level)
-          (omega (arith, c.if-len-lt-PARTS.true, c.len.ensures))));
+          (omega (arith, c.if-len-lt-BUILDERS.true, c.len.ensures))));
       tables_held = h.tables_held;
     }
 
-pub invariant_of-self-else-len-lt-PARTS : goal.invariant_of-self-else-len-lt-PARTS
-invariant_of-self-else-len-lt-PARTS g c =
+pub invariant_of-self-else-len-lt-BUILDERS : goal.invariant_of-self-else-len-lt-BUILDERS
+invariant_of-self-else-len-lt-BUILDERS g c =
     let h = c.self.invariant in
     let v = c.self.inside in
     let IsPart : g.row.B-Part.Denot → Type 0 = λ p. IsOfLevel v.level (g.B.Part.Part.contents p) in

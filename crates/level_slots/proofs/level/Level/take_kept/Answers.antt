@@ -15,7 +15,7 @@ invariant_of-self g c =
       parts_held = h.parts_held;
       builds = h.builds;
       rooms = h.rooms;
-      builders_held = subst (AreHeld IsBegun 3 c.pop.new.self.items) (sym c.pop.ensures.capacity)
+      builders_held = subst (AreHeld IsBegun 5 c.pop.new.self.items) (sym c.pop.ensures.capacity)
           (AreHeld-popped v.builders.items c.pop.new.self.items c.pop.result c.pop.ensures.items h.builders_held);
       tables_held = h.tables_held;
     }

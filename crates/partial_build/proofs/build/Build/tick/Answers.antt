@@ -1,4 +1,4 @@
-use Rattle.std.proofs.Common.{◌≡◌, ℕ, ◌+◌, ◌-◌, ◌^◌, ◌∙◌, if◌then◌else◌, min, inl, inr, ap, sym, subst, arith, length, ⊎_elim}
+use Rattle.std.proofs.Common.{◌≡◌, ℕ, Bool, true, ◌+◌, ◌-◌, ◌^◌, ◌∙◌, if◌then◌else◌, inl, inr, ap, sym, subst, arith, length, ⊎_elim}
 use Rattle.std.proofs.lemmas.Bool.{cases_lt}
 use Rattle.partial_build.specs.Quota.{quota}
 use Rattle.partial_build.specs.Construction.{Construction, turns_left}
@@ -14,6 +14,9 @@ seen g c = record {
   part = c.self-2.inside.part;
   waiting = c.self-2.inside.waiting.items;
 }
+
+marked_where_built : {b : Bool} {marks most : ℕ} → marks ≡ (if b then most else 0) → b ≡ true → marks ≡ most
+marked_where_built {b} {marks} {most} h built = h ∙ ap (λ c. if c then most else 0) built
 
 ticked : (g : Over) (c : goal.After-self-1 g) → IsTicked (2 ^ (c.self-2.inside.level - 1)) c.self-2.inside.ticks
     (quota g.B.Builder.SLOPE g.B.Builder.BASE c.self-2.inside.level)
@@ -49,9 +52,7 @@ ticked g c =
     (λ full. inl (omega (arith, after, per_tick, full, c.grow.ensures.left, c.read.ensures.fewer)))
     (cases_lt (c.min-reading.result + (c.grow.new.steps.turns - c.read.new.steps.turns)) q))
     (omega (arith, waits, c.drain.ensures.drained, ap (λ v. length v.waiting) c.self-2.view_is))
-    (λ ended. c.drain.ensures.marks
-    ∙ ap (λ b. if b then min 2 (length c.grow.new.self.waiting) else 0) (sym built ∙ ended_built c.self-2.invariant ended)
-    ∙ ap (min 2) waits)))
+    (λ ended. let drained = marked_where_built c.drain.ensures.marks (sym built ∙ ended_built c.self-2.invariant ended) in omega (arith, drained, waits))))
 
 pub invariant_of-self : goal.invariant_of-self
 invariant_of-self g c =
