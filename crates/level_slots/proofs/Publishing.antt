@@ -24,10 +24,9 @@ two_oldest (a ∷ []) two = absurd (omega (arith, two))
 two_oldest (a ∷ b ∷ rest) two = (a, b, rest, refl)
 
 -- a list is told by its first two entries and the rest, where they were read one by one
-pub are_oldest : {P : Type 0} (xs : List P) {held first_held second_held : List P} {a b : P} → held ≡ xs → 2 ≤ length held
-    → first_held ≡ xs → a ≡ get_or first_held 0 a → second_held ≡ xs → b ≡ get_or second_held 1 b → xs ≡ a ∷ b ∷ drop 2 xs
-are_oldest {P} xs {held} {first_held} {second_held} {a} {b} same two first_same first second_same second =
-    told xs (subst (λ l. 2 ≤ length l) same two) (first ∙ ap (λ l. get_or l 0 a) first_same) (second ∙ ap (λ l. get_or l 1 b) second_same)
+pub are_oldest : {P : Type 0} (xs : List P) {held : List P} {a b : P} → held ≡ xs → 2 ≤ length held
+    → a ≡ get_or held 0 a → b ≡ get_or held 1 b → xs ≡ a ∷ b ∷ drop 2 xs
+are_oldest {P} xs {held} {a} {b} same two first second = subst (λ l. l ≡ a ∷ b ∷ drop 2 l) same (told held two first second)
   where
     told : (l : List P) → 2 ≤ length l → a ≡ get_or l 0 a → b ≡ get_or l 1 b → l ≡ a ∷ b ∷ drop 2 l
     told [] two' at at' = absurd (omega (arith, two'))

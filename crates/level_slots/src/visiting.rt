@@ -33,10 +33,9 @@ fn visit<B: Builder, L: Ledger>(lower: &mut Level<B>, level: &mut Level<B>, step
     ensures idle { length lower.old.parts < 2 → steps.new ≡ steps.old }
     ensures cost { IsWithin (quota B.SLOPE B.BASE level.old.level) 2 (B.Part.Part.mark_touches level.old.level) steps.old steps.new }
 {
-    if lower.parts().len() < 2 {
+    let [a, b, ..] = lower.parts() else {
         return;
-    }
-    let (a, b) = (&lower.parts()[0], &lower.parts()[1]);
+    };
     level.begin(a, b);
     level.tick(a, b, steps);
     level.publish(lower);

@@ -8,31 +8,28 @@ use Rattle.level_slots.proofs.Publishing.{are_oldest, oldest_items}
 use Rattle.level_slots.proofs.Neighbouring.{fed_by, visited-idle, visited-ticked, visited-published}
 use Rattle.level_slots.proofs.visiting.visit.Goals as goal
 
-pub returns-then-parts-lt2-clause-visited : goal.returns-then-parts-lt2-clause-visited
-returns-then-parts-lt2-clause-visited g c =
+pub returns-in_default-clause-visited : goal.returns-in_default-clause-visited
+returns-in_default-clause-visited g c =
     visited-idle g.B.Part.Part.contents g.B.Item.Item.stamp g.B.Item.Item.before c.requires.below
-    (subst (λ ps. length ps < 2) c.parts.ensures.value c.if-parts-lt2.true)
+    (subst (λ ps. length ps < 2) c.parts.ensures.value c.in_default.len_below)
 
 pub begin-requires-clause-apart : goal.begin-requires-clause-apart
 begin-requires-clause-apart g c =
     let f : g.row.B-Part.Denot → List g.row.B-Item.Denot = λ p. (g.B.Part.Part.contents p).items in
-    let a = c.index-parts-0.result in
-    let b = c.index-parts-1.result in
+    let a = c.a-item.result in
+    let b = c.b-item.result in
     AllStampsDiffer-part g.B.Item.Item.stamp (f a ++ f b) (items_in g.B.Part.Part.contents c.args.lower.now)
-    (oldest_items f c.args.lower.now.parts a b (are_oldest c.args.lower.now.parts c.parts.ensures.value c.if-parts-lt2.false c.parts-2.ensures.value c.index-parts-0.is
-    c.parts-3.ensures.value c.index-parts-1.is)) c.requires.apart
+    (oldest_items f c.args.lower.now.parts a b (are_oldest c.args.lower.now.parts c.parts.ensures.value c.in-len2-up.len_at_least c.a-item.is c.b-item.is)) c.requires.apart
 
 pub begin-requires-clause-fed : goal.begin-requires-clause-fed
 begin-requires-clause-fed g c c' is =
-    c.requires.below.fed c.index-parts-0.result c.index-parts-1.result (drop 2 c.args.lower.now.parts)
-    (are_oldest c.args.lower.now.parts c.parts.ensures.value c.if-parts-lt2.false c.parts-2.ensures.value c.index-parts-0.is
-    c.parts-3.ensures.value c.index-parts-1.is) c' is
+    c.requires.below.fed c.a-item.result c.b-item.result (drop 2 c.args.lower.now.parts)
+    (are_oldest c.args.lower.now.parts c.parts.ensures.value c.in-len2-up.len_at_least c.a-item.is c.b-item.is) c' is
 
 pub publish-requires-clause-fed : goal.publish-requires-clause-fed
 publish-requires-clause-fed g c =
     fed_by g.B.Part.Part.contents g.B.Item.Item.stamp g.B.Item.Item.before c.args.lower.now c.tick.new.self
-    (are_oldest c.args.lower.now.parts c.parts.ensures.value c.if-parts-lt2.false c.parts-2.ensures.value c.index-parts-0.is
-    c.parts-3.ensures.value c.index-parts-1.is) c.tick.ensures.fed
+    (are_oldest c.args.lower.now.parts c.parts.ensures.value c.in-len2-up.len_at_least c.a-item.is c.b-item.is) c.tick.ensures.fed
 
 either : {A : Type 0} (o : Option A) → (o ≡ None) ⊎ (is_some o ≡ true)
 either None = inl refl
@@ -44,7 +41,7 @@ returns-clause-visited g c =
     let mid = c.tick.new.self in
     let old = c.args.level.now in
     let is_visited = IsVisited g.B.Part.Part.contents g.B.Item.Item.stamp g.B.Item.Item.before old c.args.lower.now in
-    let two : 2 ≤ length c.args.lower.now.parts = subst (λ ps. 2 ≤ length ps) c.parts.ensures.value c.if-parts-lt2.false in
+    let two : 2 ≤ length c.args.lower.now.parts = subst (λ ps. 2 ≤ length ps) c.parts.ensures.value c.in-len2-up.len_at_least in
     let parts : mid.parts ≡ old.parts = ap (λ v. v.parts) c.tick.ensures.same ∙ ap (λ v. v.parts) c.begin.ensures.same in
     let level : mid.level ≡ old.level = ap (λ v. v.level) c.tick.ensures.same ∙ ap (λ v. v.level) c.begin.ensures.same in
     let ticked : ticks_of mid ≡ ticks_of old + 1 = c.tick.ensures.ticked ∙ ap (λ n. n + 1) c.begin.ensures.ticks in
@@ -52,8 +49,7 @@ returns-clause-visited g c =
     ⊎_elim (λ none. inl none) (λ some. inr (ap (λ v. v.has_room) c.tick.ensures.same ∙ ap (λ v. v.has_room) (c.begin.ensures.running some)))
     (either old.construction) in
     let fed = fed_by g.B.Part.Part.contents g.B.Item.Item.stamp g.B.Item.Item.before c.args.lower.now mid
-    (are_oldest c.args.lower.now.parts c.parts.ensures.value c.if-parts-lt2.false c.parts-2.ensures.value c.index-parts-0.is
-    c.parts-3.ensures.value c.index-parts-1.is) c.tick.ensures.fed in
+    (are_oldest c.args.lower.now.parts c.parts.ensures.value c.in-len2-up.len_at_least c.a-item.is c.b-item.is) c.tick.ensures.fed in
     ⊎_elim
     (λ early. let w = c.publish.ensures.waits early in
     subst (λ n. is_visited n c.publish.new.lower) (sym w.0)
