@@ -1,6 +1,8 @@
 //! A reply of each variant, with and without the ledger, and what a sink is handed.
+ghost use Rattle.std.specs.Prelude.{◌<◌};
+
 use crate::{Refusal, Reply, write_reply};
-use map_io::{MemSink, WriteFault};
+use map_io::MemSink;
 use map_shapes::{Asked, Found, FoundList, IdList, Peak, Recent, Shape, Spent};
 use std::alloc::Global;
 use std::process::Abort;
@@ -212,6 +214,73 @@ fn writes_identifiers(rt: HostRuntime) -> Result<(), Fail> {
 }
 
 #[test]
+fn writes_no_identifiers(rt: HostRuntime) -> Result<(), Fail> {
+    let asked = asked();
+    let tail = b" parts 5/15 touches 99";
+    let ids = IdList::from(Vec::new(rt.alloc()));
+    check(
+        &rt,
+        rt.alloc(),
+        &Reply::Above { ids, asked },
+        b"above none",
+        tail,
+    )?;
+    let ids = IdList::from(Vec::new(rt.alloc()));
+    check(
+        &rt,
+        rt.alloc(),
+        &Reply::Stab { ids, asked },
+        b"stab none",
+        tail,
+    )?;
+    Ok(())
+}
+
+#[test]
+fn writes_the_largest_numbers(rt: HostRuntime) -> Result<(), Fail> {
+    let asked = Asked {
+        parts: u32::MAX,
+        part_bound: u32::MAX,
+        touches: u64::MAX,
+    };
+    let tail = b" parts 4294967295/4294967295 touches 18446744073709551615";
+    let largest = Found {
+        dist: u64::MAX,
+        id: u64::MAX,
+    };
+    check(
+        &rt,
+        rt.alloc(),
+        &Reply::Near {
+            found: Some(largest),
+            asked,
+        },
+        b"near 18446744073709551615 18446744073709551615",
+        tail,
+    )?;
+    let peak = Some(Peak {
+        y: 2_147_483_647,
+        id: u64::MAX,
+    });
+    check(
+        &rt,
+        rt.alloc(),
+        &Reply::Top { peak, asked },
+        b"top 18446744073709551615 2147483647",
+        tail,
+    )?;
+    let cause = Refusal::Unknown { id: u64::MAX };
+    check(
+        &rt,
+        rt.alloc(),
+        &Reply::Refused { cause },
+        b"no unknown 18446744073709551615",
+        b"",
+    )?;
+    Ok(())
+}
+
+#[test]
 fn writes_the_recent(rt: HostRuntime) -> Result<(), Fail> {
     let mut recent = Recent::new();
     check(
@@ -261,31 +330,45 @@ fn writes_refusals(rt: HostRuntime) -> Result<(), Fail> {
     Ok(())
 }
 
-/// `list` with so many identifiers of one digit: 5 bytes, and 2 for each.
-fn list_of(alloc: Global, count: usize) -> Result<Reply, Fail> {
-    let ids = IdList::from(vec![in alloc; 7u64; count]?);
+/// `list` with 7 so many times, and then one of two digits: 8 bytes with its line feed, and 2 for each 7.
+fn list_of(alloc: Global, sevens: usize) -> Result<Reply, Fail> {
+    let mut ids = vec![in alloc; 7u64; sevens]?;
+    ids.push(10)?;
     Ok(Reply::List {
-        ids,
+        ids: IdList::from(ids),
         asked: asked(),
     })
 }
 
-/// A line of at most 64 bytes is one write, and a longer one fills the first piece: the second call fails.
+/// How the line of a list ends, and how many bytes are written, where one call fails.
+fn written_before(alloc: Global, call: u64, sevens: usize) -> Result<(bool, usize), Fail>
+    requires { 0 < call }
+{
+    let failing = vec![in alloc; call]?;
+    let mut sink = MemSink::new([0; 300].to_vec(alloc)?, 300, failing);
+    let written = write_reply(&list_of(alloc, sevens)?, false, &mut sink);
+    Ok((written.is_ok(), sink.written().len()))
+}
+
+/// A line of at most 64 bytes is one call, and a longer one fills each piece but the last.
 #[test]
 fn writes_pieces(rt: HostRuntime) -> Result<(), Fail> {
-    let second = vec![in rt.alloc(); 2u64]?;
-    let mut sink = MemSink::new([0; 300].to_vec(rt.alloc())?, 300, second);
-    assert_eq!(rt;
-        write_reply(&list_of(rt.alloc(), 29)?, false, &mut sink),
-        Ok(())
-    );
-    assert_eq!(rt; sink.written().len(), 63);
-    let second = vec![in rt.alloc(); 2u64]?;
-    let mut sink = MemSink::new([0; 300].to_vec(rt.alloc())?, 300, second);
-    assert_eq!(rt;
-        write_reply(&list_of(rt.alloc(), 100)?, false, &mut sink),
-        Err(WriteFault)
-    );
-    assert_eq!(rt; sink.written().len(), 64);
+    for (call, sevens, wanted) in [
+        (2, 27, (true, 62)),
+        (2, 28, (true, 64)),
+        (1, 28, (false, 0)),
+        (2, 29, (false, 64)),
+        (3, 29, (true, 66)),
+        (2, 100, (false, 64)),
+        (3, 100, (false, 128)),
+        (4, 100, (false, 192)),
+        (5, 100, (true, 208)),
+    ] {
+        assert_eq!(rt;
+            written_before(rt.alloc(), call, sevens)?,
+            wanted,
+            "{sevens} in call {call}"
+        );
+    }
     Ok(())
 }

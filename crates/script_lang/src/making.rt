@@ -1,8 +1,9 @@
 // The command that the words of a line make.
 ghost use Rattle.std.specs.Prelude.{◌≡◌, ◌≤◌, true, slice_index};
-ghost use Rattle.map_model.specs.Shapes as shapes;
+ghost use Rattle.map_model.specs.Script.Command as commands;
 ghost use Rattle.map_model.specs.Script.Form as model;
 ghost use Rattle.map_model.specs.Script.Grammar as grammar;
+ghost use Rattle.map_model.specs.Script.Shape as shapes;
 ghost use Rattle.map_shapes.specs.Rect.{rect_of};
 ghost use Rattle.script_lang.specs.Form.{verb_of, verb_of_question, order_of};
 ghost use Rattle.map_shapes.specs.declared.kind.Kind.{Kind};
@@ -41,36 +42,44 @@ pub fn make_command(
     ensures { command_of result ≡ grammar.command_of (verb_of verb) (values_of name numbers.now kind indexes) }
 {
     let id = numbers.id;
-    let places = &numbers.places;
-    let (x, y, z) = (places.get(0), places.get(1), places.get(2));
+    let k = numbers.amount;
     match verb {
         Verb::Layer => Command::Layer {
             name,
             kind,
             indexes,
         },
-        Verb::Add => Command::Add {
-            name,
-            id,
-            x,
-            y,
-            w: z,
-        },
-        Verb::Seg => Command::Seg {
-            name,
-            id,
-            lo: x,
-            hi: y,
-            y: z,
-        },
+        Verb::Add => make_add(name, numbers),
+        Verb::Seg => make_seg(name, numbers),
         Verb::Drop => Command::Drop { name, id },
         Verb::Ask(question) => make_question(question, name, numbers),
         Verb::Get => Command::Get { name, id },
         Verb::Size => Command::Size { name },
-        Verb::Recent => Command::Recent {
-            name,
-            k: numbers.amount,
-        },
+        Verb::Recent => Command::Recent { name, k },
+    }
+}
+
+/// The command that adds a point.
+fn make_add(name: Name, numbers: &Numbers) -> Command
+    ensures { command_of result ≡ commands.Add name numbers.now.id (shapes.Point (slice_index numbers.now.places 0) (slice_index numbers.now.places 1) (slice_index numbers.now.places 2)) }
+{
+    let id = numbers.id;
+    let (x, y, w) = first_three(&numbers.places);
+    Command::Add { name, id, x, y, w }
+}
+
+/// The command that adds a segment.
+fn make_seg(name: Name, numbers: &Numbers) -> Command
+    ensures { command_of result ≡ commands.Add name numbers.now.id (shapes.Segment (slice_index numbers.now.places 0) (slice_index numbers.now.places 1) (slice_index numbers.now.places 2)) }
+{
+    let id = numbers.id;
+    let (lo, hi, y) = first_three(&numbers.places);
+    Command::Seg {
+        name,
+        id,
+        lo,
+        hi,
+        y,
     }
 }
 
@@ -81,7 +90,8 @@ fn make_question(question: Question, name: Name, numbers: &Numbers) -> Command
     ensures { (kind : Kind) (indexes : IndexSet) → command_of result ≡ grammar.command_of (verb_of_question question) (values_of name numbers.now kind indexes) }
 {
     let places = &numbers.places;
-    let (x, y, z) = (places.get(0), places.get(1), places.get(2));
+    let k = numbers.amount;
+    let (x, y, z) = first_three(places);
     match question {
         Question::Count => Command::Count {
             name,
@@ -96,12 +106,7 @@ fn make_question(question: Question, name: Name, numbers: &Numbers) -> Command
             rect: corners(places),
         },
         Question::Near => Command::Near { name, x, y },
-        Question::Nearest => Command::Nearest {
-            name,
-            k: numbers.amount,
-            x,
-            y,
-        },
+        Question::Nearest => Command::Nearest { name, k, x, y },
         Question::Above => Command::Above {
             name,
             x1: x,
@@ -112,6 +117,13 @@ fn make_question(question: Question, name: Name, numbers: &Numbers) -> Command
         Question::Stab => Command::Stab { name, x },
         Question::StabCount => Command::StabCount { name, x },
     }
+}
+
+/// The first three coordinates, and 0 where there are fewer.
+fn first_three(places: &Coordinates) -> (u32, u32, u32)
+    ensures { result ≡ (slice_index places.now 0, slice_index places.now 1, slice_index places.now 2) }
+{
+    (places.get(0), places.get(1), places.get(2))
 }
 
 /// The rectangle of four coordinates.

@@ -117,7 +117,8 @@ fn reads_questions_of_layers(rt: HostRuntime) {
             Ok(Some(Command::Get { id: u64::MAX, .. }))
         )
     );
-    assert!(rt; matches!(parse(b"\tsize a-_Z9\t\r"), Ok(Some(Command::Size { .. }))));
+    assert!(rt; matches!(parse(b"\tsize a\t\r"), Ok(Some(Command::Size { .. }))));
+    assert!(rt; matches!(parse(b"size a-_Z9"), Ok(Some(Command::Size { .. }))));
     assert!(rt; matches!(parse(b"recent a 1"), Ok(Some(Command::Recent { k: 1, .. }))));
 }
 
@@ -132,6 +133,7 @@ fn tells_the_first_fault(rt: HostRuntime) {
         (b"fly a!", LineFault::Command),
         (b"size", LineFault::Fields),
         (b"size a! a", LineFault::Fields),
+        (b"size a a", LineFault::Fields),
         (b"layer q points", LineFault::Fields),
         (b"size abcdefghijklmnopq", LineFault::Name),
         (b"get a! +1", LineFault::Name),
@@ -156,8 +158,10 @@ fn tells_the_first_fault(rt: HostRuntime) {
 #[test]
 fn says_nothing(rt: HostRuntime) {
     assert!(rt; is_nothing(b""));
-    assert!(rt; is_nothing(b"   "));
+    assert!(rt; is_nothing(b" "));
+    assert!(rt; is_nothing(b" \t  "));
     assert!(rt; is_nothing(b"\r"));
+    assert!(rt; is_nothing(b"#\xff"));
     assert!(rt; is_nothing(b"\t#\xff add"));
 }
 
@@ -171,6 +175,12 @@ fn measures_lines(rt: HostRuntime) -> Result<(), Fail> {
     assert_eq!(rt; (line.len(), fault(line.as_slice())), (257, None));
     line.push(b'\r')?;
     assert_eq!(rt; fault(line.as_slice()), Some(LineFault::Line));
+    line.truncate(256);
+    line.push(b' ')?;
+    assert_eq!(rt;
+        (line.len(), fault(line.as_slice())),
+        (257, Some(LineFault::Line))
+    );
     let mut comment = b"#".to_vec(rt.alloc())?;
     for _ in 0..255 {
         comment.push(b'x')?;
