@@ -1,5 +1,5 @@
 -- The refinement: what each operation on the nodes and the ends makes of their list.
-use Rattle.std.proofs.Common.{◌↔◌, ◌≡◌, ◌≢◌, ℕ, ◌+◌, Bool, true, false, List, [], ◌∷◌, ◌++◌, Option, Some, None, refl, sym, ap, ◌∙◌, arith, subst, append-nil, length-append, reverse, add-zero}
+use Rattle.std.proofs.Common.{◌↔◌, ◌≡◌, ◌≢◌, ℕ, ◌+◌, Bool, true, false, List, [], ◌∷◌, ◌++◌, Option, Some, None, refl, sym, ap, ◌∙◌, arith, subst, append-nil, length-append, add-zero}
 use Rattle.std.proofs.lemmas.Bool.{true_from_ne_false, false_from_ne_true}
 use Rattle.std.proofs.lemmas.Bool.Decides.{nat_tests}
 use Rattle.std.specs.Option.{option_map_or}
@@ -7,9 +7,9 @@ use Rattle.slab.proofs.SlabLemmas.{vacant_after_removal}
 use Rattle.slab.specs.Slab.{Slab, get, slab_len, ContainsKey, Updates}
 use Rattle.id_chain.specs.declared.node.Node.{Node}
 use Rattle.id_chain.specs.Chain.{Entry, is_linked, before, after, first_or, last_or, first_handle, last_handle}
-use Rattle.id_chain.specs.Linking.{walk_back, IsRun, IsChainOf, Refines, list_of, SetsNext, SetsPrev, IsNodeOf}
+use Rattle.id_chain.specs.Linking.{IsRun, IsChainOf, Refines, list_of, SetsNext, SetsPrev, IsNodeOf}
 use Rattle.id_chain.proofs.Links.{ContainsKey-some}
-use Rattle.id_chain.proofs.Entries.{last_handle-linked, first_handle-linked, item_at-linked, split_at, no_end, linked_head, linked_tail, unlinked_parts, unlinked_both, unlinked_head, unlinked_more, first_or-append, last_or-append, last_or-other, first_or-other, Apart-parts, Apart-without, HandlesDiffer-append}
+use Rattle.id_chain.proofs.Entries.{last_handle-linked, first_handle-linked, item_at-linked, split_at, no_end, linked_head, linked_tail, unlinked_parts, unlinked_both, unlinked_more, first_or-append, last_or-append, last_or-other, first_or-other, Apart-parts, Apart-without, HandlesDiffer-append}
 use Rattle.id_chain.proofs.Runs.{walk-run, walk_back-run, IsRun-parts, IsRun-append, IsRun-same, IsRun-next, IsRun-prev, node_at, linked_apart, run_linked, vacant_unlinked, first_or-linked, last_or-linked}
 
 module _ {I : Type 0} where
@@ -18,23 +18,14 @@ module _ {I : Type 0} where
   list_of-chain nodes first last es chain =
       rw (sym chain.full, chain.first_is) (walk-run (get nodes) None es chain.run)
 
-  -- the walk by `prev` from the last place gives it reversed
-  pub walk_back-chain : (nodes : Slab (Node I)) (first last : Option ℕ) (es : List (Entry I)) → IsChainOf nodes first last es
-      → walk_back (get nodes) (slab_len nodes) last ≡ reverse es
-  walk_back-chain nodes first last es chain =
-      rw (sym chain.full, chain.last_is) (rw (add-zero, append-nil) at (walk_back-run (get nodes) None es None 0 chain.run))
-
-  pub Refines-chain : (nodes : Slab (Node I)) (first last : Option ℕ) (es : List (Entry I)) → IsChainOf nodes first last es → Refines nodes first last es
-  Refines-chain nodes first last es chain = record {
-    links = chain;
-    forward = list_of-chain nodes first last es chain;
-    backward = walk_back-chain nodes first last es chain;
-  }
-
-  -- so they are refined by the list that the walk gives
+  -- The nodes are refined by the list that the walk gives, and the walk by `prev` from the last place gives it reversed.
   pub Refines-walked : (nodes : Slab (Node I)) (first last : Option ℕ) (es : List (Entry I)) → IsChainOf nodes first last es
       → Refines nodes first last (list_of nodes first)
-  Refines-walked nodes first last es chain = rw (list_of-chain nodes first last es chain) (Refines-chain nodes first last es chain)
+  Refines-walked nodes first last es chain = rw (list_of-chain nodes first last es chain) (record {
+    links = chain;
+    forward = list_of-chain nodes first last es chain;
+    backward = rw (sym chain.full, chain.last_is) (rw (add-zero, append-nil) at (walk_back-run (get nodes) None es None 0 chain.run));
+  })
 
   -- a place is linked exactly where it has a node
   pub has_node : (nodes : Slab (Node I)) (first last : Option ℕ) (es : List (Entry I)) (place : ℕ) → IsChainOf nodes first last es
