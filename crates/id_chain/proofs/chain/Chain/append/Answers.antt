@@ -1,6 +1,7 @@
-use Rattle.std.proofs.Common.{ap, ◌∙◌}
-use Rattle.id_chain.specs.Chain.{before}
-use Rattle.id_chain.proofs.Cursors.{before-append}
+use Rattle.std.proofs.Common.{[], ap, ◌∙◌}
+use Rattle.id_chain.specs.Chain.{is_linked, item_at, before, after}
+use Rattle.id_chain.proofs.Cursors.{before-append, after-append, others-append, linked-append}
+use Rattle.id_chain.proofs.Entries.{before-split}
 use Rattle.id_chain.proofs.Chains.{opened, present_last, appended_at, appended_new, Refines-walked, list_of-chain}
 use Rattle.id_chain.proofs.chain.Chain.append.Goals as goal
 
@@ -26,3 +27,15 @@ returns-clause-entries g c =
 
 pub returns-clause-before : goal.returns-clause-before
 returns-clause-before g c = λ other linked. ap (before other) (returns-clause-entries g c) ∙ before-append other c.args.self.now.entries _ linked
+
+pub returns-clause-after : goal.returns-clause-after
+returns-clause-after g c = λ other linked. ap (after other) (returns-clause-entries g c) ∙ after-append other c.args.self.now.entries _ linked
+
+pub returns-clause-others : goal.returns-clause-others
+returns-clause-others g c = λ other linked. rw (returns-clause-entries g c) (others-append other c.args.self.now.entries _ linked)
+
+pub returns-clause-linked : goal.returns-clause-linked
+returns-clause-linked g c = ap (is_linked _) (returns-clause-entries g c) ∙ linked-append c.args.self.now.entries _
+
+pub returns-clause-before_new : goal.returns-clause-before_new
+returns-clause-before_new g c = ap (before _) (returns-clause-entries g c) ∙ before-split _ _ c.args.self.now.entries [] (returns-clause-new_handle g c)
