@@ -19,13 +19,13 @@ module _ {I : Type 0} where
   next-linked : (handle next : ℕ) (es : List (Entry I)) → first_handle (after handle es) ≡ Some next → is_linked next es ≡ true
   next-linked handle next es is = after-linked handle next es (first_handle-linked (after handle es) next is)
 
-  pub IsCursor-next : (handle : ℕ) (es : List (Entry I)) (next : Option ℕ) → next ≡ first_handle (after handle es) → IsCursor next es
-  IsCursor-next handle es None is = tt
-  IsCursor-next handle es (Some next) is = next-linked handle next es (sym is)
+  pub IsCursor_next : (handle : ℕ) (es : List (Entry I)) (next : Option ℕ) → next ≡ first_handle (after handle es) → IsCursor next es
+  IsCursor_next handle es None is = tt
+  IsCursor_next handle es (Some next) is = next-linked handle next es (sym is)
 
-  pub IsCursor-prev : (handle : ℕ) (es : List (Entry I)) (prev : Option ℕ) → prev ≡ last_handle (before handle es) → IsCursor prev es
-  IsCursor-prev handle es None is = tt
-  IsCursor-prev handle es (Some prev) is = before-linked handle prev es (last_handle-linked (before handle es) prev (sym is))
+  pub IsCursor_prev : (handle : ℕ) (es : List (Entry I)) (prev : Option ℕ) → prev ≡ last_handle (before handle es) → IsCursor prev es
+  IsCursor_prev handle es None is = tt
+  IsCursor_prev handle es (Some prev) is = before-linked handle prev es (last_handle-linked (before handle es) prev (sym is))
 
   -- before the next handle there is what is before a handle, and its entry
   before_first : (first : ℕ) (es : List (Entry I)) → first_handle es ≡ Some first → before first es ≡ []
@@ -43,9 +43,9 @@ module _ {I : Type 0} where
   up_to-end handle (e ∷ []) is = grind (arith, nat_tests, common_steps)
   up_to-end handle (e ∷ f ∷ es) is = grind (arith, nat_tests, common_steps, up_to-end handle (f ∷ es))
 
-  pub before_cursor-next : (handle : ℕ) (es : List (Entry I)) (next : Option ℕ) → HandlesDiffer es → next ≡ first_handle (after handle es) → before_cursor next es ≡ up_to handle es
-  before_cursor-next handle es None differ is = sym (up_to-end handle es (sym is))
-  before_cursor-next handle es (Some next) differ is = before-next handle next es differ (sym is)
+  pub before_cursor_next : (handle : ℕ) (es : List (Entry I)) (next : Option ℕ) → HandlesDiffer es → next ≡ first_handle (after handle es) → before_cursor next es ≡ up_to handle es
+  before_cursor_next handle es None differ is = sym (up_to-end handle es (sym is))
+  before_cursor_next handle es (Some next) differ is = before-next handle next es differ (sym is)
 
   pub up_to_split : (handle : ℕ) (item : I) (es : List (Entry I)) → item_at handle es ≡ Some item → up_to handle es ≡ before handle es ++ record { handle = handle; item = item } ∷ []
   up_to_split handle item [] is = absurd (cc)

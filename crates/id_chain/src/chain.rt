@@ -164,6 +164,7 @@ impl<I: Copy> Chain<I> {
     }
 
     /// The handle of the item after this one, or `None` at the end.
+    #[tactic(auto, using(crate::proofs::Cursors::IsCursor_next, crate::proofs::Cursors::before_cursor_next))]
     pub fn next(&self, handle: Handle) -> Option<Handle>
         requires { IsTrue (is_linked handle self.now.entries) }
         ensures neighbour { result ≡ first_handle (after handle self.now.entries) }
@@ -176,6 +177,7 @@ impl<I: Copy> Chain<I> {
     }
 
     /// The handle of the item before this one, or `None` at the front.
+    #[tactic(auto, using(crate::proofs::Cursors::IsCursor_prev))]
     pub fn prev(&self, handle: Handle) -> Option<Handle>
         requires { IsTrue (is_linked handle self.now.entries) }
         ensures neighbour { result ≡ last_handle (before handle self.now.entries) }

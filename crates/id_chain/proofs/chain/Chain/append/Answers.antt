@@ -1,5 +1,5 @@
 use Rattle.std.proofs.Common.{[], ap, ◌∙◌}
-use Rattle.id_chain.specs.Chain.{is_linked, item_at, before, after}
+use Rattle.id_chain.specs.Chain.{is_linked, before, after}
 use Rattle.id_chain.proofs.Cursors.{before-append, after-append, others-append, linked-append}
 use Rattle.id_chain.proofs.Entries.{before-split}
 use Rattle.id_chain.proofs.Chains.{opened, present_last, appended_at, appended_new, Refines-walked, list_of-chain}
