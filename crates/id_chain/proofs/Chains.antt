@@ -214,36 +214,38 @@ module _ {I : Type 0} where
       }
 
   -- all of an unlink
-  pub unlinked_at : (old nodes mid new : Slab (Node I)) (first last first' last' : Option ℕ) (es : List (Entry I)) (handle : ℕ) (node : Node I)
+  pub unlinked_at : (old nodes mid new : Slab (Node I)) (first last first' last' : Option ℕ) (es : List (Entry I)) (handle : ℕ) (node : Node I) (prev : Option ℕ)
       → IsChainOf old first last es
       → is_linked handle es ≡ true
       → get old handle ≡ Some node
       → Updates old nodes handle None
       → slab_len nodes + 1 ≡ slab_len old
       → SetsNext nodes mid node.prev node.next
-      → SetsPrev mid new node.next node.prev
+      → SetsPrev mid new node.next prev
+      → prev ≡ node.prev
       → first' ≡ option_map_or (λ _. first) node.prev node.next
-      → last' ≡ option_map_or (λ _. last) node.next node.prev
+      → last' ≡ option_map_or (λ _. last) node.next prev
       → IsChainOf new first' last' (before handle es ++ after handle es)
-  unlinked_at old nodes mid new first last first' last' es handle node chain linked found updates len sets_next sets_prev first_is last_is =
+  unlinked_at old nodes mid new first last first' last' es handle node prev chain linked found updates len sets_next sets_prev prev_is first_is last_is =
       let read = IsNodeOf-linked old first last es handle node chain linked found in
       let whole = split_chain old first last es handle chain linked in
-      rw (first_is, last_is)
+      rw (first_is, last_is, prev_is)
       (unlinked old nodes mid new first last node.prev node.next (before handle es) (record { handle = handle; item = whole.0 }) (after handle es)
-      whole.1 updates len read.prev read.next sets_next sets_prev)
+      whole.1 updates len read.prev read.next sets_next (rw prev_is at sets_prev))
 
   -- all of an append
-  pub appended_at : (old nodes new : Slab (Node I)) (first last first' : Option ℕ) (es : List (Entry I)) (place handle : ℕ) (item : I)
+  pub appended_at : (old nodes new : Slab (Node I)) (first last first' : Option ℕ) (es : List (Entry I)) (place handle : ℕ) (item : I) (prev : Option ℕ)
       → IsChainOf old first last es
       → get old place ≡ None
-      → Updates old nodes place (Some (record { item = item; prev = last; next = None }))
+      → Updates old nodes place (Some (record { item = item; prev = prev; next = None }))
+      → prev ≡ last
       → slab_len nodes ≡ slab_len old + 1
       → handle ≡ place
       → SetsNext nodes new last (Some handle)
       → first' ≡ option_map_or (λ _. first) last (Some handle)
       → IsChainOf new first' (Some handle) (es ++ record { handle = handle; item = item } ∷ [])
-  appended_at old nodes new first last first' es place handle item chain vacant updates len same sets first_is =
-      rw (first_is, same) (appended old nodes new first last es place item chain vacant updates len (rw same at sets))
+  appended_at old nodes new first last first' es place handle item prev chain vacant updates prev_is len same sets first_is =
+      rw (first_is, same) (appended old nodes new first last es place item chain vacant (rw prev_is at updates) len (rw same at sets))
 
   -- the handle of an append is not linked before
   pub appended_new : (old : Slab (Node I)) (first last : Option ℕ) (es : List (Entry I)) (place handle : ℕ) → IsChainOf old first last es → get old place ≡ None → handle ≡ place

@@ -1,4 +1,4 @@
-use Rattle.std.proofs.Common.{◌++◌, ap, sym, ◌∙◌}
+use Rattle.std.proofs.Common.{◌++◌, ap, sym, ◌∙◌, arith}
 use Rattle.slab.specs.Slab.{get}
 use Rattle.id_chain.specs.Chain.{is_linked, before, after}
 use Rattle.id_chain.proofs.Cursors.{before-without, without_handle-other, unlinked-without, others-without, after-without, next-without}
@@ -26,7 +26,7 @@ pub invariant_of-self : goal.invariant_of-self
 invariant_of-self g c =
     let chain = opened _ _ _ _ c.self.invariant (ap (λ v. v.entries) c.self.view_is) in
     let linked = ap (λ h. is_linked h c.args.self.now.entries) c.handle.view_is ∙ c.requires in
-    Refines-walked _ _ _ _ (unlinked_at _ _ _ _ _ _ _ _ _ c.handle.inside.place _ chain linked c.remove-node.ensures.value c.remove-node.ensures.updates c.remove-node.ensures.len c.link_next.ensures.nodes c.link_prev.ensures.nodes c.link_next.ensures.first c.link_prev.ensures.last)
+    Refines-walked _ _ _ _ (unlinked_at _ _ _ _ _ _ _ _ _ c.handle.inside.place _ _ chain linked c.remove-node.ensures.value c.remove-node.ensures.updates c.remove-node.ensures.len c.link_next.ensures.nodes c.link_prev.ensures.nodes (grind arith) c.link_next.ensures.first c.link_prev.ensures.last)
 
 pub returns-clause-item : goal.returns-clause-item
 returns-clause-item g c =
@@ -37,7 +37,7 @@ pub returns-clause-entries : goal.returns-clause-entries
 returns-clause-entries g c =
     let chain = opened _ _ _ _ c.self.invariant (ap (λ v. v.entries) c.self.view_is) in
     let linked = ap (λ h. is_linked h c.args.self.now.entries) c.handle.view_is ∙ c.requires in
-    list_of-chain _ _ _ _ (unlinked_at _ _ _ _ _ _ _ _ _ c.handle.inside.place _ chain linked c.remove-node.ensures.value c.remove-node.ensures.updates c.remove-node.ensures.len c.link_next.ensures.nodes c.link_prev.ensures.nodes c.link_next.ensures.first c.link_prev.ensures.last)
+    list_of-chain _ _ _ _ (unlinked_at _ _ _ _ _ _ _ _ _ c.handle.inside.place _ _ chain linked c.remove-node.ensures.value c.remove-node.ensures.updates c.remove-node.ensures.len c.link_next.ensures.nodes c.link_prev.ensures.nodes (grind arith) c.link_next.ensures.first c.link_prev.ensures.last)
     ∙ ap (λ h. before h c.args.self.now.entries ++ after h c.args.self.now.entries) c.handle.view_is
 
 pub returns-clause-before : goal.returns-clause-before
