@@ -1,5 +1,5 @@
 -- The refinement: what each operation on the nodes and the ends makes of their list.
-use Rattle.std.proofs.Common.{◌↔◌, ◌≡◌, ◌≢◌, ℕ, ◌+◌, Bool, true, false, List, [], ◌∷◌, ◌++◌, Option, Some, None, refl, sym, ap, ◌∙◌, arith, subst, append-nil, length-append, reverse, add-zero}
+use Rattle.std.proofs.Common.{◌↔◌, ◌≡◌, ◌≢◌, ℕ, ◌+◌, Bool, true, false, List, [], ◌∷◌, ◌++◌, Option, Some, None, refl, sym, ap, ◌∙◌, arith, subst, append-nil, length-append, add-zero}
 use Rattle.std.proofs.lemmas.Bool.{true_from_ne_false, false_from_ne_true}
 use Rattle.std.proofs.lemmas.Bool.Decides.{nat_tests}
 use Rattle.std.specs.Option.{option_map_or}
@@ -7,9 +7,9 @@ use Rattle.slab.proofs.SlabLemmas.{vacant_after_removal}
 use Rattle.slab.specs.Slab.{Slab, get, slab_len, ContainsKey, Updates}
 use Rattle.id_chain.specs.declared.node.Node.{Node}
 use Rattle.id_chain.specs.Chain.{Entry, is_linked, before, after, first_or, last_or, first_handle, last_handle}
-use Rattle.id_chain.specs.Linking.{walk_back, IsRun, IsChainOf, Refines, list_of, SetsNext, SetsPrev, IsNodeOf}
+use Rattle.id_chain.specs.Linking.{IsRun, IsChainOf, Refines, list_of, SetsNext, SetsPrev, IsNodeOf}
 use Rattle.id_chain.proofs.Links.{ContainsKey-some}
-use Rattle.id_chain.proofs.Entries.{last_handle-linked, first_handle-linked, item_at-linked, split_at, no_end, linked_head, linked_tail, unlinked_parts, unlinked_both, unlinked_head, unlinked_more, first_or-append, last_or-append, last_or-other, first_or-other, Apart-parts, Apart-without, HandlesDiffer-append}
+use Rattle.id_chain.proofs.Entries.{last_handle-linked, first_handle-linked, item_at-linked, split_at, no_end, linked_head, linked_tail, unlinked_parts, unlinked_both, unlinked_more, first_or-append, last_or-append, last_or-other, first_or-other, Apart-parts, Apart-without, HandlesDiffer-append}
 use Rattle.id_chain.proofs.Runs.{walk-run, walk_back-run, IsRun-parts, IsRun-append, IsRun-same, IsRun-next, IsRun-prev, node_at, linked_apart, run_linked, vacant_unlinked, first_or-linked, last_or-linked}
 
 module _ {I : Type 0} where
@@ -18,23 +18,14 @@ module _ {I : Type 0} where
   list_of-chain nodes first last es chain =
       rw (sym chain.full, chain.first_is) (walk-run (get nodes) None es chain.run)
 
-  -- the walk by `prev` from the last place gives it reversed
-  pub walk_back-chain : (nodes : Slab (Node I)) (first last : Option ℕ) (es : List (Entry I)) → IsChainOf nodes first last es
-      → walk_back (get nodes) (slab_len nodes) last ≡ reverse es
-  walk_back-chain nodes first last es chain =
-      rw (sym chain.full, chain.last_is) (rw (add-zero, append-nil) at (walk_back-run (get nodes) None es None 0 chain.run))
-
-  pub Refines-chain : (nodes : Slab (Node I)) (first last : Option ℕ) (es : List (Entry I)) → IsChainOf nodes first last es → Refines nodes first last es
-  Refines-chain nodes first last es chain = record {
-    links = chain;
-    forward = list_of-chain nodes first last es chain;
-    backward = walk_back-chain nodes first last es chain;
-  }
-
-  -- so they are refined by the list that the walk gives
+  -- The nodes are refined by the list that the walk gives, and the walk by `prev` from the last place gives it reversed.
   pub Refines-walked : (nodes : Slab (Node I)) (first last : Option ℕ) (es : List (Entry I)) → IsChainOf nodes first last es
       → Refines nodes first last (list_of nodes first)
-  Refines-walked nodes first last es chain = rw (list_of-chain nodes first last es chain) (Refines-chain nodes first last es chain)
+  Refines-walked nodes first last es chain = rw (list_of-chain nodes first last es chain) (record {
+    links = chain;
+    forward = list_of-chain nodes first last es chain;
+    backward = rw (sym chain.full, chain.last_is) (rw (add-zero, append-nil) at (walk_back-run (get nodes) None es None 0 chain.run));
+  })
 
   -- a place is linked exactly where it has a node
   pub has_node : (nodes : Slab (Node I)) (first last : Option ℕ) (es : List (Entry I)) (place : ℕ) → IsChainOf nodes first last es
@@ -223,36 +214,38 @@ module _ {I : Type 0} where
       }
 
   -- all of an unlink
-  pub unlinked_at : (old nodes mid new : Slab (Node I)) (first last first' last' : Option ℕ) (es : List (Entry I)) (handle : ℕ) (node : Node I)
+  pub unlinked_at : (old nodes mid new : Slab (Node I)) (first last first' last' : Option ℕ) (es : List (Entry I)) (handle : ℕ) (node : Node I) (prev : Option ℕ)
       → IsChainOf old first last es
       → is_linked handle es ≡ true
       → get old handle ≡ Some node
       → Updates old nodes handle None
       → slab_len nodes + 1 ≡ slab_len old
       → SetsNext nodes mid node.prev node.next
-      → SetsPrev mid new node.next node.prev
+      → SetsPrev mid new node.next prev
+      → prev ≡ node.prev
       → first' ≡ option_map_or (λ _. first) node.prev node.next
-      → last' ≡ option_map_or (λ _. last) node.next node.prev
+      → last' ≡ option_map_or (λ _. last) node.next prev
       → IsChainOf new first' last' (before handle es ++ after handle es)
-  unlinked_at old nodes mid new first last first' last' es handle node chain linked found updates len sets_next sets_prev first_is last_is =
+  unlinked_at old nodes mid new first last first' last' es handle node prev chain linked found updates len sets_next sets_prev prev_is first_is last_is =
       let read = IsNodeOf-linked old first last es handle node chain linked found in
       let whole = split_chain old first last es handle chain linked in
-      rw (first_is, last_is)
+      rw (first_is, last_is, prev_is)
       (unlinked old nodes mid new first last node.prev node.next (before handle es) (record { handle = handle; item = whole.0 }) (after handle es)
-      whole.1 updates len read.prev read.next sets_next sets_prev)
+      whole.1 updates len read.prev read.next sets_next (rw prev_is at sets_prev))
 
   -- all of an append
-  pub appended_at : (old nodes new : Slab (Node I)) (first last first' : Option ℕ) (es : List (Entry I)) (place handle : ℕ) (item : I)
+  pub appended_at : (old nodes new : Slab (Node I)) (first last first' : Option ℕ) (es : List (Entry I)) (place handle : ℕ) (item : I) (prev : Option ℕ)
       → IsChainOf old first last es
       → get old place ≡ None
-      → Updates old nodes place (Some (record { item = item; prev = last; next = None }))
+      → Updates old nodes place (Some (record { item = item; prev = prev; next = None }))
+      → prev ≡ last
       → slab_len nodes ≡ slab_len old + 1
       → handle ≡ place
       → SetsNext nodes new last (Some handle)
       → first' ≡ option_map_or (λ _. first) last (Some handle)
       → IsChainOf new first' (Some handle) (es ++ record { handle = handle; item = item } ∷ [])
-  appended_at old nodes new first last first' es place handle item chain vacant updates len same sets first_is =
-      rw (first_is, same) (appended old nodes new first last es place item chain vacant updates len (rw same at sets))
+  appended_at old nodes new first last first' es place handle item prev chain vacant updates prev_is len same sets first_is =
+      rw (first_is, same) (appended old nodes new first last es place item chain vacant (rw prev_is at updates) len (rw same at sets))
 
   -- the handle of an append is not linked before
   pub appended_new : (old : Slab (Node I)) (first last : Option ℕ) (es : List (Entry I)) (place handle : ℕ) → IsChainOf old first last es → get old place ≡ None → handle ≡ place

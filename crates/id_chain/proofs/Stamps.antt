@@ -2,7 +2,7 @@
 use Rattle.std.proofs.Common.{◌≡◌, ℕ, ◌+◌, ◌≤◌, List, [], ◌∷◌, ◌++◌, Some, filter, nat_lt, refl, arith}
 use Rattle.std.proofs.lemmas.Bool.Decides.{nat_tests}
 use Rattle.std.proofs.lemmas.Grind.{common_steps}
-use Rattle.id_chain.specs.Chain.{Entry, item_at, before}
+use Rattle.id_chain.specs.Chain.{Entry, is_linked, item_at, before}
 use Rattle.id_chain.specs.StampsRise.{StampsRise}
 
 module _ {I : Type 0} (stamp : I → ℕ) where
@@ -46,4 +46,19 @@ module _ {I : Type 0} (stamp : I → ℕ) where
         none_below (stamp item) (stamp e.item + 1) es high,
         item_at-above handle (stamp e.item + 1) item es high rise.1,
         before-by_stamp (stamp e.item + 1) high handle item es rise.1,
+      )
+
+  -- one entry is before another exactly where its stamp is smaller
+  pub is_before-by_stamp : (low high handle other : ℕ) (item other_item : I) (es : List (Entry I)) → StampsRise stamp low es high → item_at handle es ≡ Some item → item_at other es ≡ Some other_item
+      → is_linked other (before handle es) ≡ nat_lt (stamp other_item) (stamp item)
+  is_before-by_stamp low high handle other item other_item [] rise is other_is = absurd (cc)
+  is_before-by_stamp low high handle other item other_item (e ∷ es) rise is other_is =
+      grind (
+        arith,
+        nat_tests,
+        common_steps,
+        rise.0,
+        item_at-above handle (stamp e.item + 1) item es high rise.1,
+        item_at-above other (stamp e.item + 1) other_item es high rise.1,
+        is_before-by_stamp (stamp e.item + 1) high handle other item other_item es rise.1,
       )

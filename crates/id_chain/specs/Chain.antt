@@ -1,5 +1,5 @@
 -- What a contract sees of a chain.
-use Rattle.std.specs.Prelude.{◌≡◌, ℕ, ◌==◌, ◌||◌, ◌++◌, Bool, false, if◌then◌else◌, List, [], ◌∷◌, Option, Some, None, refl}
+use Rattle.std.specs.Prelude.{◌≡◌, ℕ, ◌==◌, ◌||◌, ◌++◌, Bool, false, if◌then◌else◌, IsTrue, List, [], ◌∷◌, Option, Some, None, IfSome, refl}
 use Rattle.std.specs.Coded.{Coded, code_by, coded×, coded_ℕ, coded_list}
 
 -- an item, and the handle under which it is linked
@@ -54,6 +54,15 @@ module _ {I : Type 0} where
   abbrev pub up_to : ℕ → List (Entry I) → List (Entry I)
   up_to handle [] = []
   up_to handle (e ∷ es) = e ∷ (if e.handle == handle then [] else up_to handle es)
+
+  -- A cursor stands at a linked handle, or behind the last entry, where it has none.
+  abbrev pub IsCursor : Option ℕ → List (Entry I) → Type 0
+  IsCursor cursor es = IfSome cursor (λ handle. IsTrue (is_linked handle es))
+
+  -- the entries before a cursor
+  abbrev pub before_cursor : Option ℕ → List (Entry I) → List (Entry I)
+  before_cursor None es = es
+  before_cursor (Some handle) es = before handle es
 
   -- the entries without that of a handle, all others in their order
   abbrev pub without_handle : ℕ → List (Entry I) → List (Entry I)

@@ -1,6 +1,6 @@
 //! The chain itself.
-ghost use Rattle.std.specs.Prelude.{◌≡◌, ◌≢◌, ◌↔◌, ℕ, ◌+◌, ◌≤◌, [], ◌∷◌, ◌++◌, length, Some, false, IsTrue, IsOk, IfSome, OnOk};
-ghost use Rattle.id_chain.specs.Chain.{is_linked, HandlesDiffer, item_at, before, after, up_to, without_handle, first_handle, last_handle};
+ghost use Rattle.std.specs.Prelude.{◌≡◌, ◌≢◌, ◌↔◌, ℕ, ◌+◌, ◌≤◌, [], ◌∷◌, ◌++◌, length, Some, false, IsTrue, IsOk, OnOk};
+ghost use Rattle.id_chain.specs.Chain.{is_linked, HandlesDiffer, item_at, before, after, up_to, IsCursor, before_cursor, without_handle, first_handle, last_handle};
 
 use crate::handle::Handle;
 use crate::node::{Node, link_next, link_prev};
@@ -78,9 +78,17 @@ impl<I: Copy> Chain<I> {
         ensures new_handle { is_linked result self.old.entries ≡ false }
         ensures entries { self.new.entries ≡ self.old.entries ++ record { handle = result; item = item } ∷ [] }
 
-        // What is before a handle stays.
+        // All that were linked are before the new handle.
+        ensures linked { IsTrue (is_linked result self.new.entries) }
+        ensures before_new { before result self.new.entries ≡ self.old.entries }
+
+        // Any other handle stays linked, with its item and what is before it, and the new entry comes after it.
+        ensures others { (other : ℕ) → IsTrue (is_linked other self.old.entries)
+            → IsTrue (is_linked other self.new.entries) × (item_at other self.new.entries ≡ item_at other self.old.entries) }
         ensures before { (other : ℕ) → IsTrue (is_linked other self.old.entries)
             → before other self.new.entries ≡ before other self.old.entries }
+        ensures after { (other : ℕ) → IsTrue (is_linked other self.old.entries)
+            → after other self.new.entries ≡ after other self.old.entries ++ record { handle = result; item = item } ∷ [] }
         ensures spare { self.old.spare ≤ self.new.spare + 1 }
     {
         let place = self.nodes.insert_reserved(Node {
@@ -99,16 +107,23 @@ impl<I: Copy> Chain<I> {
         requires { IsTrue (is_linked handle self.old.entries) }
         ensures item { item_at handle self.old.entries ≡ Some result }
         ensures entries { self.new.entries ≡ without_handle handle self.old.entries }
+        ensures unlinked { is_linked handle self.new.entries ≡ false }
+        ensures others { (other : ℕ) → other ≢ handle
+            → (is_linked other self.new.entries ≡ is_linked other self.old.entries)
+            × (item_at other self.new.entries ≡ item_at other self.old.entries) }
 
-        // Before any other handle there is what was before it, but for the unlinked entry.
+        // Before and after any other handle there is what was there, but for the unlinked entry.
         ensures before { (other : ℕ) → other ≢ handle
             → before other self.new.entries ≡ without_handle handle (before other self.old.entries) }
+        ensures after { (other : ℕ) → other ≢ handle
+            → after other self.new.entries ≡ without_handle handle (after other self.old.entries) }
         ensures before_kept { (other : ℕ) → other ≢ handle → is_linked handle (before other self.old.entries) ≡ false
             → before other self.new.entries ≡ before other self.old.entries }
 
-        // Before the next handle there is what was before the unlinked one.
-        ensures before_next { (next : ℕ) → first_handle (after handle self.old.entries) ≡ Some next
-            → before next self.new.entries ≡ before handle self.old.entries }
+        // A cursor at the unlinked entry can go on to the next one, and has before it what it had.
+        ensures next { IsCursor (first_handle (after handle self.old.entries)) self.new.entries }
+        ensures before_next { before_cursor (first_handle (after handle self.old.entries)) self.new.entries
+            ≡ before handle self.old.entries }
         ensures spare { self.old.spare ≤ self.new.spare }
     {
         let node = self.nodes.remove(handle.place);
@@ -125,9 +140,16 @@ impl<I: Copy> Chain<I> {
     }
 
     /// The item under a handle.
+    #[tactic(auto, using(crate::proofs::Entries::split_at, crate::proofs::Cursors::up_to_split))]
     pub fn item(&self, handle: Handle) -> I
         requires { IsTrue (is_linked handle self.now.entries) }
-        ensures { item_at handle self.now.entries ≡ Some result }
+        ensures item { item_at handle self.now.entries ≡ Some result }
+
+        // The chain is what is before the handle, its entry, and what is after it.
+        ensures split { self.now.entries
+            ≡ before handle self.now.entries ++ record { handle = handle; item = result } ∷ after handle self.now.entries }
+        ensures up_to { up_to handle self.now.entries
+            ≡ before handle self.now.entries ++ record { handle = handle; item = result } ∷ [] }
     {
         self.node(handle).item
     }
@@ -142,22 +164,24 @@ impl<I: Copy> Chain<I> {
     }
 
     /// The handle of the item after this one, or `None` at the end.
+    #[tactic(auto, using(crate::proofs::Cursors::IsCursor_next, crate::proofs::Cursors::before_cursor_next))]
     pub fn next(&self, handle: Handle) -> Option<Handle>
         requires { IsTrue (is_linked handle self.now.entries) }
         ensures neighbour { result ≡ first_handle (after handle self.now.entries) }
-        ensures linked { IfSome result (λ next. IsTrue (is_linked next self.now.entries)) }
+        ensures linked { IsCursor result self.now.entries }
 
-        // What is before the next handle is what is before this one, and this one's entry.
-        ensures before { IfSome result (λ next. before next self.now.entries ≡ up_to handle self.now.entries) }
+        // What is before the next handle is what is before this one, and this one's entry; where there is none, that is all.
+        ensures before { before_cursor result self.now.entries ≡ up_to handle self.now.entries }
     {
         self.node(handle).next
     }
 
     /// The handle of the item before this one, or `None` at the front.
+    #[tactic(auto, using(crate::proofs::Cursors::IsCursor_prev))]
     pub fn prev(&self, handle: Handle) -> Option<Handle>
         requires { IsTrue (is_linked handle self.now.entries) }
         ensures neighbour { result ≡ last_handle (before handle self.now.entries) }
-        ensures linked { IfSome result (λ prev. IsTrue (is_linked prev self.now.entries)) }
+        ensures linked { IsCursor result self.now.entries }
     {
         self.node(handle).prev
     }
@@ -165,7 +189,8 @@ impl<I: Copy> Chain<I> {
     /// The handle at the front, or `None` where the chain is empty.
     pub fn first(&self) -> Option<Handle>
         ensures end { result ≡ first_handle self.now.entries }
-        ensures linked { IfSome result (λ first. IsTrue (is_linked first self.now.entries)) }
+        ensures linked { IsCursor result self.now.entries }
+        ensures before { before_cursor result self.now.entries ≡ [] }
     {
         self.first
     }
@@ -173,7 +198,7 @@ impl<I: Copy> Chain<I> {
     /// The handle at the end, or `None` where the chain is empty.
     pub fn last(&self) -> Option<Handle>
         ensures end { result ≡ last_handle self.now.entries }
-        ensures linked { IfSome result (λ last. IsTrue (is_linked last self.now.entries)) }
+        ensures linked { IsCursor result self.now.entries }
     {
         self.last
     }

@@ -1,5 +1,9 @@
-//! A place that is used again, and many calls in random order against a plain vector.
-use crate::{Chain, Handle};
+//! A place that is used again, a walk while entries come and go, and many calls in random order against a plain vector.
+ghost use Rattle.std.specs.Prelude.{◌≡◌, ◌≢◌, ◌+◌, ◌≤◌, ℕ, [], ◌∷◌, ◌++◌, Some, IsTrue};
+ghost use Rattle.id_chain.specs.Chain.{is_linked, before, IsCursor, before_cursor, without_handle};
+ghost use Rattle.id_chain.specs.StampsRise.{StampsRise};
+
+use crate::{Chain, Handle, before_by_stamp};
 use query_laws::NoMemory;
 use std::process::Abort;
 use std::test::Fail;
@@ -39,6 +43,80 @@ fn uses_a_place_again(rt: HostRuntime) -> Result<(), Fail> {
         (chain.item(a), chain.item(c), chain.item(d)),
         ('A', 'C', 'D')
     );
+    Ok(())
+}
+
+/// The item at a cursor, and the cursor behind it.
+fn hand_over<I: Copy>(chain: &Chain<I>, at: Handle) -> (I, Option<Handle>)
+    requires { IsTrue (is_linked at chain.now.entries) }
+    ensures cursor { IsCursor result.1 chain.now.entries }
+    ensures before { before_cursor result.1 chain.now.entries
+        ≡ before at chain.now.entries ++ record { handle = at; item = result.0 } ∷ [] }
+{
+    (chain.item(at), chain.next(at))
+}
+
+/// Unlinks an entry. A cursor that stands at it goes on to the next one.
+fn unlink_beside<I: Copy>(
+    chain: &mut Chain<I>,
+    cursor: Option<Handle>,
+    handle: Handle,
+) -> Option<Handle>
+    requires linked { IsTrue (is_linked handle chain.old.entries) }
+    requires cursor { IsCursor cursor chain.old.entries }
+    ensures cursor { IsCursor result chain.new.entries }
+    ensures other { cursor ≢ Some handle
+        → before_cursor result chain.new.entries ≡ without_handle handle (before_cursor cursor chain.old.entries) }
+    ensures own { cursor ≡ Some handle
+        → before_cursor result chain.new.entries ≡ before handle chain.old.entries }
+{
+    let cursor = if cursor == Some(handle) {
+        chain.next(handle)
+    } else {
+        cursor
+    };
+    chain.unlink(handle);
+    cursor
+}
+
+/// Appends an item. A cursor behind all entries stands at the new one.
+fn append_beside<I: Copy>(chain: &mut Chain<I>, cursor: Option<Handle>, item: I) -> Option<Handle>
+    requires room { 1 ≤ chain.old.spare }
+    requires cursor { IsCursor cursor chain.old.entries }
+    ensures cursor { IsCursor result chain.new.entries }
+    ensures before { before_cursor result chain.new.entries ≡ before_cursor cursor chain.old.entries }
+{
+    let handle = chain.append(item);
+    cursor.or(Some(handle))
+}
+
+/// Whether an entry is before another, as its stamp tells; here an item is its own stamp.
+fn is_before(chain: &Chain<u64>, handle: Handle, other: Handle) -> bool
+    requires handle { IsTrue (is_linked handle chain.now.entries) }
+    requires other { IsTrue (is_linked other chain.now.entries) }
+    requires rising { (high : ℕ) × StampsRise (λ n. n) 0 chain.now.entries high }
+    ensures { result ≡ is_linked other (before handle chain.now.entries) }
+{
+    before_by_stamp::<u64>();
+    chain.item(other) < chain.item(handle)
+}
+
+#[test]
+fn walks_while_entries_come_and_go(rt: HostRuntime) -> Result<(), Fail> {
+    let mut chain = Chain::new(rt.alloc());
+    let a = add(&mut chain, 1u64)?;
+    let b = add(&mut chain, 2)?;
+    let c = add(&mut chain, 3)?;
+    assert!(rt; chain.has(a) && chain.has(b) && chain.has(c));
+    let (item, cursor) = hand_over(&chain, a);
+    assert_eq!(rt; (item, cursor), (1, Some(b)));
+    let cursor = unlink_beside(&mut chain, cursor, b);
+    assert_eq!(rt; cursor, Some(c));
+    let (item, cursor) = hand_over(&chain, c);
+    assert_eq!(rt; (item, cursor), (3, None));
+    chain.reserve()?;
+    let cursor = append_beside(&mut chain, cursor, 4);
+    assert_eq!(rt; (cursor, chain.last()), (Some(b), Some(b)));
     Ok(())
 }
 

@@ -1,7 +1,7 @@
-use Rattle.std.proofs.Common.{◌++◌, ap, sym, ◌∙◌}
+use Rattle.std.proofs.Common.{◌++◌, ap, sym, ◌∙◌, arith}
 use Rattle.slab.specs.Slab.{get}
 use Rattle.id_chain.specs.Chain.{is_linked, before, after}
-use Rattle.id_chain.proofs.Cursors.{before-without, without_handle-other, before-next_unlinked}
+use Rattle.id_chain.proofs.Cursors.{before-without, without_handle-other, unlinked-without, others-without, after-without, next-without}
 use Rattle.id_chain.proofs.Chains.{opened, linked_present, IsNodeOf-linked, neighbours_stay, unlinked_at, Refines-walked, list_of-chain}
 use Rattle.id_chain.proofs.chain.Chain.unlink.Goals as goal
 
@@ -26,7 +26,7 @@ pub invariant_of-self : goal.invariant_of-self
 invariant_of-self g c =
     let chain = opened _ _ _ _ c.self.invariant (ap (λ v. v.entries) c.self.view_is) in
     let linked = ap (λ h. is_linked h c.args.self.now.entries) c.handle.view_is ∙ c.requires in
-    Refines-walked _ _ _ _ (unlinked_at _ _ _ _ _ _ _ _ _ c.handle.inside.place _ chain linked c.remove-node.ensures.value c.remove-node.ensures.updates c.remove-node.ensures.len c.link_next.ensures.nodes c.link_prev.ensures.nodes c.link_next.ensures.first c.link_prev.ensures.last)
+    Refines-walked _ _ _ _ (unlinked_at _ _ _ _ _ _ _ _ _ c.handle.inside.place _ _ chain linked c.remove-node.ensures.value c.remove-node.ensures.updates c.remove-node.ensures.len c.link_next.ensures.nodes c.link_prev.ensures.nodes (grind arith) c.link_next.ensures.first c.link_prev.ensures.last)
 
 pub returns-clause-item : goal.returns-clause-item
 returns-clause-item g c =
@@ -37,7 +37,7 @@ pub returns-clause-entries : goal.returns-clause-entries
 returns-clause-entries g c =
     let chain = opened _ _ _ _ c.self.invariant (ap (λ v. v.entries) c.self.view_is) in
     let linked = ap (λ h. is_linked h c.args.self.now.entries) c.handle.view_is ∙ c.requires in
-    list_of-chain _ _ _ _ (unlinked_at _ _ _ _ _ _ _ _ _ c.handle.inside.place _ chain linked c.remove-node.ensures.value c.remove-node.ensures.updates c.remove-node.ensures.len c.link_next.ensures.nodes c.link_prev.ensures.nodes c.link_next.ensures.first c.link_prev.ensures.last)
+    list_of-chain _ _ _ _ (unlinked_at _ _ _ _ _ _ _ _ _ c.handle.inside.place _ _ chain linked c.remove-node.ensures.value c.remove-node.ensures.updates c.remove-node.ensures.len c.link_next.ensures.nodes c.link_prev.ensures.nodes (grind arith) c.link_next.ensures.first c.link_prev.ensures.last)
     ∙ ap (λ h. before h c.args.self.now.entries ++ after h c.args.self.now.entries) c.handle.view_is
 
 pub returns-clause-before : goal.returns-clause-before
@@ -46,7 +46,25 @@ returns-clause-before g c = λ other apart. ap (before other) (returns-clause-en
 pub returns-clause-before_kept : goal.returns-clause-before_kept
 returns-clause-before_kept g c = λ other apart none. returns-clause-before g c other apart ∙ without_handle-other c.args.handle (before other c.args.self.now.entries) none
 
-pub returns-clause-before_next : goal.returns-clause-before_next
-returns-clause-before_next g c = λ next is.
+pub returns-clause-unlinked : goal.returns-clause-unlinked
+returns-clause-unlinked g c =
     let chain = opened _ _ _ _ c.self.invariant (ap (λ v. v.entries) c.self.view_is) in
-    ap (before next) (returns-clause-entries g c) ∙ before-next_unlinked c.args.handle next c.args.self.now.entries chain.differ is
+    ap (is_linked c.args.handle) (returns-clause-entries g c) ∙ unlinked-without c.args.handle c.args.self.now.entries chain.differ
+
+pub returns-clause-others : goal.returns-clause-others
+returns-clause-others g c = λ other apart. rw (returns-clause-entries g c) (others-without c.args.handle other c.args.self.now.entries apart)
+
+pub returns-clause-after : goal.returns-clause-after
+returns-clause-after g c = λ other apart.
+    let chain = opened _ _ _ _ c.self.invariant (ap (λ v. v.entries) c.self.view_is) in
+    ap (after other) (returns-clause-entries g c) ∙ after-without c.args.handle other c.args.self.now.entries chain.differ apart
+
+pub returns-clause-before_next : goal.returns-clause-before_next
+returns-clause-before_next g c =
+    let chain = opened _ _ _ _ c.self.invariant (ap (λ v. v.entries) c.self.view_is) in
+    rw (returns-clause-entries g c) (next-without c.args.handle c.args.self.now.entries chain.differ).1
+
+pub returns-clause-next : goal.returns-clause-next
+returns-clause-next g c =
+    let chain = opened _ _ _ _ c.self.invariant (ap (λ v. v.entries) c.self.view_is) in
+    rw (returns-clause-entries g c) (next-without c.args.handle c.args.self.now.entries chain.differ).0

@@ -13,6 +13,6 @@ prev-at-requires g c =
 
 pub loop-done-preserved : goal.loop-done-preserved
 loop-done-preserved g c = elim c.match-at.branch [
-  | in-Some w ↦ HasWalked-step g.I.Named.id _ _ _ _ _ _ _ _ _ c.self.invariant.handles_differ c.loop-done.invariant w.in-Some.is w.item.ensures w.id.ensures (w.recent-is ∙ w.push.ensures) (w.at-is ∙ w.prev-at.ensures.neighbour)
+  | in-Some w ↦ HasWalked-step g.I.Named.id _ _ _ _ _ _ _ _ _ c.self.invariant.handles_differ c.loop-done.invariant w.in-Some.is w.item.ensures.item w.id.ensures (w.recent-is ∙ w.push.ensures) (w.at-is ∙ w.prev-at.ensures.neighbour)
   | in_default w ↦ HasWalked-stay g.I.Named.id _ _ _ _ _ _ c.loop-done.invariant w.in_default.is w.recent-is w.at-is
 ]

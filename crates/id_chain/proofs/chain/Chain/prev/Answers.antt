@@ -1,5 +1,0 @@
-use Rattle.id_chain.proofs.Cursors.{IfSome-prev_linked}
-use Rattle.id_chain.proofs.chain.Chain.prev.Goals as goal
-
-pub returns-clause-linked : goal.returns-clause-linked
-returns-clause-linked g c = IfSome-prev_linked c.args.handle c.args.self.now.entries c.node.result.now.prev c.node.ensures.node.prev
