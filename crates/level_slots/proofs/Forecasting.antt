@@ -1,5 +1,5 @@
 -- Rooms by forecast, and what a preparation keeps.
-use Rattle.std.proofs.Common.{◌≡◌, ℕ, suc, ◌+◌, ◌-◌, ◌*◌, ◌^◌, ◌<◌, ◌≤◌, ◌∙◌, Bool, false, List, [], ◌∷◌, ◌++◌, Some, None, length, All, if◌then◌else◌, nat_le, ⊎_elim, Result, Ok, Err, IfOk, slice_get, get_or, set, refl, ap, ap₂, sym, subst, arith, pow_mono, le-leb}
+use Rattle.std.proofs.Common.{◌≡◌, ℕ, suc, ◌+◌, ◌-◌, ◌*◌, ◌^◌, ◌<◌, ◌≤◌, ◌∙◌, Bool, false, List, [], ◌∷◌, ◌++◌, Some, None, length, All, if◌then◌else◌, nat_le, ⊎_elim, Result, Ok, Err, IfOk, OnErr, slice_get, get_or, set, refl, ap, ap₂, sym, subst, arith, pow_mono, le-leb}
 use Rattle.std.proofs.Math.Nat.{mul-le-mul_left, mul-le-mul_right}
 use Rattle.std.proofs.lemmas.Bool.{cases_lt}
 use Rattle.std.proofs.lemmas.List.{length-append}
@@ -7,7 +7,7 @@ use Rattle.std.proofs.lemmas.Nat.{pow_pos}
 use Rattle.std.proofs.lemmas.List.Elements.{All-cons, All-head, All-push, All-tail}
 use Rattle.query_laws.specs.Orders.{AllStampsDiffer}
 use Rattle.builder_trait.specs.Parts.{Contents}
-use Rattle.level_slots.specs.Slots.{Slots, ticks_of, weight_in, weight_of, parts_of, live_in, items_in, live_items, all_items}
+use Rattle.level_slots.specs.Slots.{Slots, ticks_of, held_in, held_of, lowest_held, weight_in, weight_of, parts_of, live_in, items_in, live_items, all_items}
 use Rattle.level_slots.specs.Neighbours.{IsBelow, IsTower, IsPunctual, IsDue, IsDueSoon, HaveRooms, HaveRoomsAbove}
 use Rattle.level_slots.specs.Rooms.{rooms_in, forecast_of}
 use Rattle.level_slots.specs.Stack.{AreAllLevels, IsStack}
@@ -158,9 +158,26 @@ pub when_ok : {A E p q : Type 0} (r : Result A E) → (p → q) → IfOk r (λ _
 when_ok (Ok x) f h = f h
 when_ok (Err e) f h = tt
 
+pub when_err : {A E p q : Type 0} (r : Result A E) → (p → q) → OnErr r p → OnErr r q
+when_err (Ok x) f h = tt
+when_err (Err e) f h = f h
+
 pub anyway_ok : {A E p : Type 0} (r : Result A E) → p → IfOk r (λ _. p)
 anyway_ok (Ok x) h = h
 anyway_ok (Err e) h = tt
+
+module _ {P Item : Type 0} where
+  -- the lowest level alone changed
+  pub held-lowest : (levels : List (Slots P Item)) (l l' : Slots P Item) → 0 < length levels → l ≡ get_or levels 0 l
+      → (lowest_held levels ≡ held_in l) × (lowest_held (set levels 0 l') ≡ held_in l') × (held_of (set levels 0 l') + held_in l ≡ held_of levels + held_in l')
+  held-lowest [] l l' some is = absurd (omega (arith, some))
+  held-lowest (x ∷ above) l l' some is = (sym (ap held_in is), refl, omega (arith, ap held_in is))
+
+  -- a level without parts was added
+  pub held-added : (levels : List (Slots P Item)) (n : ℕ) → (held_of (levels ++ unused n ∷ []) ≡ held_of levels)
+      × (lowest_held (levels ++ unused n ∷ []) ≡ lowest_held levels)
+  held-added [] n = (refl, refl)
+  held-added (l ∷ above) n = (ap (λ k. held_in l + k) (held-added above n).0, refl)
 
 module _ {P Item : Type 0} (contents : P → Contents Item) where
   same-kept : (lower : Slots P Item) (old new : List (Slots P Item)) → KeepRooms lower old new
@@ -190,6 +207,11 @@ module _ {P Item : Type 0} (contents : P → Contents Item) where
         → AreAllLevels contents stamp before levels → l.level ≡ 0
     lowest_level [] l some is h = absurd (omega (arith, some))
     lowest_level (x ∷ above) l some is h = ap (λ v. v.level) is ∙ h.0
+
+    pub lowest_construction : (levels : List (Slots P Item)) (l : Slots P Item) → 0 < length levels → l ≡ get_or levels 0 l
+        → AreAllLevels contents stamp before levels → l.construction ≡ None
+    lowest_construction [] l some is h = absurd (omega (arith, some))
+    lowest_construction (x ∷ above) l some is h = ap (λ v. v.construction) is ∙ h.1
 
     below-kept : (lower lower' l l' : Slots P Item) → IsSame lower lower' → IsSame l l' → IsBelow contents stamp before 1 lower l
         → IsBelow contents stamp before 1 lower' l'
@@ -436,9 +458,9 @@ module _ {P Item : Type 0} (contents : P → Contents Item) where
           (h : IsStack contents stamp before slope base (record { levels = old; spare = spare; starters = starters }))
           (k : IsKept contents stamp before slope base old new) where
         -- not all memory was given
-        pub IsStack-kept : (starters' : ℕ) → starters ≤ starters' → starters' ≤ 2
+        pub IsStack-kept : (starters' : ℕ) → starters ≤ starters' → starters' ≤ 2 → lowest_held new + starters' ≤ 5
             → IsStack contents stamp before slope base (record { levels = new; spare = spare; starters = starters' })
-        IsStack-kept starters' more few = record {
+        IsStack-kept starters' more few lowest = record {
           levels = k.levels h.levels;
           punctual = k.punctual h.punctual;
           apart = subst (AllStampsDiffer stamp) (sym k.items) h.apart;
@@ -446,15 +468,16 @@ module _ {P Item : Type 0} (contents : P → Contents Item) where
           few = k.few h.few;
           starters_few = few;
           spare_few = omega (arith, h.spare_few, more);
+          lowest_few = lowest;
           some = λ s. omega (arith, h.some s, k.some);
           rooms = λ s light. k.rooms h.levels (h.some s) (h.rooms (omega (arith, s)) (omega (arith, light, k.weight)));
           rooms_ahead = λ s light. k.rooms_ahead h.levels (h.some (omega (arith, s))) (h.rooms_ahead (omega (arith, s)) (omega (arith, light, k.weight)));
         }
 
         -- two ticks need no more
-        pub IsStack-ready : 0 < length new → (weight_of new < 2 ^ 31 → HaveRoomsAbove IsDueSoon new)
+        pub IsStack-ready : 0 < length new → lowest_held new + 2 ≤ 5 → (weight_of new < 2 ^ 31 → HaveRoomsAbove IsDueSoon new)
             → IsStack contents stamp before slope base (record { levels = new; spare = 2; starters = 2 })
-        IsStack-ready some ready = record {
+        IsStack-ready some lowest ready = record {
           levels = k.levels h.levels;
           punctual = k.punctual h.punctual;
           apart = subst (AllStampsDiffer stamp) (sym k.items) h.apart;
@@ -462,6 +485,7 @@ module _ {P Item : Type 0} (contents : P → Contents Item) where
           few = k.few h.few;
           starters_few = omega arith;
           spare_few = omega arith;
+          lowest_few = lowest;
           some = λ s. some;
           rooms = λ s light. due_above-from_soon new (ready light);
           rooms_ahead = λ s light. ready light;

@@ -1,11 +1,20 @@
 -- The lists of a level.
-use Rattle.std.proofs.Common.{◌≡◌, ℕ, ◌<◌, Option, Some, None, List, [], ◌∷◌, ◌++◌, ◌∙◌, length, remove, option_to_list, arith, ap, sym}
+use Rattle.std.proofs.Common.{◌≡◌, ℕ, ◌+◌, ◌<◌, ◌≤◌, Option, Some, None, List, [], ◌∷◌, ◌++◌, ◌∙◌, length, remove, option_to_list, arith, refl, ap, sym, subst}
+use Rattle.std.specs.Option.{is_some}
 use Rattle.std.proofs.lemmas.List.{length-append}
 use Rattle.std.proofs.lemmas.List.Elements.{All-append, All-cons, All-nil, All-pop, All-tail}
 use Rattle.builder_trait.specs.Parts.{Contents}
 use Rattle.builder_trait.specs.Builders.{Progress}
 use Rattle.partial_build.specs.Construction.{Construction}
+use Rattle.level_slots.specs.Slots.{one_if}
 use Rattle.level_slots.specs.Level.{AreHeld, IsLevel}
+
+pub counted : {X : Type 0} {o : Option X} {x : X} → o ≡ Some x → one_if (is_some o) ≡ 1
+counted {X} {o} {x} is = subst (λ p. one_if (is_some p) ≡ 1) (sym is) refl
+
+pub length-rest : {X : Type 0} (xs : List X) → 0 < length xs → length (remove xs 0) + 1 ≡ length xs
+length-rest [] some = absurd (omega (arith, some))
+length-rest (x ∷ xs) some = omega arith
 
 module _ {X : Type 0} {IsOne : X → Type 0} {most : ℕ} {room : ℕ} where
   pub AreHeld-push : (xs : List X) (x : X) → AreHeld IsOne most xs room → IsOne x → length xs < most → AreHeld IsOne most (xs ++ x ∷ []) room
@@ -35,14 +44,17 @@ module _ {P B Item : Type 0} {contents : P → Contents Item} {progress : B → 
     {construction : Option (Construction Item)} {room : Option ℕ} {builders : List B} {builders_room : ℕ} {tables : List ℕ} {tables_room : ℕ}
     (h : IsLevel contents progress level parts parts_room construction room builders builders_room tables tables_room) where
   pub IsLevel-building : (c : Construction Item) → c.level ≡ level
+      → length parts + 1 + one_if (is_some room) + length builders ≤ 5
       → IsLevel contents progress level parts parts_room (Some c) room builders builders_room tables tables_room
-  IsLevel-building c same = record {
+  IsLevel-building c same few = record {
     most = h.most;
     parts_held = h.parts_held;
     builds = λ c' is. let e : c ≡ c' = cc in ap (λ v. v.level) (sym e) ∙ same;
     rooms = h.rooms;
     builders_held = h.builders_held;
     tables_held = h.tables_held;
+    no_room_at_zero = h.no_room_at_zero;
+    few = few;
   }
 
   pub IsLevel-built : IsLevel contents progress level parts parts_room None room builders builders_room tables tables_room
@@ -53,4 +65,6 @@ module _ {P B Item : Type 0} {contents : P → Contents Item} {progress : B → 
     rooms = h.rooms;
     builders_held = h.builders_held;
     tables_held = h.tables_held;
+    no_room_at_zero = h.no_room_at_zero;
+    few = omega (arith, h.few);
   }

@@ -5,7 +5,7 @@ use Rattle.query_laws.specs.Orders.{AllStampsDiffer}
 use Rattle.query_laws.specs.StepLedger.{Counts}
 use Rattle.builder_trait.specs.Parts.{Contents}
 use Rattle.partial_build.specs.Quota.{quota}
-use Rattle.level_slots.specs.Slots.{Stacked, weight_of, all_items}
+use Rattle.level_slots.specs.Slots.{Stacked, weight_of, all_items, lowest_held}
 use Rattle.level_slots.specs.Cost.{IsWithin, quotas}
 use Rattle.level_slots.specs.Neighbours.{IsPunctual, IsDue, IsDueSoon, HaveRoomsAbove}
 use Rattle.level_slots.specs.Stack.{IsStack, AreAllLevels}
@@ -36,6 +36,7 @@ module _ {P Item : Type 0} {contents : P → Contents Item} {stamp : Item → �
     few = omega arith;
     starters_few = omega arith;
     spare_few = omega arith;
+    lowest_few = omega arith;
     some = λ one. absurd (omega (arith, one));
     rooms = λ one still. absurd (omega (arith, one));
     rooms_ahead = λ two still. absurd (omega (arith, two));
@@ -44,9 +45,9 @@ module _ {P Item : Type 0} {contents : P → Contents Item} {stamp : Item → �
   pub IsStack-ticked : (s s' : Stacked P Item) → IsStack contents stamp before slope base s → AreAllLevels contents stamp before s'.levels
       → All (IsPunctual slope base) s'.levels → AllStampsDiffer stamp (all_items contents s'.levels)
       → weight_of s.levels ≤ weight_of s'.levels → weight_of s'.levels ≤ 2 ^ 31 → length s'.levels ≡ length s.levels
-      → s'.spare + 1 ≡ s.spare → s'.starters ≤ 2 → s'.spare ≤ s'.starters
+      → s'.spare + 1 ≡ s.spare → s'.starters ≤ 2 → s'.spare ≤ s'.starters → lowest_held s'.levels + s'.starters ≤ 5
       → (HaveRoomsAbove IsDueSoon s.levels → HaveRoomsAbove IsDue s'.levels) → IsStack contents stamp before slope base s'
-  IsStack-ticked s s' h levels punctual apart heavier light as_many fewer few spare rooms = record {
+  IsStack-ticked s s' h levels punctual apart heavier light as_many fewer few spare lowest rooms = record {
     levels = levels;
     punctual = punctual;
     apart = apart;
@@ -54,6 +55,7 @@ module _ {P Item : Type 0} {contents : P → Contents Item} {stamp : Item → �
     few = omega (arith, as_many, h.few);
     starters_few = few;
     spare_few = spare;
+    lowest_few = lowest;
     some = λ one. omega (arith, as_many, h.some (omega (arith, fewer)));
     rooms = λ one still. rooms (h.rooms_ahead (omega (arith, one, fewer)) (omega (arith, heavier, still)));
     rooms_ahead = λ two still. absurd (omega (arith, two, fewer, h.spare_few, h.starters_few));

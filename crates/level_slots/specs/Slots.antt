@@ -1,7 +1,7 @@
 -- What contracts see of the levels of a stack, lowest first.
 use Rattle.std.specs.Prelude.{ℕ, ◌+◌, ◌*◌, ◌^◌, Bool, List, [], ◌∷◌, ◌++◌, Option, if◌then◌else◌, length}
 use Rattle.std.specs.List.{flat_map}
-use Rattle.std.specs.Option.{option_map_or}
+use Rattle.std.specs.Option.{option_map_or, is_some}
 use Rattle.query_laws.specs.Permuted.{Permuted}
 use Rattle.builder_trait.specs.Parts.{Contents, has_stamp}
 use Rattle.partial_build.specs.Construction.{Construction, live_of}
@@ -21,6 +21,9 @@ pub record Stacked (P Item : Type 0) : Type 0 where
   pub spare : ℕ
   pub starters : ℕ
 
+abbrev pub one_if : Bool → ℕ
+one_if b = if b then 1 else 0
+
 -- every item of the first list is one of the second, and none more often
 abbrev pub IsPartOf : {Item : Type 0} → List Item → List Item → Type 0
 IsPartOf {Item} xs ys = (others : List Item) × Permuted (xs ++ others) ys
@@ -29,6 +32,24 @@ module _ {P Item : Type 0} where
   -- the ticks done of the construction into a level, 0 where none runs
   abbrev pub ticks_of : Slots P Item → ℕ
   ticks_of l = option_map_or (λ c. c.ticks) l.construction 0
+
+  -- the parts of a level that are in memory: the complete ones, the one under construction, and empty ones, in the room and in the
+  -- builders that are kept
+  abbrev pub held_in : Slots P Item → ℕ
+  held_in l = length l.parts + one_if (is_some l.construction) + one_if l.has_room + l.kept
+
+  -- the same of the lowest level, and of all
+  abbrev pub lowest_held : List (Slots P Item) → ℕ
+  lowest_held [] = 0
+  lowest_held (l ∷ above) = held_in l
+
+  abbrev pub held_of : List (Slots P Item) → ℕ
+  held_of [] = 0
+  held_of (l ∷ above) = held_in l + held_of above
+
+  -- all parts of a stack that are in memory, with the builders for single items
+  abbrev pub memory_of : Stacked P Item → ℕ
+  memory_of s = s.starters + held_of s.levels
 
   -- a part of level i weighs 2^i
   abbrev pub weight_in : Slots P Item → ℕ

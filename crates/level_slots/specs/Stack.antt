@@ -1,8 +1,8 @@
 -- What holds of a stack between two ticks.
-use Rattle.std.specs.Prelude.{◌≡◌, ℕ, ◌^◌, ◌<◌, ◌≤◌, Bool, List, [], ◌∷◌, None, All, length}
+use Rattle.std.specs.Prelude.{◌≡◌, ℕ, ◌+◌, ◌^◌, ◌<◌, ◌≤◌, Bool, List, [], ◌∷◌, None, All, length}
 use Rattle.query_laws.specs.Orders.{AllStampsDiffer}
 use Rattle.builder_trait.specs.Parts.{Contents}
-use Rattle.level_slots.specs.Slots.{Slots, Stacked, weight_of, all_items}
+use Rattle.level_slots.specs.Slots.{Slots, Stacked, weight_of, all_items, lowest_held}
 use Rattle.level_slots.specs.Neighbours.{IsPunctual, IsDue, IsDueSoon, HaveRoomsAbove, HaveRoomsAhead, IsTower, IsHalfway}
 
 module _ {P Item : Type 0} where
@@ -40,6 +40,7 @@ module _ {P Item : Type 0} where
       pub few : length s.levels ≤ 32
       pub starters_few : s.starters ≤ 2
       pub spare_few : s.spare ≤ s.starters
+      pub lowest_few : lowest_held s.levels + s.starters ≤ 5
       pub some : 1 ≤ s.spare → 0 < length s.levels
       pub rooms : 1 ≤ s.spare → weight_of s.levels < 2 ^ 31 → HaveRoomsAbove IsDue s.levels
       pub rooms_ahead : 2 ≤ s.spare → weight_of s.levels < 2 ^ 31 → HaveRoomsAbove IsDueSoon s.levels

@@ -1,5 +1,5 @@
 //! One level.
-ghost use Rattle.std.specs.Prelude.{◌≡◌, ℕ, ◌+◌, ◌-◌, ◌*◌, ◌^◌, ◌<◌, ◌≤◌, true, false, List, [], ◌∷◌, ◌++◌, Some, None, IfOk, IfSome, IsNone, All, length, map, min};
+ghost use Rattle.std.specs.Prelude.{◌≡◌, ℕ, ◌+◌, ◌-◌, ◌*◌, ◌^◌, ◌<◌, ◌≤◌, true, false, List, [], ◌∷◌, ◌++◌, Some, None, IfOk, IfSome, IsNone, All, length, map};
 ghost use Rattle.std.specs.List.{flat_map};
 ghost use Rattle.std.specs.Option.{is_some};
 ghost use Rattle.query_laws.specs.Orders.{AllStampsDiffer};
@@ -7,7 +7,7 @@ ghost use Rattle.query_laws.specs.StepLedger.{Spends};
 ghost use Rattle.builder_trait.specs.Parts.{OwnsStamp, has_stamp, marked};
 ghost use Rattle.partial_build.specs.Construction.{live_of};
 ghost use Rattle.partial_build.specs.Quota.{quota};
-ghost use Rattle.level_slots.specs.Slots.{ticks_of, live_in, items_in, asked_in};
+ghost use Rattle.level_slots.specs.Slots.{ticks_of, held_in, live_in, items_in, asked_in};
 ghost use Rattle.level_slots.specs.Asking.{IsIdle};
 ghost use Rattle.level_slots.specs.Level.{IsOfLevel};
 ghost use Rattle.level_slots.specs.Neighbours.{IsConstructionOf, IsFed, IsPunctual, IsPublication};
@@ -27,8 +27,8 @@ use std::sync::ledger::Ledger;
 /// The most complete parts of a level.
 const PARTS: usize = 3;
 
-/// The most builders that are kept for a level. So many parts and rooms of a level are in memory at most: three that are complete, one
-/// under construction, and the room for the next one.
+/// The most builders that are kept for a level: as many as there are of its parts in memory at most, three that are complete, one under
+/// construction, and the room for the next one.
 const BUILDERS: usize = 5;
 
 /// The most tables that are kept for a level: those of its construction, and those of the room for the next one.
@@ -108,22 +108,22 @@ impl<B: Builder> Level<B> {
     /// Takes in a part as the newest.
     pub(crate) fn arrive(&mut self, part: B::Part)
         requires place { length self.old.parts < 3 }
+        requires room { held_in self.old < 5 }
         requires of_level { IsOfLevel self.old.level (B.Part.Part.contents part) }
         ensures { self.new ≡ record self.old { parts = self.old.parts ++ part ∷ [] } }
     {
         self.parts.push_reserved(part);
     }
 
-    /// Retires the oldest part: its memory is kept as a builder where fewer than five are, and freed else.
+    /// Retires the oldest part: its memory is kept as a builder.
     fn retire(&mut self)
         requires { 0 < length self.old.parts }
         ensures retired { (p : B.Part) (rest : List B.Part) → self.old.parts ≡ p ∷ rest → self.new.parts ≡ rest }
-        ensures same { self.new ≡ record self.old { parts = self.new.parts; kept = min BUILDERS (self.old.kept + 1) } }
+        ensures same { self.new ≡ record self.old { parts = self.new.parts; kept = self.old.kept + 1 } }
+        ensures held { held_in self.new ≡ held_in self.old }
     {
         let builder = B::recycle(self.parts.remove(0));
-        if self.builders.len() < BUILDERS {
-            self.builders.push_reserved(builder);
-        }
+        self.builders.push_reserved(builder);
     }
 
     /// Begins the construction of a part of a and b into this level, where none runs.
@@ -138,6 +138,7 @@ impl<B: Builder> Level<B> {
         ensures same { self.new ≡ record self.old { construction = self.new.construction; has_room = self.new.has_room } }
         ensures ticks { ticks_of self.new ≡ ticks_of self.old }
         ensures running { is_some self.old.construction ≡ true → self.new ≡ self.old }
+        ensures held { held_in self.new ≡ held_in self.old }
     {
         if self.construction.is_some() {
             return;
@@ -151,6 +152,7 @@ impl<B: Builder> Level<B> {
     /// Takes in a construction.
     fn start(&mut self, construction: Build<B>)
         requires of_level { construction.level ≡ self.old.level }
+        requires room { held_in self.old < 5 }
         ensures { self.new ≡ record self.old { construction = Some construction } }
     {
         self.construction = Some(construction);
@@ -186,6 +188,8 @@ impl<B: Builder> Level<B> {
         ensures ends { ticks_of self.old ≡ 2 ^ self.old.level → IsPublication B.Part.Part.contents self.old lower.old self.new lower.new }
         ensures same { self.new ≡ record self.old { parts = self.new.parts; construction = self.new.construction } }
         ensures same_below { lower.new ≡ record lower.old { parts = lower.new.parts; kept = lower.new.kept } }
+        ensures held { held_in self.new ≡ held_in self.old }
+        ensures held_below { held_in lower.new ≡ held_in lower.old }
     {
         if let Some(construction) = self.take_ended() {
             let (part, tables) = construction.publish();
@@ -200,6 +204,7 @@ impl<B: Builder> Level<B> {
     fn take_ended(&mut self) -> Option<Build<B>>
         ensures ended { IfSome result (λ c. (self.old.construction ≡ Some c) × (c.level ≡ self.old.level) × (2 ^ c.level ≤ c.ticks)) }
         ensures taken { IfSome result (λ _. self.new ≡ record self.old { construction = None }) }
+        ensures few { IfSome result (λ _. held_in self.new < 5) }
         ensures waits { IsNone result → self.new ≡ self.old }
         ensures unended { IsNone result → is_some self.old.construction ≡ true → ticks_of self.old < 2 ^ self.old.level }
     {

@@ -4,7 +4,7 @@ ghost use Rattle.query_laws.specs.Orders.{AllStampsDiffer};
 ghost use Rattle.query_laws.specs.Permuted.{Permuted};
 ghost use Rattle.query_laws.specs.StepLedger.{Spends};
 ghost use Rattle.builder_trait.specs.Parts.{OwnsStamp, has_stamp, without, marked};
-ghost use Rattle.level_slots.specs.Slots.{Slots, IsPartOf, ticks_of, weight_of, live_in, live_items, items_in, all_items, asked_in, asked};
+ghost use Rattle.level_slots.specs.Slots.{Slots, IsPartOf, ticks_of, held_of, lowest_held, weight_of, live_in, live_items, items_in, all_items, asked_in, asked};
 ghost use Rattle.level_slots.specs.Neighbours.{IsConstructionOf, IsPunctual, IsDue, IsDueSoon, IsTower, HaveRoomsAbove};
 ghost use Rattle.level_slots.specs.Cost.{IsWithin, quotas};
 ghost use Rattle.level_slots.specs.Stack.{AreLevels, AreAllLevels};
@@ -97,6 +97,8 @@ fn mark_in<B: Builder, L: Ledger>(
         ≡ without B.Item.stamp (B.Item.stamp item.now) (live_items B.Part.Part.contents levels.old) }
     ensures items { all_items B.Part.Part.contents levels.new ≡ all_items B.Part.Part.contents levels.old }
     ensures weight { weight_of levels.new ≡ weight_of levels.old }
+    ensures held { held_of levels.new ≡ held_of levels.old }
+    ensures lowest { lowest_held levels.new ≡ lowest_held levels.old }
     ensures as_many { length levels.new ≡ length levels.old }
     ensures cost { (g : ℕ) → weight_of levels.old < 2 ^ (g + 1)
         → let marks = asked B.Part.Part.contents B.Item.stamp (B.Item.stamp item.now) levels.old in
@@ -130,6 +132,8 @@ pub(crate) fn take_out<B: Builder, L: Ledger>(
         (without B.Item.stamp (B.Item.stamp item.now) (live_items B.Part.Part.contents levels.old)) }
     ensures items { IsPartOf (all_items B.Part.Part.contents levels.new) (all_items B.Part.Part.contents levels.old) }
     ensures weight { weight_of levels.new ≡ weight_of levels.old }
+    ensures held { held_of levels.new ≡ held_of levels.old }
+    ensures lowest { lowest_held levels.new ≡ lowest_held levels.old }
     ensures rooms { HaveRoomsAbove IsDueSoon levels.old → HaveRoomsAbove IsDue levels.new }
     ensures as_many { length levels.new ≡ length levels.old }
     ensures cost { (g : ℕ) → weight_of levels.new < 2 ^ (g + 1)

@@ -1,7 +1,7 @@
 //! The memory for the ticks to come: levels, rooms for constructions, and builders for single items.
-ghost use Rattle.std.specs.Prelude.{◌≡◌, ◌+◌, ◌^◌, ◌<◌, ◌≤◌, true, false, All, IfOk, OnErr, None, length};
+ghost use Rattle.std.specs.Prelude.{◌≡◌, ℕ, ◌+◌, ◌^◌, ◌<◌, ◌≤◌, true, false, All, IfOk, OnErr, None, length};
 ghost use Rattle.builder_trait.specs.Builders.{begun};
-ghost use Rattle.level_slots.specs.Slots.{weight_of};
+ghost use Rattle.level_slots.specs.Slots.{weight_of, held_in, held_of, lowest_held};
 ghost use Rattle.level_slots.specs.Neighbours.{IsDueSoon, HaveRoomsAbove};
 ghost use Rattle.level_slots.specs.Stack.{AreAllLevels};
 ghost use Rattle.level_slots.specs.Rooms.{rooms_in, kept_in, forecast_of};
@@ -30,7 +30,10 @@ pub(crate) fn take_memory<B: Builder>(
     requires few { length levels.old.items ≤ 32 }
     requires begun { All (λ b. B.progress b ≡ begun 0) starters.old.items }
     requires few_starters { length starters.old.items ≤ 2 }
+    requires lowest { lowest_held levels.old.items + length starters.old.items ≤ 5 }
     ensures kept { IsKept B.Part.Part.contents B.Item.stamp B.Item.before B.SLOPE B.BASE levels.old.items levels.new.items }
+    ensures lowest { lowest_held levels.new.items + length starters.new.items ≤ 5 }
+    ensures no_less { held_of levels.old.items + length starters.old.items ≤ held_of levels.new.items + length starters.new.items }
     ensures begun { All (λ b. B.progress b ≡ begun 0) starters.new.items }
     ensures few_starters { length starters.new.items ≤ 2 }
     ensures more { length starters.old.items ≤ length starters.new.items }
@@ -55,7 +58,10 @@ fn fill_levels<B: Builder>(
     requires levels { AreAllLevels B.Part.Part.contents B.Item.stamp B.Item.before levels.old }
     requires begun { All (λ b. B.progress b ≡ begun 0) starters.old.items }
     requires few_starters { length starters.old.items ≤ 2 }
+    requires lowest { lowest_held levels.old + length starters.old.items ≤ 5 }
     ensures kept { IsKept B.Part.Part.contents B.Item.stamp B.Item.before B.SLOPE B.BASE levels.old levels.new }
+    ensures lowest { lowest_held levels.new + length starters.new.items ≤ 5 }
+    ensures no_less { held_of levels.old + length starters.old.items ≤ held_of levels.new + length starters.new.items }
     ensures begun { All (λ b. B.progress b ≡ begun 0) starters.new.items }
     ensures few_starters { length starters.new.items ≤ 2 }
     ensures more { length starters.old.items ≤ length starters.new.items }
@@ -76,6 +82,8 @@ fn add_levels<B: Builder>(levels: &mut Vec<Level<B>>, alloc: Global) -> Result<(
     ensures kept { IsKept B.Part.Part.contents B.Item.stamp B.Item.before B.SLOPE B.BASE levels.old.items levels.new.items }
     ensures some { IfOk result (λ _. 0 < length levels.new.items) }
     ensures enough { IfOk result (λ _. weight_of levels.new.items < 2 ^ 31 → AreEnough levels.new.items) }
+    ensures held { held_of levels.new.items ≡ held_of levels.old.items }
+    ensures lowest { lowest_held levels.new.items ≡ lowest_held levels.old.items }
 {
     while is_short(levels) {
         add_level(levels, alloc)?;
@@ -105,6 +113,8 @@ fn add_level<B: Builder>(levels: &mut Vec<Level<B>>, alloc: Global) -> Result<()
     requires few { length levels.old.items < 32 }
     ensures kept { IsKept B.Part.Part.contents B.Item.stamp B.Item.before B.SLOPE B.BASE levels.old.items levels.new.items }
     ensures more { IfOk result (λ _. length levels.new.items ≡ length levels.old.items + 1) }
+    ensures held { held_of levels.new.items ≡ held_of levels.old.items }
+    ensures lowest { lowest_held levels.new.items ≡ lowest_held levels.old.items }
 {
     let level = Level::new(alloc, levels.len() as u32)?;
     levels.reserve(1)?;
@@ -124,6 +134,9 @@ fn add_starters<B: Builder>(
     requires levels { AreAllLevels B.Part.Part.contents B.Item.stamp B.Item.before levels.old }
     requires begun { All (λ b. B.progress b ≡ begun 0) starters.old.items }
     requires few { length starters.old.items ≤ 2 }
+    requires lowest { lowest_held levels.old + length starters.old.items ≤ 5 }
+    ensures lowest { lowest_held levels.new + length starters.new.items ≤ 5 }
+    ensures no_less { held_of levels.old + length starters.old.items ≤ held_of levels.new + length starters.new.items }
     ensures kept { IsKept B.Part.Part.contents B.Item.stamp B.Item.before B.SLOPE B.BASE levels.old levels.new }
     ensures begun { All (λ b. B.progress b ≡ begun 0) starters.new.items }
     ensures few { length starters.new.items ≤ 2 }
@@ -145,7 +158,11 @@ fn add_starter<B: Builder>(
     requires some { 0 < length levels.old }
     requires levels { AreAllLevels B.Part.Part.contents B.Item.stamp B.Item.before levels.old }
     requires begun { All (λ b. B.progress b ≡ begun 0) starters.old.items }
+    requires few { length starters.old.items < 2 }
+    requires lowest { lowest_held levels.old + length starters.old.items ≤ 5 }
     ensures kept { IsKept B.Part.Part.contents B.Item.stamp B.Item.before B.SLOPE B.BASE levels.old levels.new }
+    ensures lowest { lowest_held levels.new + length starters.new.items ≤ 5 }
+    ensures no_less { held_of levels.old + length starters.old.items ≤ held_of levels.new + length starters.new.items }
     ensures begun { All (λ b. B.progress b ≡ begun 0) starters.new.items }
     ensures refused { OnErr result (length starters.new.items ≡ length starters.old.items) }
     ensures more { IfOk result (λ _. length starters.new.items ≡ length starters.old.items + 1) }
@@ -162,6 +179,11 @@ fn take_starter<B: Builder>(levels: &mut [Level<B>], alloc: Global) -> Result<B,
     requires levels { AreAllLevels B.Part.Part.contents B.Item.stamp B.Item.before levels.old }
     ensures begun { IfOk result (λ builder. B.progress builder ≡ begun 0) }
     ensures kept { IsKept B.Part.Part.contents B.Item.stamp B.Item.before B.SLOPE B.BASE levels.old levels.new }
+
+    // Below any bound that held there, of four or more, there is a place for the builder.
+    ensures lowest { (most : ℕ) → 4 ≤ most → lowest_held levels.old ≤ most → lowest_held levels.new + 1 ≤ most }
+    ensures held { held_of levels.old ≤ held_of levels.new + 1 }
+    ensures refused { OnErr result (held_of levels.new ≡ held_of levels.old) }
 {
     match levels.first_mut() {
         Some(lowest) => lowest.take_builder(alloc),
@@ -177,6 +199,8 @@ fn forecast_rooms<B: Builder>(levels: &mut [Level<B>], alloc: Global) -> Result<
     ensures kept { IsKept B.Part.Part.contents B.Item.stamp B.Item.before B.SLOPE B.BASE levels.old levels.new }
     ensures ready { IfOk result (λ _. AreEnough levels.new → HaveRoomsAbove IsDueSoon levels.new) }
     ensures few { IfOk result (λ _. rooms_in levels.new ≤ forecast_of levels.new) }
+    ensures no_less { held_of levels.old ≤ held_of levels.new }
+    ensures lowest { lowest_held levels.new ≡ lowest_held levels.old }
 {
     let Some((lowest, above)) = levels.split_first_mut() else {
         return Ok(());
@@ -194,6 +218,7 @@ fn make_rooms<B: Builder>(
     requires { AreNumbered lower.now above.old }
     ensures kept { KeepRooms lower.now above.old above.new }
     ensures ready { IfOk result (λ _. AreForecast lower.now above.new) }
+    ensures no_less { held_of above.old ≤ held_of above.new }
 {
     let Some((level, above)) = above.split_first_mut() else {
         return Ok(());
@@ -219,6 +244,7 @@ pub(crate) fn builders_kept<B: Builder>(levels: &[Level<B>]) -> u64
     requires { AreRising levels.now }
     ensures value { result ≡ kept_in levels.now }
     ensures few { IsBounded 5 levels.now result }
+    ensures bounded { All (λ l. held_in l ≤ 5) levels.now }
 {
     match levels.split_first() {
         Some((level, above)) => level.kept_weight() + builders_kept(above),

@@ -6,7 +6,7 @@ ghost use Rattle.builder_trait.specs.Parts.{without};
 ghost use Rattle.builder_trait.specs.Builders.{begun};
 ghost use Rattle.partial_build.specs.Construction.{live_of};
 ghost use Rattle.partial_build.specs.Quota.{quota};
-ghost use Rattle.level_slots.specs.Slots.{Stacked, IsPartOf, live_items, all_items, weight_of, parts_of, asked};
+ghost use Rattle.level_slots.specs.Slots.{Stacked, IsPartOf, live_items, all_items, weight_of, parts_of, held_in, memory_of, asked};
 ghost use Rattle.level_slots.specs.Asking.{IsHeight, touches_of};
 ghost use Rattle.level_slots.specs.Level.{IsOfLevel};
 ghost use Rattle.level_slots.specs.Cost.{IsWithin, quotas};
@@ -80,6 +80,7 @@ impl<B: Builder> Stack<B> {
         ensures live { Permuted (live_items B.Part.Part.contents self.new.levels) (item ∷ live_items B.Part.Part.contents self.old.levels) }
         ensures items { IsPartOf (all_items B.Part.Part.contents self.new.levels) (item ∷ all_items B.Part.Part.contents self.old.levels) }
         ensures weight { weight_of self.new.levels ≡ weight_of self.old.levels + 1 }
+        ensures memory { memory_of self.new ≡ memory_of self.old }
         ensures spare { self.old.spare ≤ self.new.spare + 1 }
 
         // Whichever bound g there is: the least is the greatest level with `2 ^ g` at most the weight.
@@ -102,6 +103,7 @@ impl<B: Builder> Stack<B> {
             (without B.Item.stamp (B.Item.stamp item.now) (live_items B.Part.Part.contents self.old.levels)) }
         ensures items { IsPartOf (all_items B.Part.Part.contents self.new.levels) (all_items B.Part.Part.contents self.old.levels) }
         ensures weight { weight_of self.new.levels ≡ weight_of self.old.levels }
+        ensures memory { memory_of self.new ≡ memory_of self.old }
         ensures spare { self.old.spare ≤ self.new.spare + 1 }
 
         // Whichever bound g there is, as for an insert; and a mark for each part that is asked.
@@ -198,6 +200,7 @@ impl<B: Builder> Stack<B> {
         ensures items { all_items B.Part.Part.contents self.new.levels ≡ all_items B.Part.Part.contents self.old.levels }
         ensures weight { weight_of self.new.levels ≡ weight_of self.old.levels }
         ensures parts { parts_of self.new.levels ≡ parts_of self.old.levels }
+        ensures memory { memory_of self.old ≤ memory_of self.new }
         ensures rooms { IfOk result (λ _. rooms_of self.new ≤ 2 + forecast_of self.new.levels) }
     {
         take_memory(&mut self.levels, &mut self.starters, self.alloc)?;
@@ -212,9 +215,11 @@ impl<B: Builder> Stack<B> {
         self.starters.len() as u64 + rooms_held(&self.levels)
     }
 
-    /// The weight of the builders that are kept of retired parts, at most five of each level: one of level i weighs `2^i`.
+    /// The weight of the builders that are kept of retired parts: one of level i weighs `2^i`. Of each level at most five parts are in
+    /// memory, these included.
     pub fn kept(&self) -> u64
-        ensures { result ≡ kept_in self.now.levels }
+        ensures value { result ≡ kept_in self.now.levels }
+        ensures bounded { All (λ l. held_in l ≤ 5) self.now.levels }
     {
         builders_kept(&self.levels)
     }

@@ -4,7 +4,7 @@ ghost use Rattle.query_laws.specs.Orders.{AllStampsDiffer};
 ghost use Rattle.query_laws.specs.Permuted.{Permuted};
 ghost use Rattle.partial_build.specs.Construction.{live_of};
 ghost use Rattle.partial_build.specs.Quota.{quota};
-ghost use Rattle.level_slots.specs.Slots.{Slots, IsPartOf, ticks_of, weight_in, weight_of, live_in, items_in, live_items, all_items};
+ghost use Rattle.level_slots.specs.Slots.{Slots, IsPartOf, ticks_of, held_in, held_of, lowest_held, weight_in, weight_of, live_in, items_in, live_items, all_items};
 ghost use Rattle.level_slots.specs.Neighbours.{IsBelow, IsVisited, IsTower, IsHalfway, IsPunctual, IsDue, IsDueSoon, HaveRooms, HaveRoomsAbove, HaveRoomsAhead};
 ghost use Rattle.level_slots.specs.Level.{IsOfLevel};
 ghost use Rattle.level_slots.specs.Stack.{AreAllLevels, AreHalfway, HaveRoomsNow, HaveRoomsNext};
@@ -30,6 +30,8 @@ fn visit<B: Builder, L: Ledger>(lower: &mut Level<B>, level: &mut Level<B>, step
       has_room = level.new.has_room;
     } }
     ensures same_below { lower.new ≡ record lower.old { parts = lower.new.parts; kept = lower.new.kept } }
+    ensures held { held_in level.new ≡ held_in level.old }
+    ensures held_below { held_in lower.new ≡ held_in lower.old }
     ensures idle { length lower.old.parts < 2 → steps.new ≡ steps.old }
     ensures cost { IsWithin (quota B.SLOPE B.BASE level.old.level) 2 (B.Part.Part.mark_touches level.old.level) steps.old steps.new }
 {
@@ -54,6 +56,8 @@ fn walk<B: Builder, L: Ledger>(lower: &mut Level<B>, above: &mut [Level<B>], ste
     ensures same { lower.new ≡ record lower.old { parts = lower.new.parts; kept = lower.new.kept } }
     ensures as_many { length above.new ≡ length above.old }
     ensures rooms { HaveRoomsAhead lower.old above.old → HaveRooms IsDue lower.new above.new }
+    ensures held { held_of above.new ≡ held_of above.old }
+    ensures held_below { held_in lower.new ≡ held_in lower.old }
     ensures cost { (g : ℕ) → weight_of (lower.old ∷ above.old) < 2 ^ (g + 1)
         → IsWithin (quotas B.SLOPE B.BASE (lower.old.level + 1) g) (2 * (g - lower.old.level)) (B.Part.Part.mark_touches g) steps.old steps.new }
 {
@@ -69,6 +73,7 @@ fn arrive<B: Builder>(levels: &mut [Level<B>], part: B::Part)
     requires levels { AreAllLevels B.Part.Part.contents B.Item.stamp B.Item.before levels.old }
     requires rooms { HaveRoomsAbove IsDue levels.old }
     requires of_level { IsOfLevel 0 (B.Part.Part.contents part) }
+    requires place { lowest_held levels.old < 5 }
     ensures halfway { AreHalfway B.Part.Part.contents B.Item.stamp B.Item.before levels.new }
     ensures rooms { HaveRoomsNow levels.new }
     ensures rooms_ahead { HaveRoomsAbove IsDueSoon levels.old → HaveRoomsNext levels.new }
@@ -77,6 +82,8 @@ fn arrive<B: Builder>(levels: &mut [Level<B>], part: B::Part)
     ensures items { Permuted (all_items B.Part.Part.contents levels.new)
         ((B.Part.Part.contents part).items ++ all_items B.Part.Part.contents levels.old) }
     ensures weight { weight_of levels.new ≡ weight_of levels.old + 1 }
+    ensures held { held_of levels.new ≡ held_of levels.old + 1 }
+    ensures lowest { lowest_held levels.new ≡ lowest_held levels.old + 1 }
     ensures as_many { length levels.new ≡ length levels.old }
 {
     match levels.split_first_mut() {
@@ -96,6 +103,8 @@ pub(crate) fn take_tick<B: Builder, L: Ledger>(levels: &mut [Level<B>], steps: &
     ensures items { IsPartOf (all_items B.Part.Part.contents levels.new) (all_items B.Part.Part.contents levels.old) }
     ensures weight { weight_of levels.new ≡ weight_of levels.old }
     ensures rooms { HaveRoomsNext levels.old → HaveRoomsAbove IsDue levels.new }
+    ensures held { held_of levels.new ≡ held_of levels.old }
+    ensures lowest { lowest_held levels.new ≡ lowest_held levels.old }
     ensures as_many { length levels.new ≡ length levels.old }
     ensures cost { (g : ℕ) → weight_of levels.old < 2 ^ (g + 1)
         → IsWithin (quotas B.SLOPE B.BASE 1 g) (2 * g) (B.Part.Part.mark_touches g) steps.old steps.new }
@@ -116,6 +125,7 @@ pub(crate) fn take_in<B: Builder, L: Ledger>(
     requires levels { AreAllLevels B.Part.Part.contents B.Item.stamp B.Item.before levels.old }
     requires rooms { HaveRoomsAbove IsDue levels.old }
     requires of_level { IsOfLevel 0 (B.Part.Part.contents part) }
+    requires place { lowest_held levels.old < 5 }
     requires apart { AllStampsDiffer B.Item.stamp ((B.Part.Part.contents part).items ++ all_items B.Part.Part.contents levels.old) }
     ensures levels { AreAllLevels B.Part.Part.contents B.Item.stamp B.Item.before levels.new }
     ensures punctual { All (IsPunctual B.SLOPE B.BASE) levels.new }
@@ -125,6 +135,8 @@ pub(crate) fn take_in<B: Builder, L: Ledger>(
         ((B.Part.Part.contents part).items ++ all_items B.Part.Part.contents levels.old) }
     ensures weight { weight_of levels.new ≡ weight_of levels.old + 1 }
     ensures rooms { HaveRoomsAbove IsDueSoon levels.old → HaveRoomsAbove IsDue levels.new }
+    ensures held { held_of levels.new ≡ held_of levels.old + 1 }
+    ensures lowest { lowest_held levels.new ≡ lowest_held levels.old + 1 }
     ensures as_many { length levels.new ≡ length levels.old }
     ensures cost { (g : ℕ) → weight_of levels.new < 2 ^ (g + 1)
         → IsWithin (quotas B.SLOPE B.BASE 1 g) (2 * g) (B.Part.Part.mark_touches g) steps.old steps.new }

@@ -1,9 +1,10 @@
 //! The memory of a level for its next construction: it is taken by forecast, and given back.
-ghost use Rattle.std.specs.Prelude.{◌≡◌, ◌+◌, ◌-◌, ◌*◌, ◌^◌, ◌<◌, ◌≤◌, true, false, IfOk, IfSome, IsNone, OnErr, min, nat_le, if◌then◌else◌};
+ghost use Rattle.std.specs.Prelude.{◌≡◌, ◌+◌, ◌-◌, ◌*◌, ◌^◌, ◌<◌, ◌≤◌, true, false, None, IfOk, IfSome, IsNone, OnErr, nat_le, if◌then◌else◌};
+ghost use Rattle.std.specs.Option.{is_some};
 ghost use Rattle.builder_trait.specs.Builders.{begun};
-ghost use Rattle.level_slots.specs.Slots.{ticks_of};
+ghost use Rattle.level_slots.specs.Slots.{ticks_of, held_in};
 
-use crate::level::{BUILDERS, Level};
+use crate::level::Level;
 use builder_trait::Builder;
 use partial_build::{Room, Tables};
 use query_laws::NoMemory;
@@ -36,6 +37,7 @@ impl<B: Builder> Level<B> {
         ensures same { self.new ≡ record self.old { has_room = self.new.has_room; kept = self.new.kept } }
         ensures made { IfOk result (λ _. self.new.has_room ≡ is_due) }
         ensures refused { OnErr result ((is_due ≡ true) × (self.new ≡ self.old)) }
+        ensures no_less { held_in self.old ≤ held_in self.new }
     {
         if is_due {
             return self.make_room(alloc);
@@ -50,6 +52,7 @@ impl<B: Builder> Level<B> {
         ensures same { self.new ≡ record self.old { has_room = self.new.has_room; kept = self.new.kept } }
         ensures made { IfOk result (λ _. self.new.has_room ≡ true) }
         ensures refused { OnErr result (self.new ≡ self.old) }
+        ensures no_less { held_in self.old ≤ held_in self.new }
     {
         if self.room.is_some() {
             return Ok(());
@@ -69,16 +72,19 @@ impl<B: Builder> Level<B> {
 
     /// Holds a room.
     fn put_room(&mut self, room: Room<B>)
-        requires { room ≡ self.old.level }
+        requires of_level { room ≡ self.old.level }
+        requires above { 1 ≤ self.old.level }
+        requires place { held_in self.old < 5 }
         ensures { self.new ≡ record self.old { has_room = true } }
     {
         self.room = Some(room);
     }
 
-    /// Takes apart the room that is held, if one is: its builder and its tables are kept where there is a place, and freed else.
+    /// Takes apart the room that is held, if one is: its builder and its tables are kept.
     pub(crate) fn give_back_room(&mut self)
         ensures same { self.new ≡ record self.old { has_room = self.new.has_room; kept = self.new.kept } }
         ensures none { self.new.has_room ≡ false }
+        ensures held { held_in self.new ≡ held_in self.old }
     {
         if let Some(room) = self.take_room() {
             let (builder, tables) = room.into_parts();
@@ -91,18 +97,19 @@ impl<B: Builder> Level<B> {
     fn take_room(&mut self) -> Option<Room<B>>
         ensures of_level { IfSome result (λ room. room ≡ self.old.level) }
         ensures taken { self.new ≡ record self.old { has_room = false } }
+        ensures was { is_some result ≡ self.old.has_room }
+        ensures few { IfSome result (λ _. held_in self.new < 5) }
     {
         self.room.take()
     }
 
-    /// Keeps a builder where fewer than five are kept, and frees it else.
+    /// Keeps a builder.
     fn keep_builder(&mut self, builder: B)
-        requires { B.progress builder ≡ begun self.old.level }
-        ensures { self.new ≡ record self.old { kept = min BUILDERS (self.old.kept + 1) } }
+        requires begun { B.progress builder ≡ begun self.old.level }
+        requires place { held_in self.old < 5 }
+        ensures { self.new ≡ record self.old { kept = self.old.kept + 1 } }
     {
-        if self.builders.len() < BUILDERS {
-            self.builders.push_reserved(builder);
-        }
+        self.builders.push_reserved(builder);
     }
 
     /// A builder of this level, to which nothing was put: one that is kept, and a new one where none is.
@@ -112,6 +119,8 @@ impl<B: Builder> Level<B> {
         ensures begun { IfOk result (λ builder. B.progress builder ≡ begun self.old.level) }
         ensures same { self.new ≡ record self.old { kept = self.old.kept - 1 } }
         ensures refused { OnErr result (self.old.kept ≡ 0) }
+        ensures few { self.old.has_room ≡ false → held_in self.new < 5 }
+        ensures lowest { self.old.level ≡ 0 → self.old.construction ≡ None → self.old.kept ≡ 0 → held_in self.new ≤ 3 }
     {
         match self.take_kept() {
             Some(builder) => Ok(builder),
@@ -124,6 +133,8 @@ impl<B: Builder> Level<B> {
         ensures begun { IfSome result (λ builder. B.progress builder ≡ begun self.old.level) }
         ensures same { self.new ≡ record self.old { kept = self.old.kept - 1 } }
         ensures none { IsNone result → self.old.kept ≡ 0 }
+        ensures few { self.old.has_room ≡ false → held_in self.new < 5 }
+        ensures lowest { self.old.level ≡ 0 → self.old.construction ≡ None → self.old.kept ≡ 0 → held_in self.new ≤ 3 }
     {
         self.builders.pop()
     }
@@ -167,6 +178,7 @@ impl<B: Builder> Level<B> {
     pub(crate) fn kept_weight(&self) -> u64
         ensures value { result ≡ self.now.kept * 2 ^ self.now.level }
         ensures few { self.now.kept ≤ 5 }
+        ensures bounded { held_in self.now ≤ 5 }
         ensures most { self.now.level < 32 }
     {
         self.builders.len() as u64 * 2u64.pow(self.level)

@@ -5,14 +5,14 @@ use Rattle.query_laws.specs.Orders.{AllStampsDiffer}
 use Rattle.query_laws.specs.StepLedger.{Spends}
 use Rattle.query_laws.proofs.Counting.{Spends-nothing, Spends-within}
 use Rattle.builder_trait.specs.Parts.{OwnsStamp, has_stamp, without}
-use Rattle.level_slots.specs.Slots.{ticks_of, weight_in, weight_of, live_in, items_in, live_items, all_items, asked_in, asked}
+use Rattle.level_slots.specs.Slots.{ticks_of, held_in, held_of, weight_in, weight_of, live_in, items_in, live_items, all_items, asked_in, asked}
 use Rattle.level_slots.specs.Neighbours.{IsPunctual, IsDue, IsDueSoon, HaveRoomsAbove}
 use Rattle.level_slots.specs.Stack.{AreLevels}
 use Rattle.level_slots.specs.Marking.{IsSameBelow}
 use Rattle.level_slots.proofs.Distinct.{AllStampsDiffer-part, IsPartOf-front, IsPartOf-back}
 use Rattle.level_slots.proofs.Publishing.{none_of}
 use Rattle.level_slots.proofs.Marks.{All-first, All-second, has_stamp-append, without-append, without-lacking}
-use Rattle.level_slots.proofs.MarkedLevels.{Follows-due, Follows-soon, rooms-below, rooms-noted, rooms-over, weight-noted, length-noted, live-noted, items-noted, tower-over, lacks-below, asked-above, asked-both, Spends-both, light_level, levels_from_tower}
+use Rattle.level_slots.proofs.MarkedLevels.{Follows-due, Follows-soon, rooms-below, rooms-noted, rooms-over, held-noted, weight-noted, length-noted, live-noted, items-noted, tower-over, lacks-below, asked-above, asked-both, Spends-both, light_level, levels_from_tower}
 use Rattle.level_slots.proofs.marking.+mark_in.Goals as goal
 
 lighter : {m : ℕ} (a b : ℕ) → a + b < m → b < m
@@ -345,3 +345,14 @@ returns-in-None-clause-cost g p c g' light =
     let nothing : asked contents g.B.Item.Item.stamp s c.args.levels.now ≡ 0 = ap (asked contents g.B.Item.Item.stamp s) none in
     subst (λ n. Spends c.args.steps.now c.args.steps.now 0 n (n * g.B.Part.Part.mark_touches g')) (sym nothing)
     (Spends-within (Spends-nothing c.args.steps.now) refl refl (omega arith))
+
+pub returns-else-mark_in-clause-held : goal.returns-else-mark_in-clause-held
+returns-else-mark_in-clause-held g p c =
+    omega (
+      arith,
+      held-noted c.mark_in.new.levels c.mark_and_note.new.above c.mark_and_note.ensures.noted,
+      c.mark_in.ensures.held,
+      ap held_in c.mark_and_note.ensures.same,
+      c.mark_and_note.ensures.as_many,
+      ap held_of c.in-Some.ensures.cases.0,
+    )

@@ -1,5 +1,7 @@
-use Rattle.std.proofs.Common.{◌≡◌, ℕ, ◌+◌, ◌*◌, ◌^◌, ◌≤◌, refl, ap, sym, subst, arith, pow_mono}
+use Rattle.std.proofs.Common.{◌≡◌, ℕ, ◌+◌, ◌*◌, ◌^◌, ◌≤◌, All, refl, ap, sym, subst, arith, pow_mono}
 use Rattle.std.proofs.Math.Nat.{mul-le-mul_right}
+use Rattle.std.proofs.lemmas.List.Elements.{All-cons}
+use Rattle.level_slots.specs.Slots.{held_in}
 use Rattle.level_slots.specs.Rooms.{kept_in}
 use Rattle.level_slots.specs.Preparing.{AreRising, IsBounded}
 use Rattle.level_slots.proofs.Publishing.{none_of}
@@ -28,6 +30,11 @@ returns-in-Some-clause-few g t c =
     subst (λ ls. IsBounded 5 ls (c.kept_weight.result + c.builders_kept.result)) (sym split)
     (IsBounded-more 5 c.in-Some.level.now c.in-Some.above.now c.kept_weight.result c.builders_kept.result (subst AreRising split c.requires)
     c.kept_weight.ensures.most (heavy _ _ _ c.kept_weight.ensures.value c.kept_weight.ensures.few) c.builders_kept.ensures.few)
+
+pub returns-in-Some-clause-bounded : goal.returns-in-Some-clause-bounded
+returns-in-Some-clause-bounded g t c =
+    subst (All (λ l. held_in l ≤ 5)) (sym c.in-Some.ensures.cases.0)
+    (All-cons (λ l. held_in l ≤ 5) c.in-Some.level.now c.in-Some.above.now c.kept_weight.ensures.bounded c.builders_kept.ensures.bounded)
 
 pub returns-in-None-clause-value : goal.returns-in-None-clause-value
 returns-in-None-clause-value g t c = ap kept_in (sym (none_of c.args.levels.now (omega (arith, c.in-None.ensures.cases))))

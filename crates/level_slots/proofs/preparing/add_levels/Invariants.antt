@@ -1,10 +1,15 @@
-use Rattle.std.proofs.Common.{◌-◌, length}
+use Rattle.std.proofs.Common.{◌≡◌, ◌-◌, length}
+use Rattle.level_slots.specs.Slots.{held_of, lowest_held}
 use Rattle.level_slots.specs.Preparing.{IsKept}
 use Rattle.level_slots.proofs.preparing.add_levels.Given as goal
 
 abbrev pub invariant-loop-alloc : goal.invariant-loop-alloc
-invariant-loop-alloc g l = IsKept g.B.Part.Part.contents g.B.Item.Item.stamp g.B.Item.Item.before g.B.Builder.SLOPE g.B.Builder.BASE
-    l.initial.levels.items l.levels.items
+invariant-loop-alloc g l = record {
+  kept : IsKept g.B.Part.Part.contents g.B.Item.Item.stamp g.B.Item.Item.before g.B.Builder.SLOPE g.B.Builder.BASE
+      l.initial.levels.items l.levels.items;
+  held : held_of l.levels.items ≡ held_of l.initial.levels.items;
+  lowest : lowest_held l.levels.items ≡ lowest_held l.initial.levels.items;
+}
 
 abbrev pub decreases-loop-alloc : goal.decreases-loop-alloc
 decreases-loop-alloc g l = 32 - length l.levels.items

@@ -1,4 +1,5 @@
-use Rattle.std.proofs.Common.{◌≡◌, [], ◌∷◌, ◌++◌, ◌∙◌, All, ap, sym, subst}
+use Rattle.std.proofs.Common.{◌≡◌, ◌-◌, [], ◌∷◌, ◌++◌, ◌∙◌, All, length, ap, sym, subst, arith}
+use Rattle.std.proofs.lemmas.List.{length_push}
 use Rattle.std.proofs.lemmas.List.Elements.{All-push}
 use Rattle.builder_trait.specs.Builders.{begun}
 use Rattle.level_slots.proofs.preparing.add_starter.Goals as goal
@@ -9,3 +10,13 @@ returns-clause-begun g c =
     let builder = c.in_ok-builder.builder in
     subst (All IsBegun) (sym (c.push_reserved.ensures.items ∙ ap (λ bs. bs ++ builder ∷ []) c.reserve.ensures.items))
     (All-push IsBegun c.args.starters.now.items builder c.requires.begun c.in_ok-builder.ensures.begun)
+
+pub returns-clause-lowest : goal.returns-clause-lowest
+returns-clause-lowest g c =
+    let place = c.take_starter.ensures.lowest (5 - length c.args.starters.now.items) (omega (arith, c.requires.few)) (omega (arith, c.requires.lowest)) in
+    omega (arith, place, c.requires.few, ap length c.push_reserved.ensures.items, ap length c.reserve.ensures.items, length_push c.reserve.new.self.items c.in_ok-builder.builder)
+
+pub returns-in_err-builder-clause-lowest : goal.returns-in_err-builder-clause-lowest
+returns-in_err-builder-clause-lowest g c =
+    let place = c.take_starter.ensures.lowest (5 - length c.args.starters.now.items) (omega (arith, c.requires.few)) (omega (arith, c.requires.lowest)) in
+    omega (arith, place, c.requires.few, ap length c.reserve.ensures.items)

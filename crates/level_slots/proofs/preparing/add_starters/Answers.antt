@@ -15,6 +15,8 @@ loop-alloc-preserved g c =
       begun = c.add_starter.ensures.begun;
       few = omega (arith, more, c.loop-alloc-test.true, c.len.ensures);
       more = omega (arith, more, before);
+      lowest = c.add_starter.ensures.lowest;
+      no_less = omega (arith, c.loop-alloc.invariant.no_less, c.add_starter.ensures.no_less);
     }
 
 pub returns-in_err-add_starter-clause-kept : goal.returns-in_err-add_starter-clause-kept

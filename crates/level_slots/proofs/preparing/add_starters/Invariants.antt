@@ -1,5 +1,6 @@
-use Rattle.std.proofs.Common.{◌≡◌, ◌-◌, ◌≤◌, All, length}
+use Rattle.std.proofs.Common.{◌≡◌, ◌+◌, ◌-◌, ◌≤◌, All, length}
 use Rattle.builder_trait.specs.Builders.{begun}
+use Rattle.level_slots.specs.Slots.{held_of, lowest_held}
 use Rattle.level_slots.specs.Preparing.{IsKept}
 use Rattle.level_slots.proofs.preparing.add_starters.Given as goal
 
@@ -9,6 +10,8 @@ invariant-loop-alloc g l = record {
   begun : All (λ b. g.B.Builder.progress b ≡ begun 0) l.starters.items;
   few : length l.starters.items ≤ 2;
   more : length l.initial.starters.items ≤ length l.starters.items;
+  lowest : lowest_held l.levels + length l.starters.items ≤ 5;
+  no_less : held_of l.initial.levels + length l.initial.starters.items ≤ held_of l.levels + length l.starters.items;
 }
 
 abbrev pub decreases-loop-alloc : goal.decreases-loop-alloc

@@ -1,6 +1,6 @@
-use Rattle.std.proofs.Common.{◌^◌, ◌<◌, ◌≤◌, length, drop, sym, subst, arith, IfOk}
+use Rattle.std.proofs.Common.{◌^◌, ◌<◌, ◌≤◌, length, drop, ap, sym, subst, arith, IfOk}
 use Rattle.std.proofs.lemmas.List.{take_at}
-use Rattle.level_slots.specs.Slots.{weight_of}
+use Rattle.level_slots.specs.Slots.{weight_of, held_of, lowest_held}
 use Rattle.level_slots.specs.Neighbours.{IsDueSoon, HaveRoomsAbove}
 use Rattle.level_slots.specs.Rooms.{rooms_in, forecast_of}
 use Rattle.level_slots.specs.Stack.{AreAllLevels}
@@ -54,3 +54,20 @@ returns-clause-few_rooms g c =
     let lent = take_at new (drop (length new) c.add_levels.new.levels.items) c.add_levels.new.levels.len
     (omega (arith, c.fill_levels.auto.levels, c.deref_mut.ensures.len)) in
     subst (λ ls. IfOk c.fill_levels.result (λ _. rooms_in ls ≤ forecast_of ls)) (sym lent) c.fill_levels.ensures.few_rooms
+
+pub fill_levels-requires-clause-lowest : goal.fill_levels-requires-clause-lowest
+fill_levels-requires-clause-lowest g c = omega (arith, c.requires.lowest, c.add_levels.ensures.lowest, ap lowest_held c.deref_mut.ensures.value)
+
+pub returns-clause-lowest : goal.returns-clause-lowest
+returns-clause-lowest g c =
+    let new = c.fill_levels.new.levels in
+    let lent = take_at new (drop (length new) c.add_levels.new.levels.items) c.add_levels.new.levels.len
+    (omega (arith, c.fill_levels.auto.levels, c.deref_mut.ensures.len)) in
+    omega (arith, ap lowest_held lent, c.fill_levels.ensures.lowest)
+
+pub returns-clause-no_less : goal.returns-clause-no_less
+returns-clause-no_less g c =
+    let new = c.fill_levels.new.levels in
+    let lent = take_at new (drop (length new) c.add_levels.new.levels.items) c.add_levels.new.levels.len
+    (omega (arith, c.fill_levels.auto.levels, c.deref_mut.ensures.len)) in
+    omega (arith, ap held_of lent, c.fill_levels.ensures.no_less, ap held_of c.deref_mut.ensures.value, c.add_levels.ensures.held)

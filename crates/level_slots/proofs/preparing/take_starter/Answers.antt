@@ -1,6 +1,8 @@
-use Rattle.std.proofs.Common.{◌≡◌, ◌-◌, IfOk, subst}
+use Rattle.std.proofs.Common.{◌≡◌, ◌-◌, ⊎_elim, IfOk, ap, subst, arith}
+use Rattle.std.proofs.lemmas.Bool.{cases_lt}
 use Rattle.builder_trait.specs.Builders.{begun}
-use Rattle.level_slots.proofs.Forecasting.{IsSame-kept, IsKept-lowest, lowest_level}
+use Rattle.level_slots.specs.Slots.{held_in}
+use Rattle.level_slots.proofs.Forecasting.{IsSame-kept, IsKept-lowest, lowest_level, lowest_construction, held-lowest, when_err}
 use Rattle.level_slots.proofs.preparing.take_starter.Goals as goal
 
 pub returns-clause-begun : goal.returns-clause-begun
@@ -15,3 +17,26 @@ returns-clause-kept g c =
     IsKept-lowest g.B.Part.Part.contents g.B.Item.Item.stamp g.B.Item.Item.before g.B.Builder.SLOPE g.B.Builder.BASE c.args.levels.now
     c.in-Some.lowest.now c.take_builder.new.self c.requires.some c.in-Some.ensures.item.1
     (IsSame-kept c.in-Some.lowest.now c.take_builder.new.self (c.in-Some.lowest.now.kept - 1) c.take_builder.ensures.same)
+
+pub returns-clause-lowest : goal.returns-clause-lowest
+returns-clause-lowest g c most four within =
+    let contents = g.B.Part.Part.contents in
+    let lowest = c.in-Some.lowest.now in
+    let new = c.take_builder.new.self in
+    let held = held-lowest c.args.levels.now lowest new c.requires.some c.in-Some.ensures.item.1 in
+    let zero = lowest_level contents g.B.Item.Item.stamp g.B.Item.Item.before c.args.levels.now lowest c.requires.some c.in-Some.ensures.item.1 c.requires.levels in
+    let none = lowest_construction contents g.B.Item.Item.stamp g.B.Item.Item.before c.args.levels.now lowest c.requires.some c.in-Some.ensures.item.1 c.requires.levels in
+    ⊎_elim
+    (λ some. omega (arith, some, within, held.0, held.1, ap held_in c.take_builder.ensures.same))
+    (λ empty. omega (arith, four, held.1, c.take_builder.ensures.lowest zero none (omega (arith, empty))))
+    (cases_lt 0 lowest.kept)
+
+pub returns-clause-held : goal.returns-clause-held
+returns-clause-held g c =
+    let held = held-lowest c.args.levels.now c.in-Some.lowest.now c.take_builder.new.self c.requires.some c.in-Some.ensures.item.1 in
+    omega (arith, held.2, ap held_in c.take_builder.ensures.same)
+
+pub returns-clause-refused : goal.returns-clause-refused
+returns-clause-refused g c =
+    let held = held-lowest c.args.levels.now c.in-Some.lowest.now c.take_builder.new.self c.requires.some c.in-Some.ensures.item.1 in
+    when_err c.take_builder.result (λ none. omega (arith, none, held.2, ap held_in c.take_builder.ensures.same)) c.take_builder.ensures.refused

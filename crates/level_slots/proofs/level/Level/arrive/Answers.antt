@@ -1,5 +1,7 @@
 use Rattle.std.proofs.Common.{ap, subst, sym, arith, length}
 use Rattle.std.specs.Vec.{vec_capacity}
+use Rattle.std.proofs.lemmas.List.{length_push}
+use Rattle.level_slots.specs.Slots.{held_in}
 use Rattle.level_slots.specs.Level.{IsOfLevel, AreHeld}
 use Rattle.level_slots.proofs.Held.{AreHeld-push}
 use Rattle.level_slots.proofs.level.Level.arrive.Goals as goal
@@ -21,4 +23,6 @@ invariant_of-self g c =
       rooms = h.rooms;
       builders_held = h.builders_held;
       tables_held = h.tables_held;
+      no_room_at_zero = h.no_room_at_zero;
+      few = omega (arith, c.requires.room, ap held_in c.self.view_is, ap length c.push_reserved.ensures.items, length_push c.self.inside.parts.items c.args.part);
     }

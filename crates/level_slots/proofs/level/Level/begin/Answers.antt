@@ -1,6 +1,7 @@
-use Rattle.std.proofs.Common.{◌≡◌, ◌++◌, ◌∙◌, None, ap, sym}
+use Rattle.std.proofs.Common.{◌≡◌, ℕ, ◌++◌, ◌∙◌, Option, None, ap, sym, arith}
 use Rattle.std.specs.Option.{is_some}
-use Rattle.level_slots.specs.Slots.{ticks_of}
+use Rattle.level_slots.specs.Slots.{ticks_of, one_if}
+use Rattle.level_slots.proofs.Held.{counted}
 use Rattle.level_slots.proofs.Neighbouring.{none_ticks, not_some}
 use Rattle.level_slots.proofs.Distinct.{AllStampsDiffer-part, StampsDiffer-parts, IsPartOf-front, IsPartOf-back}
 use Rattle.level_slots.proofs.level.Level.begin.Goals as goal
@@ -23,7 +24,11 @@ begin-requires-clause-differ g c =
 
 pub start-requires : goal.start-requires
 start-requires g c =
-    record { of_level = c.begin.ensures.level ∙ c.self.invariant.rooms c.in-Some.room (sym c.take.ensures.value ∙ c.in-Some.is) }
+    let held = sym c.take.ensures.value ∙ c.in-Some.is in
+    record {
+      of_level = c.begin.ensures.level ∙ c.self.invariant.rooms c.in-Some.room held;
+      room = omega (arith, c.self.invariant.few, counted held, ap (λ (o : Option ℕ). one_if (is_some o)) c.take.ensures.after);
+    }
 
 pub returns-clause-ticks : goal.returns-clause-ticks
 returns-clause-ticks g c =

@@ -1,6 +1,8 @@
-use Rattle.std.proofs.Common.{◌≡◌, ap, subst, sym, arith, ◌∙◌}
+use Rattle.std.proofs.Common.{◌≡◌, ap, subst, sym, arith, length, ◌∙◌}
 use Rattle.std.specs.Vec.{vec_capacity}
 use Rattle.builder_trait.specs.Builders.{begun}
+use Rattle.std.proofs.lemmas.List.{length_push}
+use Rattle.level_slots.specs.Slots.{held_in}
 use Rattle.level_slots.specs.Level.{AreHeld}
 use Rattle.level_slots.proofs.Held.{AreHeld-push}
 use Rattle.level_slots.proofs.level.Level.keep_builder.Goals as goal
@@ -18,7 +20,9 @@ invariant_of-self g c =
       builders_held = subst (AreHeld IsBegun 5 c.push_reserved.new.self.items) (sym c.push_reserved.ensures.capacity)
           (subst (λ bs. AreHeld IsBegun 5 bs (vec_capacity v.builders)) (sym c.push_reserved.ensures.items)
           (AreHeld-push v.builders.items c.args.builder h.builders_held
-          (c.requires ∙ ap (λ l. begun l.level) (sym c.self.view_is))
-          (omega (arith, c.if-len-lt-BUILDERS.true, c.len.ensures))));
+          (c.requires.begun ∙ ap (λ l. begun l.level) (sym c.self.view_is))
+          (omega (arith, c.requires.place, ap held_in c.self.view_is))));
       tables_held = h.tables_held;
+      no_room_at_zero = h.no_room_at_zero;
+      few = omega (arith, c.requires.place, ap held_in c.self.view_is, ap length c.push_reserved.ensures.items, length_push v.builders.items c.args.builder);
     }

@@ -19,4 +19,6 @@ invariant_of-self g c =
           (AreHeld-push c.self.inside.tables.items c.args.tables h.tables_held
           (c.requires ∙ sym (ap (λ v. v.level) c.self.view_is))
           (omega (arith, c.if-len-lt-TABLES.true, c.len.ensures))));
+      no_room_at_zero = h.no_room_at_zero;
+      few = h.few;
     }

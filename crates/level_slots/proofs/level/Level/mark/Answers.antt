@@ -34,6 +34,8 @@ invariant_of-self g c =
       rooms = h.rooms;
       builders_held = h.builders_held;
       tables_held = h.tables_held;
+      no_room_at_zero = h.no_room_at_zero;
+      few = omega (arith, h.few, ap length whole, as_long);
     }
 
 pub returns-clause-cost : goal.returns-clause-cost

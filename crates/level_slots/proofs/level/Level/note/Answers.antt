@@ -1,6 +1,12 @@
-use Rattle.std.proofs.Common.{◌≡◌, ◌∙◌, Some, ap, sym, subst}
+use Rattle.std.proofs.Common.{◌≡◌, ◌∙◌, Some, ap, sym, subst, arith}
 use Rattle.partial_build.specs.Construction.{Builds}
+use Rattle.level_slots.proofs.Held.{IsLevel-building, counted}
 use Rattle.level_slots.proofs.level.Level.note.Goals as goal
+
+pub invariant_of-self-2 : goal.invariant_of-self-2
+invariant_of-self-2 g c =
+    IsLevel-building c.self.invariant c.note.new.self (ap (λ v. v.level) c.note.ensures.noted ∙ c.self.invariant.builds c.in-Some.construction c.in-Some.is)
+    (omega (arith, c.self.invariant.few, counted c.in-Some.is))
 
 pub returns-clause-of_a : goal.returns-clause-of_a
 returns-clause-of_a g c a b new live same old c' is =

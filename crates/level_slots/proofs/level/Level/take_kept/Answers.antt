@@ -1,4 +1,5 @@
-use Rattle.std.proofs.Common.{◌≡◌, IfSome, ap, subst, sym}
+use Rattle.std.proofs.Common.{◌≡◌, IfSome, ap, subst, sym, arith, length, option_to_list}
+use Rattle.std.proofs.lemmas.List.{length-append}
 use Rattle.std.proofs.lemmas.List.Elements.{All-pop}
 use Rattle.builder_trait.specs.Builders.{begun}
 use Rattle.level_slots.specs.Level.{AreHeld}
@@ -18,6 +19,8 @@ invariant_of-self g c =
       builders_held = subst (AreHeld IsBegun 5 c.pop.new.self.items) (sym c.pop.ensures.capacity)
           (AreHeld-popped v.builders.items c.pop.new.self.items c.pop.result c.pop.ensures.items h.builders_held);
       tables_held = h.tables_held;
+      no_room_at_zero = h.no_room_at_zero;
+      few = omega (arith, h.few, ap length c.pop.ensures.items, length-append c.pop.new.self.items (option_to_list c.pop.result));
     }
 
 pub returns-clause-begun : goal.returns-clause-begun

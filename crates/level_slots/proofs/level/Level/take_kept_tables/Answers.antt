@@ -17,6 +17,8 @@ invariant_of-self g c =
       builders_held = h.builders_held;
       tables_held = subst (AreHeld IsOne 2 c.pop.new.self.items) (sym c.pop.ensures.capacity)
           (AreHeld-popped v.tables.items c.pop.new.self.items c.pop.result c.pop.ensures.items h.tables_held);
+      no_room_at_zero = h.no_room_at_zero;
+      few = h.few;
     }
 
 pub returns-clause-of_level : goal.returns-clause-of_level

@@ -1,7 +1,7 @@
 use Rattle.std.proofs.Common.{◌≡◌, ℕ, ◌≤◌, ◌∙◌, ap, sym, subst, arith, Bool, true, false, if◌then◌else◌, min, length}
 use Rattle.partial_build.specs.Quota.{quota}
 use Rattle.level_slots.specs.Cost.{IsWithin}
-use Rattle.level_slots.proofs.Held.{IsLevel-building}
+use Rattle.level_slots.proofs.Held.{IsLevel-building, counted}
 use Rattle.level_slots.proofs.level.Level.tick.Goals as goal
 
 at_most_two : (b : Bool) (n : ℕ) → (if b then min 2 n else 0) ≤ 2
@@ -14,6 +14,7 @@ tick-requires-clause-builds g c = c.requires.fed c.in-Some.construction (sym (ap
 pub invariant_of-self : goal.invariant_of-self
 invariant_of-self g c =
     IsLevel-building c.self.invariant c.tick.new.self (c.tick.ensures.ticked.0 ∙ c.self.invariant.builds c.in-Some.construction c.in-Some.is)
+    (omega (arith, c.self.invariant.few, counted c.in-Some.is))
 
 pub returns-clause-cost : goal.returns-clause-cost
 returns-clause-cost g c =

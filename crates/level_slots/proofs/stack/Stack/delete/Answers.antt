@@ -4,7 +4,7 @@ use Rattle.query_laws.specs.Permuted.{Permuted}
 use Rattle.query_laws.proofs.Permutations.{Permuted-length}
 use Rattle.builder_trait.specs.Parts.{without}
 use Rattle.builder_trait.specs.Builders.{begun}
-use Rattle.level_slots.specs.Slots.{Stacked, IsPartOf, weight_of, live_items, all_items, asked}
+use Rattle.level_slots.specs.Slots.{Stacked, IsPartOf, held_of, lowest_held, memory_of, weight_of, live_items, all_items, asked}
 use Rattle.level_slots.specs.Neighbours.{IsPunctual, IsDue, IsDueSoon, HaveRoomsAbove}
 use Rattle.level_slots.specs.Stack.{IsStack, AreAllLevels}
 use Rattle.level_slots.specs.Cost.{IsWithin, quotas}
@@ -83,7 +83,7 @@ invariant_of-self g c =
           (AllStampsDiffer-part stamp (all_items contents new) (all_items contents v.levels.items)
           (subst (λ ls. IsPartOf (all_items contents new) (all_items contents ls)) value c.take_out.ensures.items) st.apart)
           (omega (arith, weight)) (omega (arith, weight, light)) (c.take_out.ensures.as_many ∙ ap length value) (omega (arith, spare))
-          st.starters_few (omega (arith, st.spare_few))
+          st.starters_few (omega (arith, st.spare_few)) (omega (arith, st.lowest_few, c.take_out.ensures.lowest, ap lowest_held value))
           (subst (λ ls. HaveRoomsAbove IsDueSoon ls → HaveRoomsAbove IsDue new) value c.take_out.ensures.rooms),
       omega (arith, weight, c.self.invariant.1),
       omega (arith, live, c.self.invariant.2),
@@ -125,6 +125,14 @@ returns-clause-weight g c =
     let value : c.deref_mut.result.now ≡ v.levels.items = c.deref_mut.ensures.value in
     let whole = written v.levels.len v.levels.items new (sym c.deref_mut.ensures.len ∙ ap length value) (c.take_out.ensures.as_many ∙ ap length value) in
     ap weight_of whole ∙ c.take_out.ensures.weight ∙ ap weight_of (value ∙ ap (λ s. s.levels) c.self.view_is)
+
+pub returns-clause-memory : goal.returns-clause-memory
+returns-clause-memory g c =
+    let v = c.self.inside in
+    let new = c.take_out.new.levels in
+    let value : c.deref_mut.result.now ≡ v.levels.items = c.deref_mut.ensures.value in
+    let whole = written v.levels.len v.levels.items new (sym c.deref_mut.ensures.len ∙ ap length value) (c.take_out.ensures.as_many ∙ ap length value) in
+    omega (arith, ap held_of whole, c.take_out.ensures.held, ap held_of value, ap memory_of c.self.view_is)
 
 pub returns-clause-spare : goal.returns-clause-spare
 returns-clause-spare g c = omega (arith, c.requires.spare, ap (λ v. v.spare) c.self.view_is)

@@ -3,7 +3,7 @@ use Rattle.query_laws.specs.Orders.{AllStampsDiffer}
 use Rattle.query_laws.specs.Permuted.{Permuted}
 use Rattle.query_laws.proofs.Permutations.{Permuted-length}
 use Rattle.builder_trait.specs.Builders.{begun}
-use Rattle.level_slots.specs.Slots.{Stacked, IsPartOf, weight_of, live_items, all_items}
+use Rattle.level_slots.specs.Slots.{Stacked, IsPartOf, held_of, lowest_held, memory_of, weight_of, live_items, all_items}
 use Rattle.level_slots.specs.Neighbours.{IsDue, IsDueSoon, HaveRoomsAbove}
 use Rattle.level_slots.specs.Stack.{IsStack, AreAllLevels}
 use Rattle.level_slots.proofs.Distinct.{AllStampsDiffer-push, AllStampsDiffer-part}
@@ -83,6 +83,7 @@ invariant_of-self g c =
           (subst (λ ls. IsPartOf (all_items contents new) ((contents c.part_of-part.result).items ++ all_items contents ls)) value c.take_in.ensures.items) items)
           (omega (arith, weight)) (omega (arith, weight, light)) (c.take_in.ensures.as_many ∙ ap length value) (omega (arith, spare))
           (omega (arith, fewer, st.starters_few)) (omega (arith, fewer, st.spare_few, spare))
+          (omega (arith, fewer, st.lowest_few, c.take_in.ensures.lowest, ap lowest_held value))
           (subst (λ ls. HaveRoomsAbove IsDueSoon ls → HaveRoomsAbove IsDue new) value c.take_in.ensures.rooms),
       omega (arith, weight, c.self.invariant.1),
       omega (arith, live, c.self.invariant.2),
@@ -125,6 +126,19 @@ returns-clause-weight g c =
     let value : c.deref_mut.result.now ≡ v.levels.items = c.deref_mut.ensures.value in
     let whole = written v.levels.len v.levels.items new (sym c.deref_mut.ensures.len ∙ ap length value) (c.take_in.ensures.as_many ∙ ap length value) in
     ap weight_of whole ∙ c.take_in.ensures.weight ∙ ap (λ ls. weight_of ls + 1) (value ∙ ap (λ s. s.levels) c.self.view_is)
+
+pub take_in-requires-clause-place : goal.take_in-requires-clause-place
+take_in-requires-clause-place g c =
+    let st = c.self.invariant.0 in
+    omega (arith, ap lowest_held c.deref_mut.ensures.value, st.lowest_few, st.spare_few, c.requires.spare, ap (λ v. v.spare) c.self.view_is)
+
+pub returns-clause-memory : goal.returns-clause-memory
+returns-clause-memory g c =
+    let v = c.self.inside in
+    let new = c.take_in.new.levels in
+    let value : c.deref_mut.result.now ≡ v.levels.items = c.deref_mut.ensures.value in
+    let whole = written v.levels.len v.levels.items new (sym c.deref_mut.ensures.len ∙ ap length value) (c.take_in.ensures.as_many ∙ ap length value) in
+    omega (arith, ap held_of whole, c.take_in.ensures.held, ap held_of value, c.part_of-part.ensures.one_fewer, ap memory_of c.self.view_is)
 
 pub returns-clause-spare : goal.returns-clause-spare
 returns-clause-spare g c = omega (arith, c.requires.spare, ap (λ v. v.spare) c.self.view_is)

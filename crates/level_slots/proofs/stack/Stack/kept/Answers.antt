@@ -1,4 +1,5 @@
-use Rattle.std.proofs.Common.{◌∙◌, sym, subst, ap}
+use Rattle.std.proofs.Common.{◌≤◌, ◌∙◌, All, sym, subst, ap}
+use Rattle.level_slots.specs.Slots.{held_in}
 use Rattle.level_slots.specs.Rooms.{kept_in}
 use Rattle.level_slots.specs.Preparing.{AreRising}
 use Rattle.level_slots.proofs.Forecasting.{rising}
@@ -9,5 +10,9 @@ builders_kept-requires g c =
     subst AreRising (sym c.deref.ensures.value)
     (rising g.B.Part.Part.contents g.B.Item.Item.stamp g.B.Item.Item.before c.self.inside.levels.items c.self.invariant.0.levels)
 
-pub returns : goal.returns
-returns g c = c.builders_kept.ensures.value ∙ ap kept_in c.deref.ensures.value ∙ ap (λ s. kept_in s.levels) c.self.view_is
+pub returns-clause-value : goal.returns-clause-value
+returns-clause-value g c = c.builders_kept.ensures.value ∙ ap kept_in c.deref.ensures.value ∙ ap (λ s. kept_in s.levels) c.self.view_is
+
+pub returns-clause-bounded : goal.returns-clause-bounded
+returns-clause-bounded g c =
+    subst (All (λ l. held_in l ≤ 5)) (c.deref.ensures.value ∙ ap (λ s. s.levels) c.self.view_is) c.builders_kept.ensures.bounded
