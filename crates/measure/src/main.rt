@@ -11,6 +11,7 @@ use map_samples::{Failure, Watch};
 use part_trials::{check_parts, measure_part};
 use query_laws::step_ledger::{SHARES, Steps, blank};
 use session_trials::{check_examples, measure_script};
+use stack_trials::{check_stacks, measure_stack};
 use std::env;
 use std::marker::Brand;
 use std::process::ExitCode;
@@ -50,24 +51,17 @@ fn run<R: Print + Clock + Files + AllocGlobal + Clone + Drop, L: Ledger>(
             seed,
             size,
             is_timed,
-        } => {
-            let watch = Watch {
-                rt,
-                is_on: is_timed,
-            };
-            measure_part(&watch, seed, size.number, &mut steps)
-        }
+        } => measure_part(&watch(rt, is_timed), seed, size.number, &mut steps),
         Job::Build {
             seed,
             level,
             is_timed,
-        } => {
-            let watch = Watch {
-                rt,
-                is_on: is_timed,
-            };
-            measure_build(&watch, seed, level.number, &mut steps)
-        }
+        } => measure_build(&watch(rt, is_timed), seed, level.number, &mut steps),
+        Job::Stack {
+            seed,
+            size,
+            is_timed,
+        } => measure_stack(&watch(rt, is_timed), seed, size.number, &mut steps),
         Job::Check {
             seed,
             size,
@@ -75,19 +69,19 @@ fn run<R: Print + Clock + Files + AllocGlobal + Clone + Drop, L: Ledger>(
         } => {
             check_parts(rt, seed, size.number, &mut steps)?;
             check_builds(rt, seed, &mut steps)?;
+            check_stacks(rt, seed, &mut steps)?;
             match examples {
                 Some(folder) => check_examples(rt, folder),
                 None => Ok(()),
             }
         }
-        Job::Script { path, is_timed } => {
-            let watch = Watch {
-                rt,
-                is_on: is_timed,
-            };
-            measure_script(&watch, path)
-        }
+        Job::Script { path, is_timed } => measure_script(&watch(rt, is_timed), path),
     }
+}
+
+/// Reads the clock only where times are wanted.
+fn watch<R: Clock>(rt: &R, is_on: bool) -> Watch<'_, R> {
+    Watch { rt, is_on }
 }
 
 #[cfg(test)]

@@ -45,6 +45,25 @@ fn reads_words_of_a_construction(rt: HostRuntime) -> Result<(), Fail> {
 }
 
 #[test]
+fn reads_words_of_a_stack(rt: HostRuntime) -> Result<(), Fail> {
+    let words = ["measure", "stack", "--size", "300", "--time"];
+    let matches = command(rt.alloc())?.try_get_matches_from(&words)?;
+    let Some(
+        Job::Stack {
+            seed,
+            size,
+            is_timed,
+        },
+    ) = job_of(&matches)
+    else {
+        assert!(rt; false, "a stack");
+        return Ok(());
+    };
+    assert_eq!(rt; (seed, size.number, is_timed), (1, 300, true));
+    Ok(())
+}
+
+#[test]
 fn reads_words_of_a_check(rt: HostRuntime) -> Result<(), Fail> {
     for (words, wanted) in [
         (["measure", "check"].as_slice(), None),
@@ -98,6 +117,17 @@ fn measures_a_construction(rt: HostRuntime) -> Result<(), Fail> {
     let job = Job::Build {
         seed: 1,
         level: Level { number: 4 },
+        is_timed: true,
+    };
+    run::<HostRuntime, Brand>(&rt, &job, blank())?;
+    Ok(())
+}
+
+#[test]
+fn measures_a_stack(rt: HostRuntime) -> Result<(), Fail> {
+    let job = Job::Stack {
+        seed: 1,
+        size: Size { number: 40 },
         is_timed: true,
     };
     run::<HostRuntime, Brand>(&rt, &job, blank())?;

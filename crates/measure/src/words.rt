@@ -40,7 +40,13 @@ pub enum Job<'a> {
         level: Level,
         is_timed: bool,
     },
-    /// Parts of at most so many points, and constructions, beside plain lists, and the scripts of a folder beside their answers.
+    /// What a stack of so many points costs, beside one part of them, with times or without.
+    Stack {
+        seed: u64,
+        size: Size,
+        is_timed: bool,
+    },
+    /// Parts of at most so many points, constructions and stacks, beside plain lists, and the scripts of a folder beside their answers.
     Check {
         seed: u64,
         size: Size,
@@ -62,6 +68,7 @@ pub fn command<'a>(alloc: Global) -> Result<Command<'a>, AllocError> {
         .subcommand_required(true)
         .subcommand(part_command(alloc)?)?
         .subcommand(build_command(alloc)?)?
+        .subcommand(stack_command(alloc)?)?
         .subcommand(check_command(alloc)?)?
         .subcommand(script_command(alloc)?)
 }
@@ -82,9 +89,17 @@ fn build_command<'a>(alloc: Global) -> Result<Command<'a>, AllocError> {
         .arg(time_arg(alloc))
 }
 
+fn stack_command<'a>(alloc: Global) -> Result<Command<'a>, AllocError> {
+    Command::new(alloc, "stack")
+        .about("Insert random points into a stack of range parts, and count beside one part of all")
+        .arg(seed_arg(alloc))?
+        .arg(size_arg(alloc, "4096"))?
+        .arg(time_arg(alloc))
+}
+
 fn check_command<'a>(alloc: Global) -> Result<Command<'a>, AllocError> {
     Command::new(alloc, "check")
-        .about("Compare range parts, and constructions of them, with plain lists")
+        .about("Compare range parts, and constructions and stacks of them, with plain lists")
         .arg(seed_arg(alloc))?
         .arg(size_arg(alloc, "257"))?
         .arg(examples_arg(alloc))
@@ -154,6 +169,11 @@ pub fn job_of<'a>(matches: &ArgMatches<'a>) -> Option<Job<'a>> {
         "build" => Some(Job::Build {
             seed: matches.get_one::<u64>("seed")?,
             level: level_of(matches)?,
+            is_timed: matches.get_flag("time"),
+        }),
+        "stack" => Some(Job::Stack {
+            seed: matches.get_one::<u64>("seed")?,
+            size: size_of(matches)?,
             is_timed: matches.get_flag("time"),
         }),
         "check" => Some(Job::Check {

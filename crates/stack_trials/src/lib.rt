@@ -1,0 +1,23 @@
+//! What stacks of range parts cost, and their answers beside those of plain lists.
+#![tactic(auto)]
+
+mod asking;
+mod comparing;
+mod counting;
+mod growing;
+mod measuring;
+mod numbering;
+mod seen;
+mod trace;
+mod trial;
+
+pub use asking::answer_over;
+pub use comparing::check_stacks;
+pub use measuring::measure_stack;
+pub use numbering::insert_next;
+pub use seen::Seen;
+pub use trace::Trace;
+pub use trial::Trial;
+
+#[cfg(test)]
+mod tests;
