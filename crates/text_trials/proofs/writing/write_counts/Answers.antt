@@ -1,6 +1,6 @@
 use Rattle.std.proofs.Common.{sym, subst}
 use Rattle.std.specs.Io.KnownBytes.{Appends}
-use Rattle.std.proofs.KnownBytes.{Appends-nil, Appends-trans}
+use Rattle.std.proofs.KnownBytes.{Appends-trans}
 use Rattle.answer_text.proofs.Pieces.{more_texts}
 use Rattle.text_trials.specs.Writing.{count_line}
 use Rattle.text_trials.proofs.writing.write_counts.Goals as goal
