@@ -125,11 +125,13 @@ module _ {I : Type 0} (id_of stamp : I → ℕ) where
       rw rest (Agrees-removed handles new es spare spare' adds pending id handle agrees none found updates)
 
   -- all of an add, with the identifier and the entries as the calls give them
-  pub Agrees-added_at : (handles new : BTreeMap ℕ (Option ℕ)) (es es' : List (Entry I)) (spare spare' adds : ℕ) (pending : Option ℕ) (handle id : ℕ) (item : I)
+  pub Agrees-added_at : (handles new : BTreeMap ℕ (Option ℕ)) (es es' : List (Entry I)) (spare spare' adds adds' : ℕ) (pending : Option ℕ) (handle filled id : ℕ) (item : I)
       → Agrees id_of stamp handles es spare adds pending → pending ≡ Some (id_of item) → stamp item ≡ adds → is_linked handle es ≡ false
       → id ≡ id_of item
-      → UpdatesBy nat_cmp (nat_cmp id) handles new (Some (Some handle))
+      → UpdatesBy nat_cmp (nat_cmp id) handles new (Some (Some filled))
+      → filled ≡ handle
       → es' ≡ es ++ record { handle = handle; item = item } ∷ []
-      → Agrees id_of stamp new es' spare' (adds + 1) None
-  Agrees-added_at handles new es es' spare spare' adds pending handle id item agrees is stamped unlinked its_id updates appended =
-      rw appended (Agrees-added handles new es spare spare' adds pending handle item agrees is stamped unlinked (rw its_id at updates))
+      → adds' ≡ adds + 1
+      → Agrees id_of stamp new es' spare' adds' None
+  Agrees-added_at handles new es es' spare spare' adds adds' pending handle filled id item agrees is stamped unlinked its_id updates filled_is appended more =
+      rw (appended, more) (Agrees-added handles new es spare spare' adds pending handle item agrees is stamped unlinked (rw (its_id, filled_is) at updates))
