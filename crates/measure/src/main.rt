@@ -5,7 +5,7 @@ mod words;
 
 ghost use Rattle.std.specs.Prelude.{◌≡◌};
 
-use crate::words::{Job, command, job_of};
+use crate::words::{Job, Size, command, job_of};
 use build_trials::{check_builds, measure_build};
 use map_samples::{Failure, Watch};
 use part_trials::{check_parts, measure_part};
@@ -18,6 +18,7 @@ use std::process::ExitCode;
 use std::rt::Files;
 use std::sync::ledger::{Blank, Ledger};
 use std::time::Clock;
+use text_trials::measure_text;
 
 fn main(rt: HostRuntime) -> anyhow::Result<ExitCode> {
     let alloc = rt.alloc();
@@ -62,20 +63,35 @@ fn run<R: Print + Clock + Files + AllocGlobal + Clone + Drop, L: Ledger>(
             size,
             is_timed,
         } => measure_stack(&watch(rt, is_timed), seed, size.number, &mut steps),
+        Job::Text {
+            seed,
+            size,
+            is_timed,
+        } => measure_text(&watch(rt, is_timed), seed, size.number),
+        Job::Script { path, is_timed } => measure_script(&watch(rt, is_timed), path),
         Job::Check {
             seed,
             size,
             examples,
-        } => {
-            check_parts(rt, seed, size.number, &mut steps)?;
-            check_builds(rt, seed, &mut steps)?;
-            check_stacks(rt, seed, &mut steps)?;
-            match examples {
-                Some(folder) => check_examples(rt, folder),
-                None => Ok(()),
-            }
-        }
-        Job::Script { path, is_timed } => measure_script(&watch(rt, is_timed), path),
+        } => check(rt, seed, size, examples, &mut steps),
+    }
+}
+
+/// Compares parts, constructions, stacks and text, and the answers to the scripts of a folder where one is named.
+fn check<R: Print + Clock + Files + AllocGlobal + Clone + Drop, L: Ledger>(
+    rt: &R,
+    seed: u64,
+    size: Size,
+    examples: Option<&str>,
+    steps: &mut Steps<L>,
+) -> Result<(), Failure> {
+    check_parts(rt, seed, size.number, steps)?;
+    check_builds(rt, seed, steps)?;
+    check_stacks(rt, seed, steps)?;
+    measure_text(&watch(rt, false), seed, size.number)?;
+    match examples {
+        Some(folder) => check_examples(rt, folder),
+        None => Ok(()),
     }
 }
 

@@ -64,6 +64,25 @@ fn reads_words_of_a_stack(rt: HostRuntime) -> Result<(), Fail> {
 }
 
 #[test]
+fn reads_words_of_a_text(rt: HostRuntime) -> Result<(), Fail> {
+    let words = ["measure", "text", "--time", "--size", "3"];
+    let matches = command(rt.alloc())?.try_get_matches_from(&words)?;
+    let Some(
+        Job::Text {
+            seed,
+            size,
+            is_timed,
+        },
+    ) = job_of(&matches)
+    else {
+        assert!(rt; false, "a text");
+        return Ok(());
+    };
+    assert_eq!(rt; (seed, size.number, is_timed), (1, 3, true));
+    Ok(())
+}
+
+#[test]
 fn reads_words_of_a_check(rt: HostRuntime) -> Result<(), Fail> {
     for (words, wanted) in [
         (["measure", "check"].as_slice(), None),

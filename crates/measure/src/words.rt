@@ -4,13 +4,13 @@ ghost use Rattle.std.specs.Prelude.{◌≤◌, ◌^◌};
 use clap::{Arg, ArgAction, ArgMatches, Command, value_parser};
 use std::alloc::{AllocError, Global};
 
-/// The most points: 2^20.
+/// The most points or lines: 2^20.
 const MOST: usize = 1_048_576;
 
 /// The highest level of a construction, of 2^20 points.
 const TOP_LEVEL: u32 = 20;
 
-/// A number of points.
+/// A number of points or lines.
 #[derive(Clone, Copy, Debug)]
 pub struct Size {
     pub number: usize,
@@ -46,11 +46,18 @@ pub enum Job<'a> {
         size: Size,
         is_timed: bool,
     },
-    /// Parts of at most so many points, constructions and stacks, beside plain lists, and the scripts of a folder beside their answers.
+    /// Parts of at most so many points, constructions and stacks, beside plain lists, so many lines and replies beside std, and the
+    /// scripts of a folder beside their answers.
     Check {
         seed: u64,
         size: Size,
         examples: Option<&'a str>,
+    },
+    /// What reading so many lines and writing so many replies costs, with times or without.
+    Text {
+        seed: u64,
+        size: Size,
+        is_timed: bool,
     },
     /// What the commands of a script cost, with times or without.
     Script {
@@ -70,7 +77,8 @@ pub fn command<'a>(alloc: Global) -> Result<Command<'a>, AllocError> {
         .subcommand(build_command(alloc)?)?
         .subcommand(stack_command(alloc)?)?
         .subcommand(check_command(alloc)?)?
-        .subcommand(script_command(alloc)?)
+        .subcommand(script_command(alloc)?)?
+        .subcommand(text_command(alloc)?)
 }
 
 fn part_command<'a>(alloc: Global) -> Result<Command<'a>, AllocError> {
@@ -99,10 +107,20 @@ fn stack_command<'a>(alloc: Global) -> Result<Command<'a>, AllocError> {
 
 fn check_command<'a>(alloc: Global) -> Result<Command<'a>, AllocError> {
     Command::new(alloc, "check")
-        .about("Compare range parts, and constructions and stacks of them, with plain lists")
+        .about(
+            "Compare range parts, and constructions and stacks of them, with plain lists, and text with that of std",
+        )
         .arg(seed_arg(alloc))?
         .arg(size_arg(alloc, "257"))?
         .arg(examples_arg(alloc))
+}
+
+fn text_command<'a>(alloc: Global) -> Result<Command<'a>, AllocError> {
+    Command::new(alloc, "text")
+        .about("Read random lines and write replies, and the same by std alone")
+        .arg(seed_arg(alloc))?
+        .arg(size_arg(alloc, "4096"))?
+        .arg(time_arg(alloc))
 }
 
 fn script_command<'a>(alloc: Global) -> Result<Command<'a>, AllocError> {
@@ -132,7 +150,7 @@ fn size_arg<'a>(alloc: Global, default: &'a str) -> Arg<'a> {
         .long("size")
         .value_parser(value_parser!(u32).range(0..=MOST as i64))
         .default_value(default)
-        .help("The number of points")
+        .help("The number of points or lines")
 }
 
 fn level_arg<'a>(alloc: Global) -> Arg<'a> {
@@ -180,6 +198,11 @@ pub fn job_of<'a>(matches: &ArgMatches<'a>) -> Option<Job<'a>> {
             seed: matches.get_one::<u64>("seed")?,
             size: size_of(matches)?,
             examples: matches.get_str("examples"),
+        }),
+        "text" => Some(Job::Text {
+            seed: matches.get_one::<u64>("seed")?,
+            size: size_of(matches)?,
+            is_timed: matches.get_flag("time"),
         }),
         "script" => Some(Job::Script {
             path: matches.get_str("file")?,
