@@ -7,6 +7,7 @@ ghost use Rattle.stack_trials.specs.Trial.{AreAlike, live_points};
 
 use crate::asking::answer_over;
 use crate::numbering::insert_next;
+use crate::preparing::prepare_or_retry;
 use crate::seen::Seen;
 use crate::trace::Trace;
 use level_slots::Stack;
@@ -59,7 +60,7 @@ impl Trial {
         ensures alike { OnOk result (AreAlike self.new.inserted self.new.stack.levels self.new.list.points.items) }
         ensures inserted { OnOk result (self.new.inserted ≡ self.old.inserted + 1) }
     {
-        self.stack.prepare()?;
+        prepare_or_retry(&mut self.stack)?;
         self.list.points.push(point)?;
         insert_next(&mut self.stack, point, steps);
         self.inserted += 1;
@@ -76,7 +77,7 @@ impl Trial {
         ensures alike { OnOk result (AreAlike self.new.inserted self.new.stack.levels self.new.list.points.items) }
         ensures inserted { self.new.inserted ≡ self.old.inserted }
     {
-        self.stack.prepare()?;
+        prepare_or_retry(&mut self.stack)?;
         let point = self.list.points[place];
         self.stack.delete(&point, steps);
         self.list.mark(point.stamp);

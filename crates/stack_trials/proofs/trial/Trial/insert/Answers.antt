@@ -8,7 +8,7 @@ use Rattle.stack_trials.proofs.trial.Trial.insert.Goals as goal
 pub returns-clause-alike : goal.returns-clause-alike
 returns-clause-alike g c =
     let h = c.requires.alike in
-    let prepared = c.in_ok-prepare.ensures in
+    let prepared = c.in_ok-prepare_or_retry.ensures in
     let points = c.args.self.now.list.points.items in
     record {
       weighs = c.insert_next.ensures.weight ∙ ap (λ w. w + 1) (prepared.weight ∙ h.weighs);
