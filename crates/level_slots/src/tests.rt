@@ -1,4 +1,4 @@
-//! Twelve inserts, and a delete after five.
+//! Twelve inserts, a delete after five, and the rooms that are held.
 ghost use Rattle.std.specs.Prelude.{◌≡◌, ◌<◌, ◌≤◌, ◌^◌, [], Contains, OnOk};
 ghost use Rattle.level_slots.specs.Slots.{weight_of, live_items};
 
@@ -80,6 +80,37 @@ fn deleted<B: Builder<Item = Pair>, L: Ledger>(
     ))
 }
 
+/// After so many inserts and a preparation: the weight of the rooms that are held, and how many ticks need no more memory.
+fn prepared<B: Builder<Item = Pair>, L: Ledger>(
+    alloc: Global,
+    count: u64,
+    steps: &mut Steps<L>,
+) -> Result<(u64, u32), NoMemory>
+    requires { count < 2 ^ 10 }
+{
+    let mut stack = Stack::<B>::new(alloc);
+    insert_up_to(alloc, &mut stack, count, steps)?;
+    stack.prepare()?;
+    Ok((stack.rooms(), stack.spare()))
+}
+
+/// The same after five, six and nine inserts.
+fn prepared_thrice<B: Builder<Item = Pair>, L: Ledger>(
+    alloc: Global,
+    blank: Blank,
+) -> Result<[(u64, u32); 3], NoMemory>
+    requires name { blank.name ≡ L.name }
+    requires parts { blank.parts ≡ L.parts }
+    requires shares { blank.parts ≡ SHARES }
+{
+    let mut steps = Steps::<L>::new(blank);
+    Ok([
+        prepared::<B, L>(alloc, 5, &mut steps)?,
+        prepared::<B, L>(alloc, 6, &mut steps)?,
+        prepared::<B, L>(alloc, 9, &mut steps)?,
+    ])
+}
+
 #[test]
 fn twelve_inserts(rt: HostRuntime) -> Result<(), Fail> {
     let seen = traced::<FlatBuilder<Pair>, Brand>(rt.alloc(), blank())?;
@@ -96,5 +127,15 @@ fn twelve_inserts(rt: HostRuntime) -> Result<(), Fail> {
 fn deletes_the_first_of_five(rt: HostRuntime) -> Result<(), Fail> {
     let seen = deleted::<FlatBuilder<Pair>, Brand>(rt.alloc(), blank())?;
     assert_eq!(rt; seen, (5, 4, 3, 3, 1));
+    Ok(())
+}
+
+#[test]
+fn holds_rooms_by_forecast(rt: HostRuntime) -> Result<(), Fail> {
+    let seen = prepared_thrice::<FlatBuilder<Pair>, Brand>(rt.alloc(), blank())?;
+    for (place, most) in [8, 16, 8].iter().enumerate() {
+        assert!(rt; seen[place].0 <= *most, "{place}");
+        assert_eq!(rt; seen[place].1, 2);
+    }
     Ok(())
 }
