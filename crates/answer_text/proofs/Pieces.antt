@@ -37,12 +37,22 @@ prefix_second o m n p q a b g h =
       subst (Appends o n) (sym (take-append-add g.given (q ++ b) h.0)) (Appends-trans o m n g.given (take h.0 (q ++ b)) g.appended h.2),
     )
 
--- a proper prefix of the first of four texts, of the first two, and of the first three
-pub prefix_of_first : (o n : Option (List ℕ)) (p a b t e : List ℕ) → AppendsProperPrefix o n (p ++ a) → AppendsProperPrefix o n (p ++ (((a ++ b) ++ t) ++ e))
-prefix_of_first o n p a b t e h = prefix_first o n p ((a ++ b) ++ t) e (prefix_first o n p (a ++ b) t (prefix_first o n p a b h))
+-- a proper prefix of two texts is one of three
+pub before_last : (o n : Option (List ℕ)) (p a b c : List ℕ) → AppendsProperPrefix o n (p ++ (a ++ b)) → AppendsProperPrefix o n (p ++ ((a ++ b) ++ c))
+before_last o n p a b c h = prefix_first o n p (a ++ b) c h
 
-pub prefix_of_two : (o n : Option (List ℕ)) (p a b t e : List ℕ) → AppendsProperPrefix o n (p ++ (a ++ b)) → AppendsProperPrefix o n (p ++ (((a ++ b) ++ t) ++ e))
-prefix_of_two o n p a b t e h = prefix_first o n p ((a ++ b) ++ t) e (prefix_first o n p (a ++ b) t h)
+-- a proper prefix of some texts is one of these with further texts behind them
+pub before_two : (o n : Option (List ℕ)) (p a b c : List ℕ) → AppendsProperPrefix o n (p ++ a) → AppendsProperPrefix o n (p ++ ((a ++ b) ++ c))
+before_two o n p a b c h = prefix_first o n p (a ++ b) c (prefix_first o n p a b h)
+
+pub before_three : (o n : Option (List ℕ)) (p a b c d : List ℕ) → AppendsProperPrefix o n (p ++ a) → AppendsProperPrefix o n (p ++ (((a ++ b) ++ c) ++ d))
+before_three o n p a b c d h = prefix_first o n p ((a ++ b) ++ c) d (before_two o n p a b c h)
+
+pub before_four : (o n : Option (List ℕ)) (p a b c d e : List ℕ) → AppendsProperPrefix o n (p ++ a) → AppendsProperPrefix o n (p ++ ((((a ++ b) ++ c) ++ d) ++ e))
+before_four o n p a b c d e h = prefix_first o n p (((a ++ b) ++ c) ++ d) e (before_three o n p a b c d h)
+
+pub before_five : (o n : Option (List ℕ)) (p a b c d e f : List ℕ) → AppendsProperPrefix o n (p ++ a) → AppendsProperPrefix o n (p ++ (((((a ++ b) ++ c) ++ d) ++ e) ++ f))
+before_five o n p a b c d e f h = prefix_first o n p ((((a ++ b) ++ c) ++ d) ++ e) f (before_four o n p a b c d e h)
 
 -- the piece is written last
 pub gathers_end : (o m n : Option (List ℕ)) (p q a : List ℕ) → Gathers o m p q a → Appends m n q → Appends o n (p ++ a)

@@ -1,17 +1,21 @@
--- A reply's text is its word and its numbers.
-use Rattle.std.proofs.Common.{◌≡◌, ℕ, Bool, List, [], ◌∷◌, ◌++◌, codes, Some, None, map, refl, sym, ap, ◌∙◌, append-nil}
+-- A reply's line is its parts.
+use Rattle.std.proofs.Common.{◌≡◌, ℕ, Bool, false, cond, nat_eq, List, [], ◌∷◌, ◌++◌, codes, length, Option, Some, None, map, arith, refl, sym, ap, ◌∙◌, append-nil, append_assoc, subst}
 use Rattle.std.specs.List.{flat_map}
-use Rattle.map_model.specs.Script.Reply.{spaced, numbers_or_none, found_numbers, reply_text, reply_line}
+use Rattle.std.specs.Io.KnownBytes.{Appends}
+use Rattle.map_io.specs.ProperPrefix.{AppendsProperPrefix}
+use Rattle.map_model.specs.Script.Reply.{spaced, numbers_or_none, shape_numbers, found_numbers, reply_text, reply_line}
 use Rattle.map_model.specs.Script.Refusal.{refusal_text}
 use Rattle.std.proofs.lemmas.List.Concat.{flat_map-append}
 use Rattle.map_shapes.specs.declared.found.Found as shapes
+use Rattle.std.proofs.lemmas.Bool.Decides.{nat_tests}
 use Rattle.map_shapes.specs.Found.{found_of}
+use Rattle.map_shapes.specs.Shape.{model_shape}
 use Rattle.answer_text.specs.declared.refusal.Refusal.{Refusal}
 use Rattle.answer_text.specs.declared.refusal.Refusal.TheVariants as causes
 use Rattle.answer_text.specs.declared.reply.Reply.{Reply}
 use Rattle.answer_text.specs.declared.reply.Reply.TheVariants as variants
 use Rattle.answer_text.specs.Reply.{refusal_of, reply_of, cost_of}
-use Rattle.answer_text.specs.Texts.{refusal_word, reply_word, spaced_all, found_text, founds_text, refusal_numbers, reply_numbers, tail_text}
+use Rattle.answer_text.specs.Texts.{refusal_word, reply_word, spaced_all, found_text, refusal_numbers, reply_numbers, listed_ids, none_text, tail_text}
 
 -- one number
 one : (word : List ℕ) (n : ℕ) → word ++ spaced_all (n ∷ []) ≡ word ++ spaced n
@@ -44,32 +48,78 @@ all_founds (f ∷ fs) =
     ap (λ (z : List ℕ). found_text f ++ z) (all_founds fs)
     ∙ sym (flat_map-append spaced (f.id ∷ f.dist ∷ []) (flat_map found_numbers (map found_of fs)))
 
-founds_numbers : (fs : List shapes.Found) → founds_text fs ≡ numbers_or_none (flat_map found_numbers (map found_of fs))
-founds_numbers [] = refl
-founds_numbers (f ∷ fs) = all_founds (f ∷ fs)
+-- numbers, or ` none`
+abbrev none_of : {A : Type 0} → List A → List ℕ
+none_of xs = cond (nat_eq (length xs) 0) (codes " none") []
 
-pub text_of_reply : (reply : Reply) → reply_word reply ++ reply_numbers reply ≡ reply_text (reply_of reply)
-text_of_reply variants.Made = refl
-text_of_reply (variants.Updated spent) = refl
-text_of_reply (variants.Count n asked) = one (codes "count") n
-text_of_reply (variants.Sum n asked) = one (codes "sum") n
-text_of_reply (variants.List ids asked) = refl
-text_of_reply (variants.Near None asked) = refl
-text_of_reply (variants.Near (Some found) asked) = refl
-text_of_reply (variants.Nearest found asked) = ap (λ (z : List ℕ). codes "nearest" ++ z) (founds_numbers found)
-text_of_reply (variants.Above ids asked) = refl
-text_of_reply (variants.Top None asked) = refl
-text_of_reply (variants.Top (Some peak) asked) = ap (λ (z : List ℕ). codes "top" ++ z) (two peak.id peak.y)
-text_of_reply (variants.Stab ids asked) = refl
-text_of_reply (variants.StabCount n asked) = one (codes "stabcount") n
-text_of_reply (variants.Got shape) = refl
-text_of_reply (variants.Size n) = one (codes "size") n
-text_of_reply (variants.Recent ids) = refl
-text_of_reply (variants.Refused cause) = cause_text cause
+some : {A : Type 0} (x : A) (xs : List A) → none_of (x ∷ xs) ≡ []
+some x xs = ap (λ b. cond b (codes " none") []) (let filled : nat_eq (length (x ∷ xs)) 0 ≡ false = grind (arith, nat_tests) in filled)
 
--- the line behind an empty piece
-pub line_of_reply : (ledger : Bool) (reply : Reply) (piece word : List ℕ) → piece ≡ [] → word ≡ reply_word reply → piece ++ (((word ++ reply_numbers reply) ++ tail_text ledger reply) ++ 10 ∷ []) ≡ reply_line ledger (reply_of reply) (cost_of reply)
-line_of_reply ledger reply piece word none is =
-    ap (λ (p : List ℕ). p ++ (((word ++ reply_numbers reply) ++ tail_text ledger reply) ++ 10 ∷ [])) none
-    ∙ ap (λ (w : List ℕ). ((w ++ reply_numbers reply) ++ tail_text ledger reply) ++ 10 ∷ []) is
-    ∙ ap (λ (t : List ℕ). (t ++ tail_text ledger reply) ++ 10 ∷ []) (text_of_reply reply)
+ids_or_none : (ids : List ℕ) → spaced_all ids ++ none_of ids ≡ numbers_or_none ids
+ids_or_none [] = refl
+ids_or_none (id ∷ ids) = ap (λ (z : List ℕ). spaced_all (id ∷ ids) ++ z) (some id ids) ∙ append-nil (spaced_all (id ∷ ids))
+
+founds_or_none : (fs : List shapes.Found) → flat_map found_text fs ++ none_of fs ≡ numbers_or_none (flat_map found_numbers (map found_of fs))
+founds_or_none [] = refl
+founds_or_none (f ∷ fs) = ap (λ (z : List ℕ). flat_map found_text (f ∷ fs) ++ z) (some f fs) ∙ append-nil (flat_map found_text (f ∷ fs)) ∙ all_founds (f ∷ fs)
+
+-- the parts behind the word
+abbrev behind : Reply → List ℕ
+behind reply = (reply_numbers reply ++ spaced_all (listed_ids reply)) ++ none_text reply
+
+no_list : (word numbers text : List ℕ) → word ++ numbers ≡ text → word ++ ((numbers ++ []) ++ []) ≡ text
+no_list word numbers text is = ap (λ (z : List ℕ). word ++ z) (append-nil (numbers ++ []) ∙ append-nil numbers) ∙ is
+
+text_behind : (reply : Reply) → reply_word reply ++ behind reply ≡ reply_text (reply_of reply)
+text_behind variants.Made = refl
+text_behind (variants.Updated spent) = refl
+text_behind (variants.Count n asked) = no_list (codes "count") (spaced_all (n ∷ [])) _ (one (codes "count") n)
+text_behind (variants.Sum n asked) = no_list (codes "sum") (spaced_all (n ∷ [])) _ (one (codes "sum") n)
+text_behind (variants.List ids asked) = ap (λ (z : List ℕ). codes "list" ++ z) (ids_or_none ids)
+text_behind (variants.Near None asked) = refl
+text_behind (variants.Near (Some found) asked) = no_list (codes "near") (found_text found) _ refl
+text_behind (variants.Nearest found asked) =
+    ap (λ (z : List ℕ). codes "nearest" ++ (z ++ none_of found)) (append-nil (flat_map found_text found))
+    ∙ ap (λ (z : List ℕ). codes "nearest" ++ z) (founds_or_none found)
+text_behind (variants.Above ids asked) = ap (λ (z : List ℕ). codes "above" ++ z) (ids_or_none ids)
+text_behind (variants.Top None asked) = refl
+text_behind (variants.Top (Some peak) asked) = no_list (codes "top") (spaced_all (peak.id ∷ peak.y ∷ [])) _ (ap (λ (z : List ℕ). codes "top" ++ z) (two peak.id peak.y))
+text_behind (variants.Stab ids asked) = ap (λ (z : List ℕ). codes "stab" ++ z) (ids_or_none ids)
+text_behind (variants.StabCount n asked) = no_list (codes "stabcount") (spaced_all (n ∷ [])) _ (one (codes "stabcount") n)
+text_behind (variants.Got shape) = no_list (codes "get") (spaced_all (shape_numbers (model_shape shape))) _ refl
+text_behind (variants.Size n) = no_list (codes "size") (spaced_all (n ∷ [])) _ (one (codes "size") n)
+text_behind (variants.Recent ids) = ap (λ (z : List ℕ). codes "recent" ++ z) (ids_or_none ids)
+text_behind (variants.Refused cause) = no_list (refusal_word cause) (refusal_numbers cause) _ (cause_text cause)
+
+-- ---- the line behind an empty piece
+
+abbrev parts_text : Reply → List ℕ → List ℕ → List ℕ → List ℕ → List ℕ
+parts_text reply word ids none tail = ((((word ++ reply_numbers reply) ++ spaced_all ids) ++ none) ++ tail) ++ 10 ∷ []
+
+-- what the parts of a line are
+record AreParts (ledger : Bool) (reply : Reply) (piece word ids none tail : List ℕ) : Type 0 where
+  begun : piece ≡ []
+  word_is : word ≡ reply_word reply
+  ids_are : ids ≡ listed_ids reply
+  none_is : none ≡ none_text reply
+  tail_is : tail ≡ tail_text ledger reply
+
+line_of_reply : (ledger : Bool) (reply : Reply) (piece word ids none tail : List ℕ) → AreParts ledger reply piece word ids none tail → piece ++ parts_text reply word ids none tail ≡ reply_line ledger (reply_of reply) (cost_of reply)
+line_of_reply ledger reply piece word ids none tail h =
+    let numbers = reply_numbers reply in
+    (λ i. h.begun i ++ parts_text reply (h.word_is i) (h.ids_are i) (h.none_is i) (h.tail_is i))
+    ∙ ap (λ (z : List ℕ). ((z ++ none_text reply) ++ tail_text ledger reply) ++ 10 ∷ []) (append_assoc (reply_word reply) numbers (spaced_all (listed_ids reply)))
+    ∙ ap (λ (z : List ℕ). (z ++ tail_text ledger reply) ++ 10 ∷ []) (append_assoc (reply_word reply) (numbers ++ spaced_all (listed_ids reply)) (none_text reply) ∙ text_behind reply)
+
+-- parts that were written are the line, and a proper prefix of them is one of it
+pub line_appended : (ledger : Bool) (reply : Reply) (o n : Option (List ℕ)) (piece word ids none tail : List ℕ) → Appends o n (piece ++ parts_text reply word ids none tail)
+    → piece ≡ [] → word ≡ reply_word reply → ids ≡ listed_ids reply → none ≡ none_text reply → tail ≡ tail_text ledger reply
+    → Appends o n (reply_line ledger (reply_of reply) (cost_of reply))
+line_appended ledger reply o n piece word ids none tail h begun word_is ids_are none_is tail_is =
+    subst (Appends o n) (line_of_reply ledger reply piece word ids none tail (record { begun = begun; word_is = word_is; ids_are = ids_are; none_is = none_is; tail_is = tail_is })) h
+
+pub line_cut : (ledger : Bool) (reply : Reply) (o n : Option (List ℕ)) (piece word ids none tail : List ℕ) → AppendsProperPrefix o n (piece ++ parts_text reply word ids none tail)
+    → piece ≡ [] → word ≡ reply_word reply → ids ≡ listed_ids reply → none ≡ none_text reply → tail ≡ tail_text ledger reply
+    → AppendsProperPrefix o n (reply_line ledger (reply_of reply) (cost_of reply))
+line_cut ledger reply o n piece word ids none tail h begun word_is ids_are none_is tail_is =
+    subst (AppendsProperPrefix o n) (line_of_reply ledger reply piece word ids none tail (record { begun = begun; word_is = word_is; ids_are = ids_are; none_is = none_is; tail_is = tail_is })) h

@@ -1,6 +1,6 @@
--- A reply's line by its parts: a word or two, the numbers behind it, and what it cost.
-use Rattle.std.specs.Prelude.{ℕ, List, [], ◌∷◌, Bool, Some, None, codes, flat_map, if◌then◌else◌}
-use Rattle.map_model.specs.Script.Reply.{spaced, numbers_or_none, shape_numbers}
+-- A reply's line by its parts: a word or two, numbers, identifiers or ` none`, and what it cost.
+use Rattle.std.specs.Prelude.{◌==◌, ℕ, List, [], ◌∷◌, Bool, false, Some, None, is_none, codes, length, flat_map, if◌then◌else◌}
+use Rattle.map_model.specs.Script.Reply.{spaced, shape_numbers}
 use Rattle.map_model.specs.Script.Cost.{cost_text}
 use Rattle.map_shapes.specs.declared.found.Found as shapes
 use Rattle.map_shapes.specs.Shape.{model_shape}
@@ -52,33 +52,51 @@ spaced_all ns = flat_map spaced ns
 abbrev pub found_text : shapes.Found → List ℕ
 found_text f = spaced_all (f.id ∷ f.dist ∷ [])
 
-abbrev pub founds_text : List shapes.Found → List ℕ
-founds_text [] = codes " none"
-founds_text (f ∷ fs) = flat_map found_text (f ∷ fs)
-
 abbrev pub refusal_numbers : Refusal → List ℕ
 refusal_numbers (causes.Duplicate id) = spaced_all (id ∷ [])
 refusal_numbers (causes.Unknown id) = spaced_all (id ∷ [])
 refusal_numbers _ = []
 
+-- the numbers of a reply but the identifiers that it lists
 abbrev pub reply_numbers : Reply → List ℕ
 reply_numbers variants.Made = []
 reply_numbers (variants.Updated spent) = []
 reply_numbers (variants.Count n asked) = spaced_all (n ∷ [])
 reply_numbers (variants.Sum n asked) = spaced_all (n ∷ [])
-reply_numbers (variants.List ids asked) = numbers_or_none ids
-reply_numbers (variants.Near None asked) = codes " none"
+reply_numbers (variants.List ids asked) = []
+reply_numbers (variants.Near None asked) = []
 reply_numbers (variants.Near (Some found) asked) = found_text found
-reply_numbers (variants.Nearest found asked) = founds_text found
-reply_numbers (variants.Above ids asked) = numbers_or_none ids
-reply_numbers (variants.Top None asked) = codes " none"
+reply_numbers (variants.Nearest found asked) = flat_map found_text found
+reply_numbers (variants.Above ids asked) = []
+reply_numbers (variants.Top None asked) = []
 reply_numbers (variants.Top (Some peak) asked) = spaced_all (peak.id ∷ peak.y ∷ [])
-reply_numbers (variants.Stab ids asked) = numbers_or_none ids
+reply_numbers (variants.Stab ids asked) = []
 reply_numbers (variants.StabCount n asked) = spaced_all (n ∷ [])
 reply_numbers (variants.Got shape) = spaced_all (shape_numbers (model_shape shape))
 reply_numbers (variants.Size n) = spaced_all (n ∷ [])
-reply_numbers (variants.Recent ids) = numbers_or_none ids
+reply_numbers (variants.Recent ids) = []
 reply_numbers (variants.Refused cause) = refusal_numbers cause
+
+abbrev pub listed_ids : Reply → List ℕ
+listed_ids (variants.List ids asked) = ids
+listed_ids (variants.Above ids asked) = ids
+listed_ids (variants.Stab ids asked) = ids
+listed_ids (variants.Recent ids) = ids
+listed_ids _ = []
+
+-- whether it lists nothing or found nothing
+abbrev pub has_none : Reply → Bool
+has_none (variants.List ids asked) = length ids == 0
+has_none (variants.Near found asked) = is_none found
+has_none (variants.Nearest found asked) = length found == 0
+has_none (variants.Above ids asked) = length ids == 0
+has_none (variants.Top peak asked) = is_none peak
+has_none (variants.Stab ids asked) = length ids == 0
+has_none (variants.Recent ids) = length ids == 0
+has_none _ = false
+
+abbrev pub none_text : Reply → List ℕ
+none_text reply = if has_none reply then codes " none" else []
 
 abbrev pub tail_text : Bool → Reply → List ℕ
 tail_text ledger reply = if ledger then cost_text (cost_of reply) else []

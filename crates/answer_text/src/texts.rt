@@ -2,7 +2,7 @@
 ghost use Rattle.std.specs.Prelude.{◌≡◌, ◌+◌, ◌≤◌, ◌∷◌, ◌++◌, length, decimal};
 ghost use Rattle.map_model.specs.Script.Cost.{out_of};
 ghost use Rattle.map_model.specs.Script.Reply.{spaced};
-ghost use Rattle.answer_text.specs.Texts.{refusal_word, reply_word};
+ghost use Rattle.answer_text.specs.Texts.{refusal_word, reply_word, listed_ids, has_none, none_text};
 
 use crate::{Refusal, Reply};
 use arrayvec::ArrayVec;
@@ -55,6 +55,59 @@ fn refusal_word(cause: Refusal) -> &'static [u8]
         Refusal::Unknown { .. } => b"no unknown",
         Refusal::Full => b"no full",
         Refusal::NoMemory => b"no memory",
+    }
+}
+
+/// The identifiers that a reply lists.
+pub fn listed_ids(reply: &Reply) -> &[u64]
+    ensures { result.now ≡ listed_ids reply.now }
+{
+    match reply {
+        Reply::List { ids, .. } | Reply::Above { ids, .. } | Reply::Stab { ids, .. } => {
+            ids.as_slice()
+        }
+        Reply::Recent { ids } => ids.as_slice(),
+        Reply::Made
+        | Reply::Updated { .. }
+        | Reply::Count { .. }
+        | Reply::Sum { .. }
+        | Reply::Near { .. }
+        | Reply::Nearest { .. }
+        | Reply::Top { .. }
+        | Reply::StabCount { .. }
+        | Reply::Got { .. }
+        | Reply::Size { .. }
+        | Reply::Refused { .. } => &[],
+    }
+}
+
+/// ` none` of a reply that lists nothing or found nothing.
+pub fn none_text(reply: &Reply) -> &'static [u8]
+    ensures text { result.now ≡ none_text reply.now }
+    ensures short { length result.now ≤ 64 }
+{
+    if has_none(reply) { b" none" } else { b"" }
+}
+
+fn has_none(reply: &Reply) -> bool
+    ensures { result ≡ has_none reply.now }
+{
+    match reply {
+        Reply::List { ids, .. } | Reply::Above { ids, .. } | Reply::Stab { ids, .. } => {
+            ids.as_slice().is_empty()
+        }
+        Reply::Recent { ids } => ids.as_slice().is_empty(),
+        Reply::Near { found, .. } => found.is_none(),
+        Reply::Nearest { found, .. } => found.as_slice().is_empty(),
+        Reply::Top { peak, .. } => peak.is_none(),
+        Reply::Made
+        | Reply::Updated { .. }
+        | Reply::Count { .. }
+        | Reply::Sum { .. }
+        | Reply::StabCount { .. }
+        | Reply::Got { .. }
+        | Reply::Size { .. }
+        | Reply::Refused { .. } => false,
     }
 }
 

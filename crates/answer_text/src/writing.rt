@@ -3,22 +3,19 @@ ghost use Rattle.std.specs.Prelude.{◌≡◌, ◌<◌, ◌≤◌, ◌++◌, len
 ghost use Rattle.std.specs.Io.KnownBytes.{Appends};
 ghost use Rattle.map_io.specs.Faults.{Rose};
 ghost use Rattle.map_io.specs.ProperPrefix.{AppendsProperPrefix};
-ghost use Rattle.map_model.specs.Script.Reply.{spaced, numbers_or_none, shape_numbers, reply_line};
+ghost use Rattle.map_model.specs.Script.Reply.{spaced, shape_numbers, reply_line};
 ghost use Rattle.map_model.specs.Script.Cost as costs;
 ghost use Rattle.map_shapes.specs.Shape.{model_shape};
 ghost use Rattle.map_shapes.specs.Cost.{spent_of, asked_of};
 ghost use Rattle.answer_text.specs.Reply.{reply_of, cost_of};
 ghost use Rattle.answer_text.specs.Pieces.{Gathers};
-ghost use Rattle.answer_text.specs.Texts.{reply_numbers, refusal_numbers, spaced_all, found_text, founds_text, tail_text};
+ghost use Rattle.answer_text.specs.Texts.{reply_numbers, refusal_numbers, spaced_all, found_text, tail_text};
 
 use crate::piece::{Piece, finish, put};
-use crate::texts::{labelled, out_of, reply_word, spaced};
+use crate::texts::{labelled, listed_ids, none_text, out_of, reply_word, spaced};
 use crate::{Refusal, Reply};
 use map_io::{Sink, WriteFault};
 use map_shapes::{Asked, Found, Shape, Spent};
-
-/// What stands for an empty list.
-const NONE: &[u8] = b" none";
 
 /// Writes a reply's line with its line feed; with the ledger, what it cost stands at its end.
 ///
@@ -34,11 +31,14 @@ pub fn write_reply<K: Sink>(reply: &Reply, ledger: bool, sink: &mut K) -> Result
     let mut piece = Piece::new();
     put(&mut piece, reply_word(reply), sink)?;
     put_reply_numbers(&mut piece, reply, sink)?;
+    put_numbers(&mut piece, listed_ids(reply), sink)?;
+    put(&mut piece, none_text(reply), sink)?;
     put_tail(&mut piece, reply, ledger, sink)?;
     put(&mut piece, b"\n", sink)?;
     finish(&piece, sink)
 }
 
+/// The numbers of a reply but the identifiers that it lists.
 fn put_reply_numbers<K: Sink>(
     piece: &mut Piece,
     reply: &Reply,
@@ -52,27 +52,29 @@ fn put_reply_numbers<K: Sink>(
     ensures succeeded { OnOk result (K.faults sink.new ≡ K.faults sink.old) }
 {
     match reply {
-        Reply::Made | Reply::Updated { .. } => Ok(()),
         Reply::Count { n, .. }
         | Reply::Sum { n, .. }
         | Reply::StabCount { n, .. }
         | Reply::Size { n } => put_numbers(piece, &[*n], sink),
-        Reply::List { ids, .. } | Reply::Above { ids, .. } | Reply::Stab { ids, .. } => {
-            put_ids(piece, ids.as_slice(), sink)
-        }
-        Reply::Recent { ids } => put_ids(piece, ids.as_slice(), sink),
-        Reply::Near { found: None, .. } | Reply::Top { peak: None, .. } => put(piece, NONE, sink),
         Reply::Near {
             found: Some(found),
             ..
         } => put_numbers(piece, &[found.id, found.dist], sink),
+        Reply::Nearest { found, .. } => put_pairs(piece, found.as_slice(), sink),
         Reply::Top {
             peak: Some(peak),
             ..
         } => put_numbers(piece, &[peak.id, u64::from(peak.y)], sink),
-        Reply::Nearest { found, .. } => put_founds(piece, found.as_slice(), sink),
         Reply::Got { shape } => put_numbers(piece, &shape_numbers(*shape), sink),
         Reply::Refused { cause } => put_refusal_numbers(piece, *cause, sink),
+        Reply::Near { found: None, .. }
+        | Reply::Top { peak: None, .. }
+        | Reply::Made
+        | Reply::Updated { .. }
+        | Reply::List { .. }
+        | Reply::Above { .. }
+        | Reply::Stab { .. }
+        | Reply::Recent { .. } => Ok(()),
     }
 }
 
@@ -103,22 +105,6 @@ fn put_refusal_numbers<K: Sink>(
     }
 }
 
-/// The identifiers, or ` none`.
-fn put_ids<K: Sink>(piece: &mut Piece, ids: &[u64], sink: &mut K) -> Result<(), WriteFault>
-    requires { length piece.old.items < 64 }
-    ensures all { OnOk result (Gathers (K.written sink.old) (K.written sink.new) piece.old.items piece.new.items (numbers_or_none ids.now)) }
-    ensures prefix { OnErr result (AppendsProperPrefix (K.written sink.old) (K.written sink.new) (piece.old.items ++ numbers_or_none ids.now)) }
-    ensures kept { K.faults sink.old ≤ K.faults sink.new }
-    ensures failed { OnErr result (Rose (K.faults sink.old) (K.faults sink.new)) }
-    ensures succeeded { OnOk result (K.faults sink.new ≡ K.faults sink.old) }
-{
-    if ids.is_empty() {
-        put(piece, NONE, sink)
-    } else {
-        put_numbers(piece, ids, sink)
-    }
-}
-
 /// Numbers, each behind a space.
 fn put_numbers<K: Sink>(piece: &mut Piece, numbers: &[u64], sink: &mut K) -> Result<(), WriteFault>
     requires { length piece.old.items < 64 }
@@ -134,22 +120,7 @@ fn put_numbers<K: Sink>(piece: &mut Piece, numbers: &[u64], sink: &mut K) -> Res
     Ok(())
 }
 
-/// Identifiers with their distances, or ` none`.
-fn put_founds<K: Sink>(piece: &mut Piece, found: &[Found], sink: &mut K) -> Result<(), WriteFault>
-    requires { length piece.old.items < 64 }
-    ensures all { OnOk result (Gathers (K.written sink.old) (K.written sink.new) piece.old.items piece.new.items (founds_text found.now)) }
-    ensures prefix { OnErr result (AppendsProperPrefix (K.written sink.old) (K.written sink.new) (piece.old.items ++ founds_text found.now)) }
-    ensures kept { K.faults sink.old ≤ K.faults sink.new }
-    ensures failed { OnErr result (Rose (K.faults sink.old) (K.faults sink.new)) }
-    ensures succeeded { OnOk result (K.faults sink.new ≡ K.faults sink.old) }
-{
-    if found.is_empty() {
-        put(piece, NONE, sink)
-    } else {
-        put_pairs(piece, found, sink)
-    }
-}
-
+/// Identifiers with their distances.
 fn put_pairs<K: Sink>(piece: &mut Piece, found: &[Found], sink: &mut K) -> Result<(), WriteFault>
     requires { length piece.old.items < 64 }
     ensures all { OnOk result (Gathers (K.written sink.old) (K.written sink.new) piece.old.items piece.new.items (flat_map found_text found.now)) }

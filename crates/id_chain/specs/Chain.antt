@@ -55,7 +55,7 @@ module _ {I : Type 0} where
   up_to handle [] = []
   up_to handle (e ∷ es) = e ∷ (if e.handle == handle then [] else up_to handle es)
 
-  -- A cursor stands at a linked handle, or behind the last entry, where it has none.
+  -- A cursor is at a linked handle, or past the last entry, where it has none.
   abbrev pub IsCursor : Option ℕ → List (Entry I) → Type 0
   IsCursor cursor es = IfSome cursor (λ handle. IsTrue (is_linked handle es))
 

@@ -46,7 +46,7 @@ fn uses_a_place_again(rt: HostRuntime) -> Result<(), Fail> {
     Ok(())
 }
 
-/// The item at a cursor, and the cursor behind it.
+/// The item at a cursor, and the next cursor.
 fn hand_over<I: Copy>(chain: &Chain<I>, at: Handle) -> (I, Option<Handle>)
     requires { IsTrue (is_linked at chain.now.entries) }
     ensures cursor { IsCursor result.1 chain.now.entries }
@@ -79,7 +79,7 @@ fn unlink_beside<I: Copy>(
     cursor
 }
 
-/// Appends an item. A cursor behind all entries stands at the new one.
+/// Appends an item. A cursor past all entries is then at the new one.
 fn append_beside<I: Copy>(chain: &mut Chain<I>, cursor: Option<Handle>, item: I) -> Option<Handle>
     requires room { 1 ≤ chain.old.spare }
     requires cursor { IsCursor cursor chain.old.entries }

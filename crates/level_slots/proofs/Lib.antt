@@ -4,9 +4,12 @@ pub mod Spending
 pub mod Publishing
 pub mod Neighbouring
 pub mod Towers
+pub mod HeldByLevel
 pub mod Stacks
+pub mod FewParts
 pub mod Marks
 pub mod Noting
 pub mod MarkedLevels
 pub mod Joining
 pub mod Forecasting
+pub mod TakingOver

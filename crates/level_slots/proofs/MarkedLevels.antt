@@ -1,5 +1,5 @@
 -- An item that is marked as dead in one of several levels.
-use Rattle.std.proofs.Common.{◌≡◌, ◌≢◌, ℕ, zero, suc, ◌+◌, ◌*◌, ◌^◌, ◌<◌, ◌≤◌, ◌==◌, ◌||◌, ◌∙◌, inl, inr, ⊎_elim, Bool, true, false, not, cond, if◌then◌else◌, Some, List, [], ◌∷◌, ◌++◌, length, get_or, All, Contains, slice_get, refl, sym, ap, ap₂, subst, arith}
+use Rattle.std.proofs.Common.{◌≡◌, ◌≢◌, ℕ, zero, suc, ◌+◌, ◌*◌, ◌^◌, ◌<◌, ◌≤◌, ◌==◌, ◌||◌, ◌∙◌, inl, inr, ⊎_elim, Bool, true, false, not, cond, if◌then◌else◌, Some, List, [], ◌∷◌, ◌++◌, length, map, get_or, All, Contains, slice_get, refl, sym, ap, ap₂, subst, arith}
 use Rattle.std.specs.List.{flat_map, items_where_true}
 use Rattle.std.proofs.lemmas.Bool.{cases_lt}
 use Rattle.std.proofs.lemmas.Bool.Decides.{nat_tests}
@@ -15,7 +15,7 @@ use Rattle.query_laws.proofs.Counting.{Spends-then, Spends-within}
 use Rattle.builder_trait.specs.Parts.{Contents, OwnsStamp, has_stamp, without}
 use Rattle.builder_trait.proofs.Marking.{has_stamp_none}
 use Rattle.partial_build.specs.Construction.{live_of}
-use Rattle.level_slots.specs.Slots.{Slots, IsPartOf, ticks_of, weight_in, weight_of, live_in, items_in, live_items, all_items, asked_in, asked, held_in, held_of, one_if}
+use Rattle.level_slots.specs.Slots.{Slots, IsPartOf, ticks_of, weight_in, weight_of, live_in, items_in, live_items, all_items, asked_in, asked, held_in, one_if}
 use Rattle.level_slots.specs.Neighbours.{IsTower, IsDue, IsDueSoon, HaveRooms, HaveRoomsAbove, stays}
 use Rattle.level_slots.specs.Stack.{AreLevels, AreAllLevels, AreHalfway, HaveRoomsNow, HaveRoomsNext}
 use Rattle.level_slots.specs.Marking.{AreNoted, IsSameBelow}
@@ -61,9 +61,11 @@ module _ {P Item : Type 0} where
   weight-noted (l ∷ rest) above' noted =
       ap weight_of noted.1 ∙ ap (λ v. weight_in v + weight_of rest) noted.2
 
-  pub held-noted : (above above' : List (Slots P Item)) → AreNoted above above' → held_of above' ≡ held_of above
-  held-noted [] above' noted = ap held_of noted
-  held-noted (l ∷ rest) above' noted = omega (arith, ap held_of noted.1, ap held_in noted.2, ap one_if noted.4)
+  pub held-noted : (above above' : List (Slots P Item)) → AreNoted above above' → map held_in above' ≡ map held_in above
+  held-noted [] above' noted = ap (map held_in) noted
+  held-noted (l ∷ rest) above' noted =
+      let same : held_in noted.0 ≡ held_in l = omega (arith, ap held_in noted.2, ap one_if noted.4) in
+      ap (map held_in) noted.1 ∙ ap (λ n. n ∷ map held_in rest) same
 
   pub length-noted : (above above' : List (Slots P Item)) → AreNoted above above' → length above' ≡ length above
   length-noted [] above' noted = ap length noted

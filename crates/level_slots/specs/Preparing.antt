@@ -29,6 +29,12 @@ module _ {P Item : Type 0} where
   KeepRoomsAbove (l ∷ old) [] = ⊥
   KeepRoomsAbove (l ∷ old) (l' ∷ new) = (l' ≡ record l { has_room = l'.has_room; kept = l'.kept }) × KeepRooms l old new
 
+  -- levels are as they were, but for kept builders
+  abbrev pub AreSameButKept : List (Slots P Item) → List (Slots P Item) → Type 0
+  AreSameButKept [] new = new ≡ []
+  AreSameButKept (l ∷ old) [] = ⊥
+  AreSameButKept (l ∷ old) (l' ∷ new) = (l' ≡ record l { kept = l'.kept }) × AreSameButKept old new
+
   -- above each level that is due soon, and there alone, a room is held, but for the highest level
   abbrev pub AreForecast : Slots P Item → List (Slots P Item) → Type 0
   AreForecast lower [] = Unit {0}

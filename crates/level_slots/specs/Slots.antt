@@ -1,5 +1,5 @@
 -- What contracts see of the levels of a stack, lowest first.
-use Rattle.std.specs.Prelude.{ℕ, ◌+◌, ◌*◌, ◌^◌, Bool, List, [], ◌∷◌, ◌++◌, Option, if◌then◌else◌, length}
+use Rattle.std.specs.Prelude.{ℕ, ◌+◌, ◌*◌, ◌^◌, Bool, List, [], ◌∷◌, ◌++◌, Option, if◌then◌else◌, length, map, drop}
 use Rattle.std.specs.List.{flat_map}
 use Rattle.std.specs.Option.{option_map_or, is_some}
 use Rattle.query_laws.specs.Permuted.{Permuted}
@@ -50,6 +50,10 @@ module _ {P Item : Type 0} where
   -- all parts of a stack that are in memory, with the builders for single items
   abbrev pub memory_of : Stacked P Item → ℕ
   memory_of s = s.starters + held_of s.levels
+
+  -- how many parts of each level are in memory, lowest first; the builders for single items are of level 0
+  abbrev pub held_by_level : Stacked P Item → List ℕ
+  held_by_level s = (s.starters + lowest_held s.levels) ∷ drop 1 (map held_in s.levels)
 
   -- a part of level i weighs 2^i
   abbrev pub weight_in : Slots P Item → ℕ

@@ -14,6 +14,7 @@ ghost use Rattle.level_slots.specs.Neighbours.{IsConstructionOf, IsFed, IsPunctu
 ghost use Rattle.level_slots.specs.Marking.{IsLiveIn, AreMarkedAt};
 ghost use Rattle.level_slots.specs.Cost.{IsWithin};
 
+mod giving;
 mod rooms;
 
 use builder_trait::{Builder, Part};

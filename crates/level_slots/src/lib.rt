@@ -9,9 +9,11 @@ mod asking;
 mod level;
 mod marking;
 mod preparing;
+mod retired;
 mod stack;
 mod visiting;
 
+pub use retired::Retired;
 pub use stack::Stack;
 
 #[cfg(test)]

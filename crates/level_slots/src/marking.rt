@@ -1,10 +1,10 @@
 //! The item of a delete: it is marked as dead, and a construction that reads its part takes note.
-ghost use Rattle.std.specs.Prelude.{◌≡◌, ℕ, ◌+◌, ◌*◌, ◌^◌, ◌<◌, ◌≤◌, false, List, ◌∷◌, All, Contains, length};
+ghost use Rattle.std.specs.Prelude.{◌≡◌, ℕ, ◌+◌, ◌*◌, ◌^◌, ◌<◌, ◌≤◌, false, List, ◌∷◌, All, Contains, length, map, drop};
 ghost use Rattle.query_laws.specs.Orders.{AllStampsDiffer};
 ghost use Rattle.query_laws.specs.Permuted.{Permuted};
 ghost use Rattle.query_laws.specs.StepLedger.{Spends};
 ghost use Rattle.builder_trait.specs.Parts.{OwnsStamp, has_stamp, without, marked};
-ghost use Rattle.level_slots.specs.Slots.{Slots, IsPartOf, ticks_of, held_of, lowest_held, weight_of, live_in, live_items, items_in, all_items, asked_in, asked};
+ghost use Rattle.level_slots.specs.Slots.{Slots, IsPartOf, ticks_of, held_in, lowest_held, weight_of, live_in, live_items, items_in, all_items, asked_in, asked};
 ghost use Rattle.level_slots.specs.Neighbours.{IsConstructionOf, IsPunctual, IsDue, IsDueSoon, IsTower, HaveRoomsAbove};
 ghost use Rattle.level_slots.specs.Cost.{IsWithin, quotas};
 ghost use Rattle.level_slots.specs.Stack.{AreLevels, AreAllLevels};
@@ -97,7 +97,7 @@ fn mark_in<B: Builder, L: Ledger>(
         ≡ without B.Item.stamp (B.Item.stamp item.now) (live_items B.Part.Part.contents levels.old) }
     ensures items { all_items B.Part.Part.contents levels.new ≡ all_items B.Part.Part.contents levels.old }
     ensures weight { weight_of levels.new ≡ weight_of levels.old }
-    ensures held { held_of levels.new ≡ held_of levels.old }
+    ensures held { map held_in levels.new ≡ map held_in levels.old }
     ensures lowest { lowest_held levels.new ≡ lowest_held levels.old }
     ensures as_many { length levels.new ≡ length levels.old }
     ensures cost { (g : ℕ) → weight_of levels.old < 2 ^ (g + 1)
@@ -132,7 +132,7 @@ pub(crate) fn take_out<B: Builder, L: Ledger>(
         (without B.Item.stamp (B.Item.stamp item.now) (live_items B.Part.Part.contents levels.old)) }
     ensures items { IsPartOf (all_items B.Part.Part.contents levels.new) (all_items B.Part.Part.contents levels.old) }
     ensures weight { weight_of levels.new ≡ weight_of levels.old }
-    ensures held { held_of levels.new ≡ held_of levels.old }
+    ensures held_above { drop 1 (map held_in levels.new) ≡ drop 1 (map held_in levels.old) }
     ensures lowest { lowest_held levels.new ≡ lowest_held levels.old }
     ensures rooms { HaveRoomsAbove IsDueSoon levels.old → HaveRoomsAbove IsDue levels.new }
     ensures as_many { length levels.new ≡ length levels.old }

@@ -1,12 +1,12 @@
 //! The stack.
-ghost use Rattle.std.specs.Prelude.{◌≡◌, ◌≢◌, ℕ, ◌+◌, ◌*◌, ◌^◌, ◌<◌, ◌≤◌, true, false, [], ◌∷◌, All, Contains, IsTrue, IfOk, IsErr, OnOk, OnErr, length};
+ghost use Rattle.std.specs.Prelude.{◌≡◌, ◌≢◌, ℕ, ◌+◌, ◌-◌, ◌*◌, ◌^◌, ◌<◌, ◌≤◌, true, false, [], ◌∷◌, All, Contains, IsTrue, IfOk, IsErr, OnOk, OnErr, length};
 ghost use Rattle.query_laws.specs.Permuted.{Permuted};
 ghost use Rattle.query_laws.specs.StepLedger.{Spends};
 ghost use Rattle.builder_trait.specs.Parts.{without};
 ghost use Rattle.builder_trait.specs.Builders.{begun};
 ghost use Rattle.partial_build.specs.Construction.{live_of};
 ghost use Rattle.partial_build.specs.Quota.{quota};
-ghost use Rattle.level_slots.specs.Slots.{Stacked, IsPartOf, live_items, all_items, weight_of, parts_of, held_in, memory_of, asked};
+ghost use Rattle.level_slots.specs.Slots.{Stacked, IsPartOf, live_items, all_items, weight_of, parts_of, held_in, held_by_level, memory_of, asked};
 ghost use Rattle.level_slots.specs.Asking.{IsHeight, touches_of};
 ghost use Rattle.level_slots.specs.Level.{IsOfLevel};
 ghost use Rattle.level_slots.specs.Cost.{IsWithin, quotas};
@@ -16,6 +16,7 @@ use crate::asking::ask_levels;
 use crate::level::Level;
 use crate::marking::take_out;
 use crate::preparing::{builders_kept, rooms_held, take_memory};
+use crate::retired::{Retired, keep};
 use crate::visiting::take_in;
 use builder_trait::{Answers, Asking, Builder, Part, part_of_one};
 use query_laws::step_ledger::Steps;
@@ -81,7 +82,11 @@ impl<B: Builder> Stack<B> {
         ensures items { IsPartOf (all_items B.Part.Part.contents self.new.levels) (item ∷ all_items B.Part.Part.contents self.old.levels) }
         ensures weight { weight_of self.new.levels ≡ weight_of self.old.levels + 1 }
         ensures memory { memory_of self.new ≡ memory_of self.old }
+        ensures each_level { held_by_level self.new ≡ held_by_level self.old }
         ensures spare { self.old.spare ≤ self.new.spare + 1 }
+
+        // A part is made of the item.
+        ensures some_turns { steps.old.turns + 3 ≤ steps.new.turns }
 
         // Whichever bound g there is: the least is the greatest level with `2 ^ g` at most the weight.
         ensures cost { (g : ℕ) → weight_of self.new.levels < 2 ^ (g + 1)
@@ -104,6 +109,7 @@ impl<B: Builder> Stack<B> {
         ensures items { IsPartOf (all_items B.Part.Part.contents self.new.levels) (all_items B.Part.Part.contents self.old.levels) }
         ensures weight { weight_of self.new.levels ≡ weight_of self.old.levels }
         ensures memory { memory_of self.new ≡ memory_of self.old }
+        ensures each_level { held_by_level self.new ≡ held_by_level self.old }
         ensures spare { self.old.spare ≤ self.new.spare + 1 }
 
         // Whichever bound g there is, as for an insert; and a mark for each part that is asked.
@@ -111,6 +117,10 @@ impl<B: Builder> Stack<B> {
             → IsWithin (quotas B.SLOPE B.BASE 1 g)
             (2 * g + asked B.Part.Part.contents B.Item.stamp (B.Item.stamp item.now) self.old.levels)
             (B.Part.Part.mark_touches g) steps.old steps.new }
+
+        // At most three of each level up to g, and no part weighs more.
+        ensures few_asked { (g : ℕ) → weight_of self.new.levels < 2 ^ (g + 1)
+            → asked B.Part.Part.contents B.Item.stamp (B.Item.stamp item.now) self.old.levels ≤ 3 * (g + 1) }
     {
         take_out(&mut self.levels, item, steps);
         self.spare -= 1;
@@ -168,7 +178,10 @@ impl<B: Builder> Stack<B> {
 
     /// The number of complete parts.
     pub fn parts(&self) -> u32
-        ensures { result ≡ parts_of self.now.levels }
+        ensures value { result ≡ parts_of self.now.levels }
+
+        // Whichever bound g there is, as for an insert.
+        ensures few { (g : ℕ) → weight_of self.now.levels < 2 ^ (g + 1) → parts_of self.now.levels ≤ 3 * (g + 1) }
     {
         let mut parts = 0;
         for level in &self.levels {
@@ -210,7 +223,8 @@ impl<B: Builder> Stack<B> {
 
     /// The weight of the rooms that are held and not begun: a room of level i weighs `2^i`, and a builder for a single item 1.
     pub fn rooms(&self) -> u64
-        ensures { result ≡ rooms_of self.now }
+        ensures value { result ≡ rooms_of self.now }
+        ensures few { result < 2 ^ 33 }
     {
         self.starters.len() as u64 + rooms_held(&self.levels)
     }
@@ -222,6 +236,40 @@ impl<B: Builder> Stack<B> {
         ensures bounded { All (λ l. held_in l ≤ 5) self.now.levels }
     {
         builders_kept(&self.levels)
+    }
+
+    /// Gives up the items: what is left is the memory, to be taken over part by part.
+    pub fn retire(self) -> Retired<B>
+        ensures { result ≡ memory_of self }
+    {
+        let Stack {
+            alloc: _,
+            levels,
+            starters,
+            spare: _,
+            weight: _,
+            live: _,
+        } = self;
+        Retired::new(levels, starters)
+    }
+
+    /// Takes one part out of a retired stack, if one is left there. It is kept at its level for the next construction where there is a
+    /// place for it, and freed else.
+    pub fn take_over(&mut self, retired: &mut Retired<B>)
+        ensures one { retired.new ≡ retired.old - 1 }
+        ensures no_less { memory_of self.old ≤ memory_of self.new }
+        ensures no_more { memory_of self.new + retired.new ≤ memory_of self.old + retired.old }
+        ensures live { live_items B.Part.Part.contents self.new.levels ≡ live_items B.Part.Part.contents self.old.levels }
+        ensures items { all_items B.Part.Part.contents self.new.levels ≡ all_items B.Part.Part.contents self.old.levels }
+        ensures weight { weight_of self.new.levels ≡ weight_of self.old.levels }
+        ensures parts { parts_of self.new.levels ≡ parts_of self.old.levels }
+        ensures spare { self.new.spare ≡ self.old.spare }
+        ensures rooms { rooms_of self.new ≡ rooms_of self.old }
+    {
+        let Some((level, builder)) = retired.give_up() else {
+            return;
+        };
+        keep(&mut self.levels, level, builder, self.starters.len());
     }
 }
 
@@ -238,6 +286,7 @@ fn part_of<B: Builder, L: Ledger>(
     ensures of_level { IsOfLevel 0 (B.Part.Part.contents result) }
     ensures items { (B.Part.Part.contents result).items ≡ item ∷ [] }
     ensures live { live_of (B.Part.Part.contents result) ≡ item ∷ [] }
+    ensures some_turns { steps.old.turns + 3 ≤ steps.new.turns }
     ensures cost { (touches : ℕ) → IsWithin (quota B.SLOPE B.BASE 0) 0 touches steps.old steps.new }
 {
     match starters.pop() {

@@ -111,6 +111,37 @@ fn prepared_thrice<B: Builder<Item = Pair>, L: Ledger>(
     ])
 }
 
+/// A stack of twelve items is retired, and taken over by one of five that is prepared, in as many updates as it has parts in memory:
+/// their number, how many are left, and the kept builders, the rooms, the parts and the spare after it.
+fn retired<B: Builder<Item = Pair>, L: Ledger>(
+    alloc: Global,
+    blank: Blank,
+) -> Result<(usize, usize, u64, u64, u32, u32), NoMemory>
+    requires name { blank.name ≡ L.name }
+    requires parts { blank.parts ≡ L.parts }
+    requires shares { blank.parts ≡ SHARES }
+{
+    let mut steps = Steps::<L>::new(blank);
+    let mut old = Stack::<B>::new(alloc);
+    insert_up_to(alloc, &mut old, 12, &mut steps)?;
+    let mut stack = Stack::<B>::new(alloc);
+    insert_up_to(alloc, &mut stack, 5, &mut steps)?;
+    stack.prepare()?;
+    let mut retired = old.retire();
+    let held = retired.len();
+    for _update in 0..held {
+        stack.take_over(&mut retired);
+    }
+    Ok((
+        held,
+        retired.len(),
+        stack.kept(),
+        stack.rooms(),
+        stack.parts(),
+        stack.spare(),
+    ))
+}
+
 #[test]
 fn twelve_inserts(rt: HostRuntime) -> Result<(), Fail> {
     let seen = traced::<FlatBuilder<Pair>, Brand>(rt.alloc(), blank())?;
@@ -127,6 +158,14 @@ fn twelve_inserts(rt: HostRuntime) -> Result<(), Fail> {
 fn deletes_the_first_of_five(rt: HostRuntime) -> Result<(), Fail> {
     let seen = deleted::<FlatBuilder<Pair>, Brand>(rt.alloc(), blank())?;
     assert_eq!(rt; seen, (5, 4, 3, 3, 1));
+    Ok(())
+}
+
+/// The numbers are those of a model of the clocks: of the twelve parts two are under construction, and four find no place.
+#[test]
+fn takes_over_part_by_part(rt: HostRuntime) -> Result<(), Fail> {
+    let seen = retired::<FlatBuilder<Pair>, Brand>(rt.alloc(), blank())?;
+    assert_eq!(rt; seen, (12, 0, 18, 8, 3, 2));
     Ok(())
 }
 

@@ -1,10 +1,10 @@
 //! One tick: the levels are visited from the lowest one up.
-ghost use Rattle.std.specs.Prelude.{◌≡◌, ℕ, ◌+◌, ◌-◌, ◌*◌, ◌^◌, ◌<◌, ◌≤◌, true, None, ◌∷◌, ◌++◌, ◌⊎◌, All, length};
+ghost use Rattle.std.specs.Prelude.{◌≡◌, ℕ, ◌+◌, ◌-◌, ◌*◌, ◌^◌, ◌<◌, ◌≤◌, true, None, ◌∷◌, ◌++◌, ◌⊎◌, All, length, map, drop};
 ghost use Rattle.query_laws.specs.Orders.{AllStampsDiffer};
 ghost use Rattle.query_laws.specs.Permuted.{Permuted};
 ghost use Rattle.partial_build.specs.Construction.{live_of};
 ghost use Rattle.partial_build.specs.Quota.{quota};
-ghost use Rattle.level_slots.specs.Slots.{Slots, IsPartOf, ticks_of, held_in, held_of, lowest_held, weight_in, weight_of, live_in, items_in, live_items, all_items};
+ghost use Rattle.level_slots.specs.Slots.{Slots, IsPartOf, ticks_of, held_in, lowest_held, weight_in, weight_of, live_in, items_in, live_items, all_items};
 ghost use Rattle.level_slots.specs.Neighbours.{IsBelow, IsVisited, IsTower, IsHalfway, IsPunctual, IsDue, IsDueSoon, HaveRooms, HaveRoomsAbove, HaveRoomsAhead};
 ghost use Rattle.level_slots.specs.Level.{IsOfLevel};
 ghost use Rattle.level_slots.specs.Stack.{AreAllLevels, AreHalfway, HaveRoomsNow, HaveRoomsNext};
@@ -56,7 +56,7 @@ fn walk<B: Builder, L: Ledger>(lower: &mut Level<B>, above: &mut [Level<B>], ste
     ensures same { lower.new ≡ record lower.old { parts = lower.new.parts; kept = lower.new.kept } }
     ensures as_many { length above.new ≡ length above.old }
     ensures rooms { HaveRoomsAhead lower.old above.old → HaveRooms IsDue lower.new above.new }
-    ensures held { held_of above.new ≡ held_of above.old }
+    ensures held { map held_in above.new ≡ map held_in above.old }
     ensures held_below { held_in lower.new ≡ held_in lower.old }
     ensures cost { (g : ℕ) → weight_of (lower.old ∷ above.old) < 2 ^ (g + 1)
         → IsWithin (quotas B.SLOPE B.BASE (lower.old.level + 1) g) (2 * (g - lower.old.level)) (B.Part.Part.mark_touches g) steps.old steps.new }
@@ -82,7 +82,7 @@ fn arrive<B: Builder>(levels: &mut [Level<B>], part: B::Part)
     ensures items { Permuted (all_items B.Part.Part.contents levels.new)
         ((B.Part.Part.contents part).items ++ all_items B.Part.Part.contents levels.old) }
     ensures weight { weight_of levels.new ≡ weight_of levels.old + 1 }
-    ensures held { held_of levels.new ≡ held_of levels.old + 1 }
+    ensures held_above { drop 1 (map held_in levels.new) ≡ drop 1 (map held_in levels.old) }
     ensures lowest { lowest_held levels.new ≡ lowest_held levels.old + 1 }
     ensures as_many { length levels.new ≡ length levels.old }
 {
@@ -103,7 +103,7 @@ pub(crate) fn take_tick<B: Builder, L: Ledger>(levels: &mut [Level<B>], steps: &
     ensures items { IsPartOf (all_items B.Part.Part.contents levels.new) (all_items B.Part.Part.contents levels.old) }
     ensures weight { weight_of levels.new ≡ weight_of levels.old }
     ensures rooms { HaveRoomsNext levels.old → HaveRoomsAbove IsDue levels.new }
-    ensures held { held_of levels.new ≡ held_of levels.old }
+    ensures held_above { drop 1 (map held_in levels.new) ≡ drop 1 (map held_in levels.old) }
     ensures lowest { lowest_held levels.new ≡ lowest_held levels.old }
     ensures as_many { length levels.new ≡ length levels.old }
     ensures cost { (g : ℕ) → weight_of levels.old < 2 ^ (g + 1)
@@ -135,7 +135,7 @@ pub(crate) fn take_in<B: Builder, L: Ledger>(
         ((B.Part.Part.contents part).items ++ all_items B.Part.Part.contents levels.old) }
     ensures weight { weight_of levels.new ≡ weight_of levels.old + 1 }
     ensures rooms { HaveRoomsAbove IsDueSoon levels.old → HaveRoomsAbove IsDue levels.new }
-    ensures held { held_of levels.new ≡ held_of levels.old + 1 }
+    ensures held_above { drop 1 (map held_in levels.new) ≡ drop 1 (map held_in levels.old) }
     ensures lowest { lowest_held levels.new ≡ lowest_held levels.old + 1 }
     ensures as_many { length levels.new ≡ length levels.old }
     ensures cost { (g : ℕ) → weight_of levels.new < 2 ^ (g + 1)

@@ -136,16 +136,16 @@ parse-spaced word more plain few begins =
     not_return byte h = grind (arith, nat_tests)
 
 -- a command word of the table
-record Begins (verb : forms.Verb) (word : List ℕ) : Type 0 where
+record IsCommandWord (verb : forms.Verb) (word : List ℕ) : Type 0 where
   plain : IsPlainWord word
   no_comment : starts_with nat_eq word (35 ∷ []) ≡ false
   known : verb_of word ≡ Some verb
 
-begins : (verb : forms.Verb) (word : List ℕ) → is_filled word ≡ true → list_all is_plain word ≡ true → length word ≤ 20 → starts_with nat_eq word (35 ∷ []) ≡ false → verb_of word ≡ Some verb → Begins verb word
+begins : (verb : forms.Verb) (word : List ℕ) → is_filled word ≡ true → list_all is_plain word ≡ true → length word ≤ 20 → starts_with nat_eq word (35 ∷ []) ≡ false → verb_of word ≡ Some verb → IsCommandWord verb word
 begins verb word filled plain short no_comment known = record { plain = record { filled = filled; plain = plain; short = short }; no_comment = no_comment; known = known }
 
 -- The words of a form without indexes are read as its command.
-says : (verb : forms.Verb) (word name : List ℕ) (more : List (List ℕ)) (command : Command) → Begins verb word → is_name name ≡ true → AllWrite (form verb).fields more → length more ≤ 9
+says : (verb : forms.Verb) (word name : List ℕ) (more : List (List ℕ)) (command : Command) → IsCommandWord verb word → is_name name ≡ true → AllWrite (form verb).fields more → length more ≤ 9
     → has_words (form verb) more ≡ true → is_ordered (form verb).order (with_values (form verb).fields more (named name)).places ≡ true → (form verb).has_indexes ≡ false
     → command_of verb (with_values (form verb).fields more (named name)) ≡ command
     → parse (spaced_words (word ∷ name ∷ more)) ≡ Ok (Some command)
@@ -239,7 +239,7 @@ says_recent name k named hk =
     named (an_amount k hk, tt) (omega arith) refl refl refl (λ i. Recent name (value k (fits_amount k hk) i))
 
 -- the three forms with a rectangle
-says_rect : (verb : forms.Verb) (word name : List ℕ) (rect : Rect) (command : Command) → Begins verb word → is_name name ≡ true → IsRect rect → form verb ≡ forms.row word forms.corner_fields forms.Corners
+says_rect : (verb : forms.Verb) (word name : List ℕ) (rect : Rect) (command : Command) → IsCommandWord verb word → is_name name ≡ true → IsRect rect → form verb ≡ forms.row word forms.corner_fields forms.Corners
     → command_of verb (record (named name) { places = rect.x1 ∷ rect.y1 ∷ rect.x2 ∷ rect.y2 ∷ [] }) ≡ command
     → parse (spaced_words (word ∷ name ∷ rect_words rect)) ≡ Ok (Some command)
 says_rect verb word name rect command front h inside row is =

@@ -33,7 +33,7 @@ impl FoundList {
         }
     }
 
-    /// Puts one behind the others.
+    /// Puts one after the others.
     pub fn push(&mut self, found: Found)
         requires { length self.old < 64 }
         ensures { self.new ≡ self.old ++ found ∷ [] }

@@ -1,5 +1,5 @@
 //! Identifiers on the heap.
-ghost use Rattle.std.specs.Prelude.{◌≡◌, ◌<◌, length, Some, slice_get};
+ghost use Rattle.std.specs.Prelude.{◌≡◌, ◌==◌, ◌<◌, length, Some, slice_get};
 
 use std::marker::Model;
 
@@ -32,6 +32,13 @@ impl IdList {
         ensures { result ≡ length self.now }
     {
         self.ids.len()
+    }
+
+    /// Whether there is none.
+    pub fn is_empty(&self) -> bool
+        ensures { result ≡ (length self.now == 0) }
+    {
+        self.ids.is_empty()
     }
 
     /// The identifier at an index.

@@ -1,5 +1,5 @@
 //! Some identifiers, kept in place.
-ghost use Rattle.std.specs.Prelude.{◌≡◌, ◌<◌, ◌≤◌, [], ◌∷◌, ◌++◌, length, Some, slice_get};
+ghost use Rattle.std.specs.Prelude.{◌≡◌, ◌==◌, ◌<◌, ◌≤◌, [], ◌∷◌, ◌++◌, length, Some, slice_get};
 
 use arrayvec::ArrayVec;
 use std::marker::Model;
@@ -31,7 +31,7 @@ impl Recent {
         }
     }
 
-    /// Puts one behind the others.
+    /// Puts one after the others.
     pub fn push(&mut self, id: u64)
         requires { length self.old < 64 }
         ensures { self.new ≡ self.old ++ id ∷ [] }
@@ -45,6 +45,13 @@ impl Recent {
         ensures within { result ≤ 64 }
     {
         self.ids.len()
+    }
+
+    /// Whether there is none.
+    pub fn is_empty(&self) -> bool
+        ensures { result ≡ (length self.now == 0) }
+    {
+        self.ids.is_empty()
     }
 
     /// The identifier at an index.

@@ -4,7 +4,7 @@ ghost use Rattle.std.specs.Prelude.{◌<◌, ◌^◌};
 mod one_by_one;
 mod segments;
 
-use crate::{CountIn, IdList, IdTally, ListIn, Point, Rect, SumIn};
+use crate::{CountIn, IdList, IdTally, ListIn, Point, Recent, Rect, SumIn};
 use one_by_one::answer_over;
 use query_laws::Tally;
 use std::test::Fail;
@@ -71,9 +71,23 @@ fn sorts_what_was_pushed(rt: HostRuntime) -> Result<(), Fail> {
 }
 
 #[test]
+fn keeps_the_latest(rt: HostRuntime) {
+    let mut recent = Recent::new();
+    assert!(rt; recent.is_empty());
+    recent.push(7);
+    recent.push(u64::MAX);
+    assert_eq!(rt;
+        (recent.len(), recent.is_empty(), recent.get(1)),
+        (2, false, u64::MAX)
+    );
+    assert_eq!(rt; recent.as_slice(), [7, u64::MAX].as_slice());
+}
+
+#[test]
 fn keeps_a_vector(rt: HostRuntime) -> Result<(), Fail> {
     let ids = IdList::from(vec![in rt.alloc(); 4u64, 5]?);
     assert_eq!(rt; (ids.len(), ids.get(0), ids.get(1)), (2, 4, 5));
+    assert!(rt; !ids.is_empty() && IdList::from(Vec::new(rt.alloc())).is_empty());
     assert_eq!(rt; ids.into_vec().as_slice(), [4, 5].as_slice());
     Ok(())
 }

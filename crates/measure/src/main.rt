@@ -7,6 +7,7 @@ ghost use Rattle.std.specs.Prelude.{◌≡◌};
 
 use crate::words::{Job, Size, command, job_of};
 use build_trials::{check_builds, measure_build};
+use index_trials::{check_indexes, measure_index};
 use map_samples::{Failure, Watch};
 use part_trials::{check_parts, measure_part};
 use query_laws::step_ledger::{SHARES, Steps, blank};
@@ -63,6 +64,11 @@ fn run<R: Print + Clock + Files + AllocGlobal + Clone + Drop, L: Ledger>(
             size,
             is_timed,
         } => measure_stack(&watch(rt, is_timed), seed, size.number, &mut steps),
+        Job::Index {
+            seed,
+            level,
+            is_timed,
+        } => measure_index(&watch(rt, is_timed), seed, level.number, &mut steps),
         Job::Text {
             seed,
             size,
@@ -77,7 +83,7 @@ fn run<R: Print + Clock + Files + AllocGlobal + Clone + Drop, L: Ledger>(
     }
 }
 
-/// Compares parts, constructions, stacks and text, and the answers to the scripts of a folder where one is named.
+/// Compares parts, constructions, stacks, indexes and text, and the answers to the scripts of a folder where one is named.
 fn check<R: Print + Clock + Files + AllocGlobal + Clone + Drop, L: Ledger>(
     rt: &R,
     seed: u64,
@@ -88,6 +94,7 @@ fn check<R: Print + Clock + Files + AllocGlobal + Clone + Drop, L: Ledger>(
     check_parts(rt, seed, size.number, steps)?;
     check_builds(rt, seed, steps)?;
     check_stacks(rt, seed, steps)?;
+    check_indexes(rt, seed, steps)?;
     measure_text(&watch(rt, false), seed, size.number)?;
     match examples {
         Some(folder) => check_examples(rt, folder),

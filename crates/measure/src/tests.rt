@@ -64,6 +64,25 @@ fn reads_words_of_a_stack(rt: HostRuntime) -> Result<(), Fail> {
 }
 
 #[test]
+fn reads_words_of_an_index(rt: HostRuntime) -> Result<(), Fail> {
+    let words = ["measure", "index", "--level", "5"];
+    let matches = command(rt.alloc())?.try_get_matches_from(&words)?;
+    let Some(
+        Job::Index {
+            seed,
+            level,
+            is_timed,
+        },
+    ) = job_of(&matches)
+    else {
+        assert!(rt; false, "an index");
+        return Ok(());
+    };
+    assert_eq!(rt; (seed, level.number, is_timed), (1, 5, false));
+    Ok(())
+}
+
+#[test]
 fn reads_words_of_a_text(rt: HostRuntime) -> Result<(), Fail> {
     let words = ["measure", "text", "--time", "--size", "3"];
     let matches = command(rt.alloc())?.try_get_matches_from(&words)?;
@@ -147,6 +166,17 @@ fn measures_a_stack(rt: HostRuntime) -> Result<(), Fail> {
     let job = Job::Stack {
         seed: 1,
         size: Size { number: 40 },
+        is_timed: true,
+    };
+    run::<HostRuntime, Brand>(&rt, &job, blank())?;
+    Ok(())
+}
+
+#[test]
+fn measures_an_index(rt: HostRuntime) -> Result<(), Fail> {
+    let job = Job::Index {
+        seed: 1,
+        level: Level { number: 4 },
         is_timed: true,
     };
     run::<HostRuntime, Brand>(&rt, &job, blank())?;

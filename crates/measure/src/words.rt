@@ -17,7 +17,7 @@ pub struct Size {
     pub ghost few: { number ≤ 2 ^ 20 },
 }
 
-/// The level of a construction.
+/// The level of a construction, or of a number of points.
 #[derive(Clone, Copy, Debug)]
 pub struct Level {
     pub number: u32,
@@ -46,8 +46,14 @@ pub enum Job<'a> {
         size: Size,
         is_timed: bool,
     },
-    /// Parts of at most so many points, constructions and stacks, beside plain lists, so many lines and replies beside std, and the
-    /// scripts of a folder beside their answers.
+    /// What an index of `2^level` points costs while points come and go, with times or without.
+    Index {
+        seed: u64,
+        level: Level,
+        is_timed: bool,
+    },
+    /// Parts of at most so many points, constructions, stacks and indexes, beside plain lists, so many lines and replies beside std,
+    /// and the scripts of a folder beside their answers.
     Check {
         seed: u64,
         size: Size,
@@ -76,6 +82,7 @@ pub fn command<'a>(alloc: Global) -> Result<Command<'a>, AllocError> {
         .subcommand(part_command(alloc)?)?
         .subcommand(build_command(alloc)?)?
         .subcommand(stack_command(alloc)?)?
+        .subcommand(index_command(alloc)?)?
         .subcommand(check_command(alloc)?)?
         .subcommand(script_command(alloc)?)?
         .subcommand(text_command(alloc)?)
@@ -105,10 +112,18 @@ fn stack_command<'a>(alloc: Global) -> Result<Command<'a>, AllocError> {
         .arg(time_arg(alloc))
 }
 
+fn index_command<'a>(alloc: Global) -> Result<Command<'a>, AllocError> {
+    Command::new(alloc, "index")
+        .about("Add random points to an index of range parts, and drop and add others in turn")
+        .arg(seed_arg(alloc))?
+        .arg(level_arg(alloc))?
+        .arg(time_arg(alloc))
+}
+
 fn check_command<'a>(alloc: Global) -> Result<Command<'a>, AllocError> {
     Command::new(alloc, "check")
         .about(
-            "Compare range parts, and constructions and stacks of them, with plain lists, and text with that of std",
+            "Compare range parts, and constructions, stacks and indexes of them, with plain lists, and text with that of std",
         )
         .arg(seed_arg(alloc))?
         .arg(size_arg(alloc, "257"))?
@@ -158,7 +173,7 @@ fn level_arg<'a>(alloc: Global) -> Arg<'a> {
         .long("level")
         .value_parser(value_parser!(u32).range(1..=TOP_LEVEL as i64))
         .default_value("6")
-        .help("The level of the new part")
+        .help("The level of the new part, or of the number of points")
 }
 
 fn examples_arg<'a>(alloc: Global) -> Arg<'a> {
@@ -192,6 +207,11 @@ pub fn job_of<'a>(matches: &ArgMatches<'a>) -> Option<Job<'a>> {
         "stack" => Some(Job::Stack {
             seed: matches.get_one::<u64>("seed")?,
             size: size_of(matches)?,
+            is_timed: matches.get_flag("time"),
+        }),
+        "index" => Some(Job::Index {
+            seed: matches.get_one::<u64>("seed")?,
+            level: level_of(matches)?,
             is_timed: matches.get_flag("time"),
         }),
         "check" => Some(Job::Check {

@@ -1,7 +1,7 @@
 -- Live points between places, in spans of rows, and in a rectangle.
 use Rattle.std.specs.Prelude.{◌≡◌, ℕ, ◌+◌, ◌-◌, ◌*◌, ◌<◌, ◌≤◌, ◌++◌, false, if◌then◌else◌, List, [], Some, length, filter, All, slice_get, slice_index_or, slice_range}
 use Rattle.std.specs.Option.{option_to_list}
-use Rattle.std.specs.List.{flat_map, range_with_len, items_where_true}
+use Rattle.std.specs.List.{flat_map, range_with_len}
 use Rattle.query_laws.specs.Permuted.{Permuted}
 use Rattle.weak_delete.specs.Places.{IsBuilt}
 use Rattle.row_blocks.specs.Blocks.{IsMultiple}

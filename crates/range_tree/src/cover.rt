@@ -39,7 +39,7 @@ pub(crate) struct Cover {
     pub(crate) high: usize,
 }
 
-/// What a rectangle takes of a part: spans of rows, and places in front of them and behind.
+/// What a rectangle takes of a part: spans of rows, and places before and after them.
 #[derive(Drop)]
 pub(crate) struct Pieces {
     pub(crate) spans: ArrayVec<Span, 64>,

@@ -1,5 +1,5 @@
 //! One entry of a row.
-ghost use Rattle.std.specs.Prelude.{◌≡◌};
+ghost use Rattle.std.specs.Prelude.{◌≡◌, ◌+◌, ◌*◌, ◌^◌, ◌<◌};
 ghost use Rattle.range_tree.specs.Rows.{precedes};
 
 /// A point as a row of the tree has it: its ordinate, and its place in order 0.
@@ -10,11 +10,20 @@ pub(crate) struct Entry {
 }
 
 impl Entry {
+    /// Its ordinate, and then its place, in one number.
+    #[inline]
+    fn key(&self) -> u64
+        ensures value { result ≡ self.now.y * 2 ^ 32 + self.now.place }
+        ensures small { self.now.place < 2 ^ 32 }
+    {
+        self.y as u64 * (1 << 32) + self.place as u64
+    }
+
     /// Whether it stands before another of its block: by ordinate, then by place.
     #[inline]
     pub(crate) fn precedes(&self, other: &Entry) -> bool
         ensures { result ≡ precedes self.now other.now }
     {
-        self.y < other.y || (self.y == other.y && self.place < other.place)
+        self.key() < other.key()
     }
 }

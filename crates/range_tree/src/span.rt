@@ -61,7 +61,7 @@ pub(crate) fn span_in<L: Ledger>(
     Span { row, from, to }
 }
 
-/// What the live entries of a span count for: two prefixes of its row's counts.
+/// What the live entries of a span count for, by its row's counts.
 pub(crate) fn measure_span<L: Ledger>(
     levels: &[Level],
     span: &Span,
@@ -72,34 +72,11 @@ pub(crate) fn measure_span<L: Ledger>(
     ensures sum { (part : Contents Point) → AreLevels part levels.now
         → result ≡ sum_by (measure_of measure) (live_in_span part levels.now span.now) }
     ensures cost { (part : Contents Point) (h : ℕ) → AreLevels part levels.now → length part.items ≤ 2 ^ h
-        → Spends steps.old steps.new 0 0 (4 * (h + 2)) }
+        → Spends steps.old steps.new 0 0 (2 * (h + 2)) }
 {
+    let counts = &levels[span.row].counts;
     match measure {
-        Measure::Count => live_in(levels, span, steps),
-        Measure::Weight => weight_in(levels, span, steps),
+        Measure::Count => counts.count_in(span.from, span.to, steps),
+        Measure::Weight => counts.sum_in(span.from, span.to, steps),
     }
-}
-
-/// How many entries of a span are live: two prefixes of its row's counts.
-fn live_in<L: Ledger>(levels: &[Level], span: &Span, steps: &mut Steps<L>) -> u64
-    requires { IsSpan levels.now span.now }
-    ensures sum { (part : Contents Point) → AreLevels part levels.now
-        → result ≡ sum_by (λ p. 1) (live_in_span part levels.now span.now) }
-    ensures cost { (part : Contents Point) (h : ℕ) → AreLevels part levels.now → length part.items ≤ 2 ^ h
-        → Spends steps.old steps.new 0 0 (4 * (h + 2)) }
-{
-    let counts = &levels[span.row].counts;
-    counts.prefix(span.to, steps) - counts.prefix(span.from, steps)
-}
-
-/// What the live entries of a span weigh together: two prefixes of its row's counts.
-fn weight_in<L: Ledger>(levels: &[Level], span: &Span, steps: &mut Steps<L>) -> u64
-    requires { IsSpan levels.now span.now }
-    ensures sum { (part : Contents Point) → AreLevels part levels.now
-        → result ≡ sum_by (λ p. p.w) (live_in_span part levels.now span.now) }
-    ensures cost { (part : Contents Point) (h : ℕ) → AreLevels part levels.now → length part.items ≤ 2 ^ h
-        → Spends steps.old steps.new 0 0 (4 * (h + 2)) }
-{
-    let counts = &levels[span.row].counts;
-    counts.sum_prefix(span.to, steps) - counts.sum_prefix(span.from, steps)
 }

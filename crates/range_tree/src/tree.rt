@@ -33,7 +33,7 @@ pub(crate) struct Tree {
     pub(crate) left: u64,
 }
 
-/// Puts the next entry of a level into its counts, which are sealed behind the last one; and gives the entry.
+/// Puts the next entry of a level into its counts, which are sealed after the last one; and gives the entry.
 fn count_entry<L: Ledger>(
     points: &FlatBuilder<Point>,
     level: &mut Level,

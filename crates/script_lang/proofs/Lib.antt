@@ -1,5 +1,6 @@
 pub mod Table
 pub mod Digits
-pub mod Reading
+pub mod FieldWords
 pub mod IndexWords
 pub mod Walk
+pub mod SpacedWords

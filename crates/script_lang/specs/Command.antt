@@ -37,11 +37,7 @@ command_of (commands.Recent name k) = model.Recent name k
 abbrev pub values_of : List ℕ → Numbers → Kind → IndexSet → Values
 values_of name numbers kind indexes = record { name = name; id = numbers.id; places = numbers.places; amount = numbers.amount; kind = kind_of kind; indexes = index_set_of indexes }
 
--- what a line says, and that it says a command
+-- what a line says
 abbrev pub parsed : Result (Option Command) LineFault → Parsed
 parsed (Ok found) = Ok (option_map command_of found)
 parsed (Err fault) = Err (fault_of fault)
-
-abbrev pub parsed_command : Result Command LineFault → Parsed
-parsed_command (Ok command) = Ok (Some (command_of command))
-parsed_command (Err fault) = Err (fault_of fault)

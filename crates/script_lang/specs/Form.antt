@@ -3,7 +3,7 @@ use Rattle.std.specs.Prelude.{◌≡◌, ℕ, Bool, true, false, ⊤, List, [], 
 use Rattle.map_model.specs.Script.Form as model
 use Rattle.script_lang.specs.declared.form.Field.{Field}
 use Rattle.script_lang.specs.declared.form.Field.TheVariants as fields
-use Rattle.script_lang.specs.declared.form.Limits.{Limits}
+use Rattle.script_lang.specs.declared.numbers.Limits.{Limits}
 use Rattle.script_lang.specs.declared.form.Order.{Order}
 use Rattle.script_lang.specs.declared.form.Order.TheVariants as orders
 use Rattle.script_lang.specs.declared.form.Verb.{Verb}

@@ -4,4 +4,4 @@ pub mod Coordinates
 pub mod Numbers
 pub mod Indexes
 pub mod Command
-pub mod Parsing
+pub mod Read

@@ -1,5 +1,5 @@
 -- The numbers of words in their fields.
-use Rattle.std.specs.Prelude.{ℕ, ◌<◌, ◌≤◌, ◌&&◌, ⊤, List, [], ◌∷◌, ◌++◌, length, Option, Some, None, Result, Ok, Err, nat_le, if◌then◌else◌}
+use Rattle.std.specs.Prelude.{ℕ, ◌<◌, ◌≤◌, ◌&&◌, true, false, ⊤, List, [], ◌∷◌, ◌++◌, length, Option, Some, None, Result, Ok, Err, nat_le, if◌then◌else◌}
 use Rattle.std.specs.Str.{all_ascii_digits}
 use Rattle.std.specs.Str.Parse.{digits_value}
 use Rattle.map_model.specs.Grammar.{is_filled}
@@ -21,7 +21,7 @@ HasRoom Coordinate places = length places < 4
 HasRoom Amount places = ⊤
 
 abbrev pub no_numbers : Numbers
-no_numbers = record { id = 0; places = []; amount = 0 }
+no_numbers = record { id = 0; places = []; amount = 0; are_digits = true; are_in_range = true }
 
 abbrev pub with_number : Field → ℕ → Numbers → Numbers
 with_number Id n v = record v { id = n }
@@ -34,20 +34,17 @@ number_in least greatest word =
     if is_filled word && all_ascii_digits word then (if nat_le least (digits_value 10 word) && nat_le (digits_value 10 word) greatest then Ok (digits_value 10 word) else Err faults.Range)
     else Err faults.Number
 
-abbrev pub first_fault : LineFault → Result ℕ LineFault → LineFault
-first_fault faults.Range (Err faults.Number) = faults.Number
-first_fault fault _ = fault
+-- the numbers, and what a word says in a field
+abbrev pub with_read : Field → Result ℕ LineFault → Numbers → Numbers
+with_read field (Ok n) v = with_number field n v
+with_read field (Err faults.Number) v = record v { are_digits = false }
+with_read field (Err _) v = record v { are_in_range = false }
 
-abbrev pub with_read : Field → Result ℕ LineFault → Result Numbers LineFault → Result Numbers LineFault
-with_read field (Ok n) (Ok v) = Ok (with_number field n v)
-with_read field (Err fault) (Ok v) = Err fault
-with_read field read (Err fault) = Err (first_fault fault read)
-
-abbrev pub with_word : Result Numbers LineFault → Field → List ℕ → Result Numbers LineFault
-with_word numbers field word = with_read field (number_in (limits_of_field field).least (limits_of_field field).greatest word) numbers
+abbrev pub with_word : Numbers → Field → List ℕ → Numbers
+with_word v field word = with_read field (number_in (limits_of_field field).least (limits_of_field field).greatest word) v
 
 -- the numbers of words, one a field, and the words behind them
-abbrev pub with_words : List Field → List (List ℕ) → Result Numbers LineFault → Option (Result Numbers LineFault × List (List ℕ))
-with_words [] words numbers = Some (numbers, words)
-with_words (field ∷ fields) [] numbers = None
-with_words (field ∷ fields) (word ∷ words) numbers = with_words fields words (with_word numbers field word)
+abbrev pub with_words : List Field → List (List ℕ) → Numbers → Option (Numbers × List (List ℕ))
+with_words [] words v = Some (v, words)
+with_words (field ∷ fields) [] v = None
+with_words (field ∷ fields) (word ∷ words) v = with_words fields words (with_word v field word)

@@ -4,6 +4,8 @@ ghost use Rattle.std.specs.List.{find};
 ghost use Rattle.map_model.specs.Script.Form as model;
 ghost use Rattle.script_lang.specs.Form.{verb_of, limits_of_field, IsRow, verb_of_row, has_word, AreRows};
 
+use crate::Limits;
+
 /// What number stands in a word.
 #[derive(Clone, Copy)]
 pub enum Field {
@@ -13,13 +15,6 @@ pub enum Field {
     Coordinate,
     /// How many are asked for.
     Amount,
-}
-
-/// The numbers that a field takes.
-#[derive(Clone, Copy)]
-pub struct Limits {
-    pub least: u64,
-    pub greatest: u64,
 }
 
 impl Field {

@@ -1,29 +1,41 @@
 // The kind and the indexes of a layer.
-ghost use Rattle.std.specs.Prelude.{◌≡◌, ◌==◌, ◌&&◌, Some, None, length, option_map, if◌then◌else◌};
-ghost use Rattle.std.specs.List.{list_all};
+ghost use Rattle.std.specs.Prelude.{◌≡◌, ◌≤◌};
 ghost use Rattle.map_model.specs.Grammar.{words};
-ghost use Rattle.map_model.specs.Script.Grammar.{takes_word, is_distinct, index_set};
-ghost use Rattle.map_shapes.specs.Kind.{kind_of};
+ghost use Rattle.map_model.specs.Script.Index as model;
 ghost use Rattle.map_shapes.specs.IndexSet.{index_set_of};
-ghost use Rattle.script_lang.specs.Indexes.{kind_in, with_index};
+ghost use Rattle.script_lang.specs.Indexes.{kind_in, no_index, with_index, with_index_words, layer_of, layer_in};
 
+use crate::LineFault;
 use crate::words::split_word;
 use map_shapes::{IndexSet, Kind};
 
-const POINTS: &[u8] = b"points";
+pub const POINTS: &[u8] = b"points";
 
-const SEGMENTS: &[u8] = b"segments";
+pub const SEGMENTS: &[u8] = b"segments";
 
-const RANGE: &[u8] = b"range";
+pub const RANGE: &[u8] = b"range";
 
-const NEAR: &[u8] = b"near";
+pub const NEAR: &[u8] = b"near";
 
-const TOP: &[u8] = b"top";
+pub const TOP: &[u8] = b"top";
 
-const STAB: &[u8] = b"stab";
+pub const STAB: &[u8] = b"stab";
 
-/// The kind that a word says.
-pub fn read_kind(word: &[u8]) -> Option<Kind>
+/// The kind that the first word of a text says, and the indexes among the words behind it that the kind takes: points and
+/// no index where there is no word.
+pub fn read_layer(text: &[u8]) -> Result<(Kind, IndexSet), LineFault>
+    ensures { layer_of result ≡ layer_in (words text.now) }
+{
+    let Some((word, rest)) = split_word(text) else {
+        return Ok((Kind::Points, IndexSet::new()));
+    };
+    match read_kind(word) {
+        Some(kind) => Ok((kind, read_indexes(kind, rest))),
+        None => Err(LineFault::Kind),
+    }
+}
+
+fn read_kind(word: &[u8]) -> Option<Kind>
     ensures { result ≡ kind_in word.now }
 {
     if word == POINTS {
@@ -35,40 +47,51 @@ pub fn read_kind(word: &[u8]) -> Option<Kind>
     }
 }
 
-/// The indexes that the words of a text say: `None` where one isn't an index that the kind takes, or stands twice.
-pub fn read_indexes(kind: Kind, text: &[u8]) -> Option<IndexSet>
-    ensures { option_map index_set_of result ≡ (if list_all (takes_word (kind_of kind)) (words text.now) && is_distinct (words text.now) then Some (index_set (words text.now)) else None) }
+/// The indexes among the words of a text that the kind takes.
+fn read_indexes(kind: Kind, text: &[u8]) -> IndexSet
+    ensures { index_set_of result ≡ index_set_of (with_index_words kind (words text.now) no_index) }
 {
     let mut indexes = IndexSet::new();
     let mut rest = text;
     while let Some((word, behind)) = split_word(rest) {
-        indexes = with_index(indexes, kind, word)?;
+        indexes = with_index(indexes, kind, word);
         rest = behind;
     }
-    Some(indexes)
+    indexes
 }
 
-/// One more index: `None` where it is none that the kind takes, or is there already.
-fn with_index(indexes: IndexSet, kind: Kind, word: &[u8]) -> Option<IndexSet>
+/// The index of a word beside the others, where the kind takes it.
+fn with_index(indexes: IndexSet, kind: Kind, word: &[u8]) -> IndexSet
     ensures { result ≡ with_index indexes kind word.now }
 {
     match kind {
-        Kind::Points if word == RANGE && !indexes.range => Some(IndexSet {
+        Kind::Points if word == RANGE => IndexSet {
             range: true,
             ..indexes
-        }),
-        Kind::Points if word == NEAR && !indexes.near => Some(IndexSet {
+        },
+        Kind::Points if word == NEAR => IndexSet {
             near: true,
             ..indexes
-        }),
-        Kind::Points if word == TOP && !indexes.top => Some(IndexSet {
+        },
+        Kind::Points if word == TOP => IndexSet {
             top: true,
             ..indexes
-        }),
-        Kind::Segments if word == STAB && !indexes.stab => Some(IndexSet {
+        },
+        Kind::Segments if word == STAB => IndexSet {
             stab: true,
             ..indexes
-        }),
-        _ => None,
+        },
+        _ => indexes,
     }
+}
+
+/// How many indexes there are.
+pub fn index_count(indexes: IndexSet) -> usize
+    ensures count { result ≡ model.index_count (index_set_of indexes) }
+    ensures few { result ≤ 4 }
+{
+    usize::from(indexes.range)
+        + usize::from(indexes.near)
+        + usize::from(indexes.top)
+        + usize::from(indexes.stab)
 }

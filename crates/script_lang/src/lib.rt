@@ -7,14 +7,17 @@ mod command;
 mod coordinates;
 mod form;
 mod indexes;
+mod line;
 mod line_fault;
 mod making;
 mod numbers;
 mod parsing;
+mod reading;
 mod words;
 
 pub use command::Command;
 pub use line_fault::LineFault;
+pub use numbers::{Limits, parse_number};
 pub use parsing::parse;
 
 #[cfg(test)]

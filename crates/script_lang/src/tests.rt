@@ -1,6 +1,7 @@
 //! A line of each form, and lines that are wrong in each way.
-use crate::{Command, LineFault, parse};
+use crate::{Command, Limits, LineFault, parse, parse_number};
 use map_shapes::Kind;
+use std::alloc::Global;
 use std::test::Fail;
 
 /// What is wrong with a line, if anything.
@@ -188,5 +189,89 @@ fn measures_lines(rt: HostRuntime) -> Result<(), Fail> {
     assert!(rt; is_nothing(comment.as_slice()));
     comment.push(b'x')?;
     assert_eq!(rt; fault(comment.as_slice()), Some(LineFault::Line));
+    Ok(())
+}
+
+#[test]
+fn reads_numbers(rt: HostRuntime) {
+    let amounts = Limits {
+        least: 1,
+        greatest: 64,
+    };
+    let all = Limits {
+        least: 0,
+        greatest: u64::MAX,
+    };
+    assert_eq!(rt; parse_number(b"064", amounts), Ok(64));
+    assert_eq!(rt; parse_number(b"18446744073709551615", all), Ok(u64::MAX));
+    for word in ["0", "65", "18446744073709551616"] {
+        assert_eq!(rt;
+            parse_number(word.as_bytes(), amounts),
+            Err(LineFault::Range),
+            "{word}"
+        );
+    }
+    for word in ["", "+1", "-1", "1x", " 1"] {
+        assert_eq!(rt;
+            parse_number(word.as_bytes(), all),
+            Err(LineFault::Number),
+            "{word}"
+        );
+    }
+}
+
+/// The line that a line's command is written as; `None` where it is no command.
+fn written(alloc: Global, line: &str) -> Result<Option<Vec<u8>>, Fail> {
+    match parse(line.as_bytes()) {
+        Ok(Some(command)) => Ok(Some(command.line(alloc)?)),
+        Ok(None) | Err(_) => Ok(None),
+    }
+}
+
+#[test]
+fn writes_lines(rt: HostRuntime) -> Result<(), Fail> {
+    for line in [
+        "layer shops points range near top",
+        "layer s segments stab",
+        "add abcdefghijklmnop 18446744073709551615 2147483647 0 7",
+        "seg a 7 1 2 3",
+        "drop a 10",
+        "count a 1 2 3 4",
+        "sum a 1 2 3 4",
+        "list a 1 2 3 4",
+        "near a 1 2",
+        "nearest a 64 1 2",
+        "above a 1 2 3",
+        "top a 1 2",
+        "stab a 1",
+        "stabcount a 1",
+        "get a 7",
+        "size a",
+        "recent a 1",
+    ] {
+        let written = written(rt.alloc(), line)?;
+        assert!(rt;
+            written.is_some_and(|bytes| bytes.as_slice() == line.as_bytes()),
+            "{line}"
+        );
+    }
+    Ok(())
+}
+
+#[test]
+fn writes_plain_lines(rt: HostRuntime) -> Result<(), Fail> {
+    for (line, wanted) in [
+        ("\tdrop  a 007\r", "drop a 7"),
+        (
+            "layer a points top near range",
+            "layer a points range near top",
+        ),
+    ] {
+        let written = written(rt.alloc(), line)?;
+        assert!(rt;
+            written.is_some_and(|bytes| bytes.as_slice() == wanted.as_bytes()),
+            "{line}"
+        );
+    }
     Ok(())
 }

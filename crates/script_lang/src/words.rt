@@ -1,5 +1,5 @@
 // The words of a line, from its front.
-ghost use Rattle.std.specs.Prelude.{◌≡◌, ◌==◌, ◌≤◌, ◌<◌, [], ◌∷◌, length, drop, MatchOption, IfSome};
+ghost use Rattle.std.specs.Prelude.{◌≡◌, ◌≤◌, ◌<◌, [], ◌∷◌, length, drop, MatchOption, IfSome};
 ghost use Rattle.std.specs.List.{prefix_len};
 ghost use Rattle.map_model.specs.Grammar.{words, is_blank, is_word_byte};
 
@@ -15,11 +15,17 @@ pub fn split_word(text: &[u8]) -> Option<(&[u8], &[u8])>
     Some(word.split_at(word_len(word)))
 }
 
-/// Whether it has no word.
-pub fn is_blank_text(text: &[u8]) -> bool
-    ensures { result ≡ (length (words text.now) == 0) }
+/// How many words it has.
+pub fn count_words(text: &[u8]) -> usize
+    ensures { result ≡ length (words text.now) }
 {
-    split_word(text).is_none()
+    let mut count = 0;
+    let mut rest = text;
+    while let Some((_, behind)) = split_word(rest) {
+        count += 1;
+        rest = behind;
+    }
+    count
 }
 
 fn skip_blanks(text: &[u8]) -> &[u8]

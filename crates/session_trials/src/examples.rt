@@ -4,6 +4,7 @@ ghost use Rattle.map_model.specs.Text.{lines};
 ghost use Rattle.map_session.specs.Answering.{IsOutput};
 ghost use Rattle.session_trials.specs.Examples.{IsAnsweredOtherwise};
 
+use crate::commands::are_read_again;
 use map_io::{MemSink, WriteFault};
 use map_samples::Failure;
 use map_session::{Session, answer_lines};
@@ -14,9 +15,10 @@ use std::rt::Files;
 /// A script has fewer bytes than this.
 const MOST_BYTES: usize = 1 << 40;
 
-/// Runs each script `NAME.livemap` of a folder by a session of its own, and compares its answers with the file `NAME.out`.
+/// Runs each script `NAME.livemap` of a folder by a session of its own, and compares its answers with the file `NAME.out`. Each of its
+/// commands must be read again from the line that it is written as.
 ///
-/// Prints a line for each example. `Differs` where the answers aren't those of the file.
+/// Prints a line for each example. `Differs` where the answers aren't those of the file, or a command isn't read again.
 pub fn check_examples<R: Print + Files + AllocGlobal + Clone + Drop>(
     rt: &R,
     folder: &str,
@@ -52,6 +54,10 @@ fn check_example<R: Files + AllocGlobal>(rt: &R, folder: &str, name: &str) -> Re
     let wanted = fs::read(rt, format!(in alloc; "{folder}/{name}.out")?.as_str())?;
     if script.len() >= MOST_BYTES {
         return Err(Failure::TooLong);
+    }
+    if !are_read_again(alloc, &script)? {
+        let text = format!(in alloc; "a command of {folder}/{name}.livemap isn't read again")?;
+        return Err(Failure::Differs(text));
     }
     if has_answers(alloc, &script, &wanted)? {
         return Ok(());

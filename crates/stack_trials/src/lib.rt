@@ -6,6 +6,7 @@ mod comparing;
 mod counting;
 mod growing;
 mod measuring;
+mod memory;
 mod numbering;
 mod preparing;
 mod seen;

@@ -8,6 +8,7 @@ use map_shapes::{CountIn, Point, Rect};
 use query_laws::step_ledger::{SHARES, Steps, blank};
 use std::alloc::Global;
 use std::marker::Brand;
+use std::rt::Files;
 use std::sync::ledger::{Blank, Ledger};
 use std::test::Fail;
 use std::time::Clock;
@@ -137,7 +138,7 @@ fn deletes_the_first_of_five(rt: HostRuntime) -> Result<(), Fail> {
 }
 
 /// Compares three hundred stacks with plain lists, and measures one of 300 points with times.
-fn run_trials<R: Print + Clock + AllocGlobal, L: Ledger>(
+fn run_trials<R: Print + Clock + Files + AllocGlobal, L: Ledger>(
     rt: &R,
     blank: Blank,
 ) -> Result<(), Failure>

@@ -1,4 +1,9 @@
 //! Seeded lines and numbers.
+ghost use Rattle.std.specs.Prelude.{◌≡◌, IfOk, Ok, Some, map, string_bytes};
+ghost use Rattle.map_model.specs.Script.Grammar.{parse};
+ghost use Rattle.map_model.specs.Script.Line.{command_line};
+ghost use Rattle.text_trials.specs.Making.{state_after, made_command, made_commands};
+
 use map_samples::Generator;
 use std::alloc::{AllocError, Global};
 
@@ -6,11 +11,16 @@ use std::alloc::{AllocError, Global};
 const COORDINATES: u32 = 1 << 31;
 
 /// So many lines `add a ID X Y W`: four draws a line, and an identifier of 32 bits.
+///
+/// Each is the line of a command, and so is read as that command.
 pub fn made_lines(
     alloc: Global,
     generator: &mut Generator,
     n: usize,
-) -> Result<Vec<String>, AllocError> {
+) -> Result<Vec<String>, AllocError>
+    ensures lines { IfOk result (λ lines. map string_bytes lines.items ≡ map command_line (made_commands n generator.old.state)) }
+    ensures read { IfOk result (λ lines. map (λ line. parse (string_bytes line)) lines.items ≡ map (λ command. Ok (Some command)) (made_commands n generator.old.state)) }
+{
     let mut lines = Vec::with_capacity(alloc, n)?;
     for _ in 0..n {
         lines.push(made_line(alloc, generator)?)?;
@@ -18,7 +28,11 @@ pub fn made_lines(
     Ok(lines)
 }
 
-fn made_line(alloc: Global, generator: &mut Generator) -> Result<String, AllocError> {
+fn made_line(alloc: Global, generator: &mut Generator) -> Result<String, AllocError>
+    ensures line { IfOk result (λ line. string_bytes line ≡ command_line (made_command generator.old.state)) }
+    ensures read { IfOk result (λ line. parse (string_bytes line) ≡ Ok (Some (made_command generator.old.state))) }
+    ensures state { generator.new.state ≡ state_after 4 generator.old.state }
+{
     let id = generator.draw();
     let x = generator.below(COORDINATES);
     let y = generator.below(COORDINATES);

@@ -1,3 +1,4 @@
+mod Descents
 pub mod Nodes
 pub mod Packing
 pub mod Winners

@@ -1,9 +1,9 @@
 -- The nodes of a Fenwick tree over the places of their entries.
-use Rattle.std.proofs.Common.{◌≡◌, ℕ, ◌+◌, ◌-◌, ◌*◌, ◌/◌, ◌^◌, ◌<◌, ◌≤◌, ◌%◌, ◌⊎◌, inl, inr, Bool, if◌then◌else◌, List, [], ◌∷◌, ◌++◌, length, take, set, get_or, true, false, cond, refl, sym, ap, subst, ◌∙◌, arith, get_or-set_same, get_or-set_other}
+use Rattle.std.proofs.Common.{◌≡◌, ℕ, ◌+◌, ◌-◌, ◌*◌, ◌/◌, ◌^◌, ◌<◌, ◌≤◌, ◌%◌, ◌⊎◌, inl, inr, Bool, if◌then◌else◌, List, [], ◌∷◌, ◌++◌, length, take, drop, take-append-drop, set, get_or, true, false, cond, refl, sym, ap, subst, ◌∙◌, arith, get_or-set_same, get_or-set_other}
 use Rattle.std.specs.List.{sum_by, count_by}
 use Rattle.std.proofs.Math.Seq.{take-set-lt}
-use Rattle.std.proofs.lemmas.List.{take-take, take_all, take-append-le, take-set-le, get_or_past, get_or_read, get_or-take, get_or_append_left, get_or_push, length-take, length-set, length_push}
-use Rattle.std.proofs.lemmas.List.Sums.{sum_by-take-le, sum_by-set, sum_by_more, sum_by_push, count_by-le-length}
+use Rattle.std.proofs.lemmas.List.{take-take, take_all, take-append-le, take-set-le, get_or_past, get_or_read, get_or-take, get_or_append_left, get_or_push, length-take, length-drop, length-set, length_push}
+use Rattle.std.proofs.lemmas.List.Sums.{sum_by-take-le, sum_by-set, sum_by_more, sum_by_push, sum_by-append, count_by-le-length}
 use Rattle.std.proofs.lemmas.Bool.{cases_lt, cases_eq}
 use Rattle.std.proofs.lemmas.Bool.Decides.{nat_tests}
 use Rattle.weak_delete.specs.declared.place.Place.{Place}
@@ -17,6 +17,26 @@ use Rattle.weak_delete.specs.Fenwick.{IsOver, AreNodes, start_of, no_node, entri
 pub sum_by-prefix-le : {X : Type 0} (f : X → ℕ) (xs : List X) (i j : ℕ) → i ≤ j → sum_by f (take i xs) ≤ sum_by f (take j xs)
 sum_by-prefix-le f xs i j h = subst (λ ys. sum_by f ys ≤ sum_by f (take j xs)) (take-take i j xs h) (sum_by-take-le f (take j xs) i)
 
+-- where a test holds of all, it holds of all in a front
+pub count_by-all : {X : Type 0} (p : X → Bool) (xs : List X) (i : ℕ) → i ≤ length xs → count_by p xs ≡ length xs → count_by p (take i xs) ≡ i
+count_by-all p xs i within all =
+    omega (
+      arith,
+      all,
+      ap (count_by p) (sym (take-append-drop i xs)) ∙ sum_by-append (λ x. cond (p x) 1 0) (take i xs) (drop i xs),
+      count_by-le-length p (take i xs),
+      count_by-le-length p (drop i xs),
+      length-take i xs,
+      length-drop i xs,
+    )
+
+-- where all places are live, so are those of a front
+pub live-front : (places seen : List Place) (total : Node) (len : ℕ) → IsOver places 0 len total → total.count ≡ len → length places ≡ len → places ≡ seen
+    → (i : ℕ) → i ≤ length seen → count_by is_live (take i seen) ≡ i
+live-front places seen total len over full long same i within =
+    let all : count_by is_live places ≡ length places = omega (arith, over.count, full, long, ap (count_by is_live) (take_all len places (omega (arith, long)))) in
+    subst (λ (ps : List Place). count_by is_live (take i ps) ≡ i) same (count_by-all is_live places i (omega (arith, within, ap length same)) all)
+
 pub start_of-whole : (unturned end : ℕ) → end ≤ unturned → start_of unturned end ≡ 0
 start_of-whole unturned end h = grind (arith, nat_tests)
 
@@ -27,17 +47,17 @@ start_of-turned unturned end h = grind (arith, nat_tests)
 abbrev pub live_one : Place → ℕ
 live_one place = cond (is_live place) 1 0
 
--- a node less the node of a shorter prefix
-pub IsOver-less : (places : List Place) (start end : ℕ) (whole before node : Node) → IsOver places 0 end whole → IsOver places 0 start before
+-- a node less the node of a shorter range that begins there too
+pub IsOver-less : {places : List Place} {first : ℕ} (start end : ℕ) (whole before node : Node) → IsOver places first end whole → IsOver places first start before
     → start ≤ end → node.count ≡ whole.count - before.count → node.weight ≡ whole.weight - before.weight → IsOver places start end node
-IsOver-less places start end whole before node over_end over_start h count weight = record {
+IsOver-less {places} start end whole before node over_end over_start h count weight = record {
   count = omega (arith, over_end.count, over_start.count, sum_by-prefix-le live_one places start end h);
   weight = omega (arith, over_end.weight, over_start.weight, sum_by-prefix-le live_amount places start end h);
 }
 
-pub before-le : (places : List Place) (start end : ℕ) (whole before : Node) → IsOver places 0 end whole → IsOver places 0 start before
+pub before-le : {places : List Place} {first : ℕ} (start end : ℕ) (whole before : Node) → IsOver places first end whole → IsOver places first start before
     → start ≤ end → (before.count ≤ whole.count) × (before.weight ≤ whole.weight)
-before-le places start end whole before over_end over_start h = (
+before-le {places} start end whole before over_end over_start h = (
   omega (arith, over_end.count, over_start.count, sum_by-prefix-le live_one places start end h),
   omega (arith, over_end.weight, over_start.weight, sum_by-prefix-le live_amount places start end h),
 )
@@ -227,26 +247,18 @@ pub built_nodes : {places seen : List Place} {nodes : List Node} {unturned : ℕ
 built_nodes {places} {seen} {nodes} {unturned} over same none =
     let P : List Place → Type 0 = λ ps. AreNodes ps nodes 0 in subst P same (subst (AreNodes places nodes) none over)
 
--- a prefix, and the node that follows it
-pub IsOver-then : {places : List Place} {start end : ℕ} (sum node : Node) → IsOver places 0 start sum → IsOver places start end node
-    → IsOver places 0 end (record { count = sum.count + node.count; weight = sum.weight + node.weight })
-IsOver-then sum node before over = record { count = omega (arith, before.count, over.count); weight = omega (arith, before.weight, over.weight) }
+-- a node, and the one that stands before it
+pub IsOver-joined : {places : List Place} {start middle end : ℕ} (later node : Node) → IsOver places middle end later → IsOver places start middle node
+    → IsOver places start end (record { count = later.count + node.count; weight = later.weight + node.weight })
+IsOver-joined later node over before = record { count = omega (arith, before.count, over.count); weight = omega (arith, before.weight, over.weight) }
 
--- the sums of any prefix fit
-pub IsOver-fits : {places : List Place} {end : ℕ} (node : Node) → IsOver places 0 end node → length places ≤ 2 ^ 31 → sum_by live_amount places ≤ length places * (2 ^ 32 - 1)
-    → (node.count < 2 ^ 32) × (node.weight < 2 ^ 64)
-IsOver-fits {places} {end} node over few small = (
-  omega (arith, over.count, count_by-le-length is_live (take end places), length-take end places),
-  omega (arith, over.weight, sum_by-take-le live_amount places end),
+-- its sums fit
+pub IsOver-joined_fits : {places : List Place} {start middle end : ℕ} (later node : Node) → IsOver places middle end later → IsOver places start middle node
+    → length places ≤ 2 ^ 31 → sum_by live_amount places ≤ length places * (2 ^ 32 - 1) → (later.count + node.count < 2 ^ 32) × (later.weight + node.weight < 2 ^ 64)
+IsOver-joined_fits {places} {start} {middle} {end} later node over before few small = (
+  omega (arith, before.count, over.count, count_by-le-length is_live (take end places), length-take end places),
+  omega (arith, before.weight, over.weight, sum_by-take-le live_amount places end),
 )
-
--- the same, of a sum that is not yet made
-pub IsOver-then_fits : {places seen : List Place} {start end : ℕ} (sum node : Node) → IsOver seen 0 start sum → IsOver seen start end node → places ≡ seen
-    → length places ≤ 2 ^ 31 → sum_by live_amount places ≤ length places * (2 ^ 32 - 1) → (sum.count + node.count < 2 ^ 32) × (sum.weight + node.weight < 2 ^ 64)
-IsOver-then_fits {places} {seen} sum node before over same few small =
-    let S : List Place → Type 0 = λ ps. sum_by live_amount ps ≤ length ps * (2 ^ 32 - 1) in
-    let L : List Place → Type 0 = λ ps. length ps ≤ 2 ^ 31 in
-    IsOver-fits (record { count = sum.count + node.count; weight = sum.weight + node.weight }) (IsOver-then sum node before over) (subst L same few) (subst S same small)
 
 pub sum-cleared-le : (places : List Place) (k : ℕ) → k < length places → sum_by live_amount (cleared places k) ≤ sum_by live_amount places
 sum-cleared-le places k within = omega (arith, sum_by-set live_amount places k (record (get_or places k no_place) { live = false }) no_place within)

@@ -1,5 +1,5 @@
 //! The number and the weight of live places, by a Fenwick tree.
-ghost use Rattle.std.specs.Prelude.{◌≡◌, ℕ, ◌+◌, ◌-◌, ◌*◌, ◌%◌, ◌≢◌, ◌^◌, ◌<◌, ◌≤◌, ◌∷◌, ◌++◌, ◌↔◌, [], IsTrue, true, false, IfOk, IfSome, IsNone, length, take, count_by, sum_by};
+ghost use Rattle.std.specs.Prelude.{◌≡◌, ℕ, ◌+◌, ◌-◌, ◌*◌, ◌/◌, ◌%◌, ◌≢◌, ◌^◌, ◌<◌, ◌≤◌, ◌∷◌, ◌++◌, ◌↔◌, [], IsTrue, true, false, IfOk, IfSome, IsNone, length, take, count_by, sum_by};
 ghost use Rattle.query_laws.specs.StepLedger.{Spends};
 ghost use Rattle.weak_delete.specs.Places.{IsLive, is_live, live_amount, live_place, cleared, nothing_put, IsBuilt};
 ghost use Rattle.row_blocks.specs.Blocks.{height_at};
@@ -18,6 +18,40 @@ use std::sync::ledger::Ledger;
 struct Node {
     count: u32,
     weight: u64,
+}
+
+/// The node over no entry.
+const NOTHING: Node = Node {
+    count: 0,
+    weight: 0,
+};
+
+impl Node {
+    /// The node over the places of both.
+    #[inline]
+    fn plus(self, other: Node) -> Node
+        requires count { self.count + other.count < 2 ^ 32 }
+        requires weight { self.weight + other.weight < 2 ^ 64 }
+        ensures { result ≡ record { count = self.count + other.count; weight = self.weight + other.weight } }
+    {
+        Node {
+            count: self.count + other.count,
+            weight: self.weight + other.weight,
+        }
+    }
+
+    /// The node over the places that another doesn't have, which has none but these.
+    #[inline]
+    fn minus(self, other: Node) -> Node
+        requires count { other.count ≤ self.count }
+        requires weight { other.weight ≤ self.weight }
+        ensures { result ≡ record { count = self.count - other.count; weight = self.weight - other.weight } }
+    {
+        Node {
+            count: self.count - other.count,
+            weight: self.weight - other.weight,
+        }
+    }
 }
 
 /// Places with a weight each, which are live until they are cleared: a Fenwick tree (Fenwick 1994) over entries of sixteen
@@ -221,10 +255,7 @@ impl LiveCounts {
         let start = entry + 1 - block_len(height_at(entry + 1));
         let whole = self.whole(entry + 1, steps);
         let before = self.whole(start, steps);
-        Node {
-            count: whole.count - before.count,
-            weight: whole.weight - before.weight,
-        }
+        whole.minus(before)
     }
 
     /// The node over all entries before one, which still stands there as it was put.
@@ -284,12 +315,14 @@ impl LiveCounts {
         ensures count { result ≡ count_by is_live (take k self.now.places) }
         ensures cost { (h : ℕ) → length self.now.places ≤ 2 ^ h → Spends steps.old steps.new 0 0 (h + 1) }
     {
+        if self.total.count as usize == self.len {
+            return k as u64;
+        }
         if k == self.len {
             return self.total.count as u64;
         }
-        let mask = self.masks.at(k / WIDTH, steps);
-        let before = self.below(k / WIDTH, steps).count;
-        before as u64 + live_below(mask, k % WIDTH) as u64
+        let before = self.between(0, k / WIDTH, steps).count;
+        before as u64 + self.live_before(k, steps) as u64
     }
 
     /// The weight of the live places below `k`, which never wraps: at most `h + 1` touches, where there are at most `2^h` places.
@@ -305,37 +338,100 @@ impl LiveCounts {
         if k == 0 {
             return 0;
         }
-        let weights = self.weights.at(k / WIDTH, steps);
-        let mask = self.masks.at(k / WIDTH, steps);
-        let before = self.below(k / WIDTH, steps).weight;
-        before + weight_below(&weights, mask, k % WIDTH)
+        let before = self.between(0, k / WIDTH, steps).weight;
+        before + self.weight_before(k, steps)
     }
 
-    /// The node over all places before an entry, added up from the halves of blocks that end there.
-    fn below<L: Ledger>(&self, entry: usize, steps: &mut Steps<L>) -> Node
+    /// The number of live places from `from` on and below `to`: no touch where all places are live, and else at most
+    /// `2 * (h + 2)`, where there are at most `2^h` places.
+    pub fn count_in<L: Ledger>(&self, from: usize, to: usize, steps: &mut Steps<L>) -> u64
         requires built { IsBuilt self.now }
-        requires within { 16 * entry < length self.now.places }
-        requires small { entry ≤ 2 ^ 31 }
-        ensures over { IsOver self.now.places 0 (16 * entry) result }
-        ensures cost { (h : ℕ) → entry < 2 ^ h → Spends steps.old steps.new 0 0 h }
+        requires ordered { from ≤ to }
+        requires within { to ≤ length self.now.places }
+        ensures count { result + count_by is_live (take from self.now.places) ≡ count_by is_live (take to self.now.places) }
+        ensures cost { (h : ℕ) → length self.now.places ≤ 2 ^ h → Spends steps.old steps.new 0 0 (2 * (h + 2)) }
     {
-        let mut height = height_above(entry);
-        let mut start = 0;
-        let mut sum = Node {
-            count: 0,
-            weight: 0,
-        };
-        while height > 0 {
-            height -= 1;
-            let end = start + block_len(height);
-            if end <= entry {
-                let node = self.half(start, end, steps);
-                sum.count += node.count;
-                sum.weight += node.weight;
-                start = end;
+        if self.total.count as usize == self.len {
+            return (to - from) as u64;
+        }
+        let middle = self.between(from / WIDTH, to / WIDTH, steps).count as u64;
+        let last = self.live_before(to, steps) as u64;
+        let first = self.live_before(from, steps) as u64;
+        middle + last - first
+    }
+
+    /// The weight of the live places from `from` on and below `to`: at most `2 * (h + 2)` touches, where there are at most `2^h`
+    /// places.
+    pub fn sum_in<L: Ledger>(&self, from: usize, to: usize, steps: &mut Steps<L>) -> u64
+        requires built { IsBuilt self.now }
+        requires ordered { from ≤ to }
+        requires within { to ≤ length self.now.places }
+        ensures sum { result + sum_by live_amount (take from self.now.places) ≡ sum_by live_amount (take to self.now.places) }
+        ensures cost { (h : ℕ) → length self.now.places ≤ 2 ^ h → Spends steps.old steps.new 0 0 (2 * (h + 2)) }
+    {
+        // By its invariant the sums of all places fit.
+        let _total = self.total;
+        let middle = self.between(from / WIDTH, to / WIDTH, steps).weight;
+        let last = self.weight_before(to, steps);
+        let first = self.weight_before(from, steps);
+        middle + last - first
+    }
+
+    /// How many live places of its own entry stand before a place.
+    fn live_before<L: Ledger>(&self, k: usize, steps: &mut Steps<L>) -> u32
+        requires { k ≤ length self.now.places }
+        ensures count { result + count_by is_live (take (16 * (k / 16)) self.now.places) ≡ count_by is_live (take k self.now.places) }
+        ensures few { result ≤ 16 }
+        ensures cost { Spends steps.old steps.new 0 0 1 }
+    {
+        if k % WIDTH == 0 {
+            return 0;
+        }
+        let mask = self.masks.at(k / WIDTH, steps);
+        live_below(mask, k % WIDTH)
+    }
+
+    /// What the live places of its own entry that stand before a place weigh.
+    fn weight_before<L: Ledger>(&self, k: usize, steps: &mut Steps<L>) -> u64
+        requires { k ≤ length self.now.places }
+        ensures sum { result + sum_by live_amount (take (16 * (k / 16)) self.now.places) ≡ sum_by live_amount (take k self.now.places) }
+        ensures few { result ≤ 16 * (2 ^ 32 - 1) }
+        ensures cost { Spends steps.old steps.new 0 0 2 }
+    {
+        if k % WIDTH == 0 {
+            return 0;
+        }
+        let weights = self.weights.at(k / WIDTH, steps);
+        let mask = self.masks.at(k / WIDTH, steps);
+        weight_below(&weights, mask, k % WIDTH)
+    }
+
+    /// The node over the entries from `from` on and below `to`: both ends go down, from node to node, until they meet, and what
+    /// stands below that isn't read.
+    fn between<L: Ledger>(&self, from: usize, to: usize, steps: &mut Steps<L>) -> Node
+        requires built { IsBuilt self.now }
+        requires ordered { from ≤ to }
+        requires within { 16 * to < length self.now.places + 16 }
+        ensures over { IsOver self.now.places (16 * from) (16 * to) result }
+        ensures cost { (g h : ℕ) → from < 2 ^ g → to < 2 ^ h → Spends steps.old steps.new 0 0 (g + h) }
+    {
+        let mut low = from;
+        let mut high = to;
+        let mut before = NOTHING;
+        let mut whole = NOTHING;
+        while low != high {
+            let end = low.max(high);
+            let start = end - block_len(height_at(end));
+            let node = self.half(start, end, steps);
+            if low < high {
+                high = start;
+                whole = whole.plus(node);
+            } else {
+                low = start;
+                before = before.plus(node);
             }
         }
-        sum
+        whole.minus(before)
     }
 
     /// The node over the first half of a block of entries.

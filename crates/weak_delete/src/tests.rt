@@ -36,7 +36,7 @@ fn counts_of<L: Ledger>(
 fn counted<L: Ledger>(
     alloc: Global,
     blank: Blank,
-) -> Result<([u64; 5], [Option<usize>; 2], [bool; 2]), NoMemory>
+) -> Result<([u64; 8], [Option<usize>; 2], [bool; 2]), NoMemory>
     requires name { blank.name ≡ L.name }
     requires parts { blank.parts ≡ L.parts }
     requires shares { blank.parts ≡ SHARES }
@@ -45,6 +45,7 @@ fn counted<L: Ledger>(
     let mut counts = counts_of(alloc, &[5, 6, 7, 8], &mut steps)?;
     let turns = steps.lap_turns();
     steps.start_lap();
+    let all = counts.count_in(1, 3, &mut steps);
     counts.clear(1, &mut steps);
     let numbers = [
         counts.prefix(4, &mut steps),
@@ -52,6 +53,9 @@ fn counted<L: Ledger>(
         counts.prefix(2, &mut steps),
         turns,
         steps.lap_turns(),
+        all,
+        counts.count_in(1, 3, &mut steps),
+        counts.sum_in(1, 4, &mut steps),
     ];
     let ranks = [
         counts.kth_live(1, &mut steps),
@@ -65,7 +69,7 @@ fn counted<L: Ledger>(
 #[test]
 fn counts_what_is_live(rt: HostRuntime) -> Result<(), Fail> {
     let (numbers, ranks, empty) = counted::<Brand>(rt.alloc(), blank())?;
-    assert_eq!(rt; numbers, [3, 20, 1, 8, 0]);
+    assert_eq!(rt; numbers, [3, 20, 1, 8, 0, 2, 1, 15]);
     assert_eq!(rt; ranks, [Some(2), None]);
     assert_eq!(rt; empty, [false, true]);
     Ok(())

@@ -104,7 +104,7 @@ impl<B: Builder> Level<B> {
     }
 
     /// Keeps a builder.
-    fn keep_builder(&mut self, builder: B)
+    pub(super) fn keep_builder(&mut self, builder: B)
         requires begun { B.progress builder ≡ begun self.old.level }
         requires place { held_in self.old < 5 }
         ensures { self.new ≡ record self.old { kept = self.old.kept + 1 } }
@@ -129,7 +129,7 @@ impl<B: Builder> Level<B> {
     }
 
     /// A builder that is kept, if one is.
-    fn take_kept(&mut self) -> Option<B>
+    pub(super) fn take_kept(&mut self) -> Option<B>
         ensures begun { IfSome result (λ builder. B.progress builder ≡ begun self.old.level) }
         ensures same { self.new ≡ record self.old { kept = self.old.kept - 1 } }
         ensures none { IsNone result → self.old.kept ≡ 0 }

@@ -1,4 +1,4 @@
--- The forms of a line, as a table: a command word, the numbers behind it and the name of a layer, and which of them are
+-- The forms of a line, as a table: a command word, the numbers after it and the name of a layer, and which of them are
 -- in order.
 use Rattle.std.specs.Prelude.{ℕ, Bool, true, false, ◌&&◌, List, [], ◌∷◌, Option, codes, bytes_eq, nat_le, slice_index}
 use Rattle.std.specs.List.{find}
@@ -40,7 +40,7 @@ is_ordered Corners places = nat_le (slice_index places 0) (slice_index places 2)
 
 pub record Form : Type 0 where
   pub word : List ℕ
-  -- the numbers behind the name
+  -- the numbers after the name
   pub fields : List Field
   -- whether a kind and one or more indexes follow
   pub has_indexes : Bool

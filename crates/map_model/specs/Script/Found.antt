@@ -19,12 +19,12 @@ found_le a b = nat_lt a.dist b.dist || ((a.dist == b.dist) && nat_le a.id b.id)
 abbrev pub peak_le : Peak → Peak → Bool
 peak_le a b = nat_lt b.y a.y || ((a.y == b.y) && nat_le a.id b.id)
 
--- an entry put before the first one that it isn't behind
+-- an entry put before the first one that it doesn't come after
 abbrev pub insert_by : {A : Type 0} → (A → A → Bool) → A → List A → List A
 insert_by le x [] = x ∷ []
 insert_by le x (y ∷ ys) = if le x y then x ∷ y ∷ ys else y ∷ insert_by le x ys
 
--- the same entries, each before those that it isn't behind
+-- the same entries, each before those that it doesn't come after
 abbrev pub sorted_by : {A : Type 0} → (A → A → Bool) → List A → List A
 sorted_by le [] = []
 sorted_by le (x ∷ xs) = insert_by le x (sorted_by le xs)

@@ -43,7 +43,7 @@ all_fields test [] words = true
 all_fields test (field ∷ fields) [] = true
 all_fields test (field ∷ fields) (word ∷ words) = test field word && all_fields test fields words
 
--- one word a field, and behind them, where they follow, a kind and one or more indexes
+-- one word a field, and then, where they follow, a kind and one or more indexes
 abbrev pub has_words : Form → List (List ℕ) → Bool
 has_words f words = if f.has_indexes then nat_le (length f.fields + 2) (length words) else length words == length f.fields
 
@@ -136,7 +136,7 @@ parse_kind verb v (word ∷ words) =
 
 -- ---- lines
 
--- the name and the words behind it, in the form of a verb: the first fault that holds
+-- the name and the words after it, in the form of a verb: the first fault that holds
 abbrev pub parse_fields : verbs.Verb → Form → List ℕ → List (List ℕ) → Parsed
 parse_fields verb f name words =
     if not (has_words f words) then Err faults.Fields

@@ -28,7 +28,7 @@ is_refusal (Refused cause) = true
 abbrev pub spaced : ℕ → List ℕ
 spaced n = 32 ∷ decimal n
 
--- the numbers, each behind a space, or ` none` where there is none
+-- the numbers, each after a space, or ` none` where there is none
 abbrev pub numbers_or_none : List ℕ → List ℕ
 numbers_or_none [] = codes " none"
 numbers_or_none (n ∷ ns) = flat_map spaced (n ∷ ns)

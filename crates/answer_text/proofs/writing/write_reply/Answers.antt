@@ -1,43 +1,45 @@
-use Rattle.std.proofs.Common.{[], ◌∷◌, ◌++◌, subst}
-use Rattle.std.specs.Io.KnownBytes.{Appends}
-use Rattle.map_io.specs.ProperPrefix.{AppendsProperPrefix}
-use Rattle.answer_text.specs.Texts.{reply_numbers, tail_text}
-use Rattle.answer_text.proofs.Pieces.{gathers_both, gathers_end, prefix_first, prefix_second, prefix_of_first, prefix_of_two, prefix_end, ok_weaker, err_weaker, err_any}
-use Rattle.answer_text.proofs.ReplyTexts.{line_of_reply}
+use Rattle.std.proofs.Common.{rules, [], ◌∷◌, ◌++◌, refl}
+use Rattle.answer_text.specs.Texts.{reply_numbers, listed_ids, none_text, spaced_all, tail_text}
+use Rattle.answer_text.proofs.Pieces.{gathers_both, gathers_end, prefix_first, prefix_second, before_two, before_three, before_four, before_five, before_last, prefix_end, ok_weaker, err_weaker, err_any}
+use Rattle.answer_text.proofs.ReplyTexts.{line_appended, line_cut}
 use Rattle.answer_text.proofs.writing.write_reply.Goals as goal
 
 pub returns-in_err-put-clause-prefix : goal.returns-in_err-put-clause-prefix
 returns-in_err-put-clause-prefix g c =
-    let line = line_of_reply c.args.ledger c.args.reply.now c.new-piece.result.items c.reply_word.result.now c.new-piece.ensures c.reply_word.ensures.word in
-    err_any c.from_residual.result _ (subst (AppendsProperPrefix (g.K.Sink.written c.args.sink.now) (g.K.Sink.written c.put.new.sink)) line
-    (prefix_of_first _ _ c.new-piece.result.items c.reply_word.result.now (reply_numbers c.args.reply.now) (tail_text c.args.ledger c.args.reply.now) (10 ∷ []) c.in_err-put.ensures.prefix))
+    let r = c.args.reply.now in
+    err_any c.from_residual.result _ (line_cut c.args.ledger r _ _ _ _ (listed_ids r) (none_text r) (tail_text c.args.ledger r) (before_five _ _ _ _ (reply_numbers r) (spaced_all (listed_ids r)) (none_text r) (tail_text c.args.ledger r) (10 ∷ []) c.in_err-put.ensures.prefix) c.new-piece.ensures c.reply_word.ensures.word refl refl refl)
 
 pub returns-in_err-put_reply_numbers-clause-prefix : goal.returns-in_err-put_reply_numbers-clause-prefix
 returns-in_err-put_reply_numbers-clause-prefix g c =
-    let line = line_of_reply c.args.ledger c.args.reply.now c.new-piece.result.items c.reply_word.result.now c.new-piece.ensures c.reply_word.ensures.word in
-    err_any c.from_residual-in_err-put_reply_numbers.result _ (subst (AppendsProperPrefix (g.K.Sink.written c.args.sink.now) (g.K.Sink.written c.put_reply_numbers.new.sink)) line
-    (prefix_of_two _ _ c.new-piece.result.items c.reply_word.result.now (reply_numbers c.args.reply.now) (tail_text c.args.ledger c.args.reply.now) (10 ∷ []) (prefix_second _ _ _ _ _ _ _ c.in_ok-put.ensures.all c.in_err-put_reply_numbers.ensures.prefix)))
+    let r = c.args.reply.now in
+    err_any c.from_residual-in_err-put_reply_numbers.result _ (line_cut c.args.ledger r _ _ _ _ (listed_ids r) (none_text r) (tail_text c.args.ledger r) (before_four _ _ _ _ (spaced_all (listed_ids r)) (none_text r) (tail_text c.args.ledger r) (10 ∷ []) (prefix_second _ _ _ _ _ _ _ c.in_ok-put.ensures.all c.in_err-put_reply_numbers.ensures.prefix)) c.new-piece.ensures c.reply_word.ensures.word refl refl refl)
 
-pub returns-in_err-put_tail-clause-prefix : goal.returns-in_err-put_tail-clause-prefix
-returns-in_err-put_tail-clause-prefix g c =
-    let line = line_of_reply c.args.ledger c.args.reply.now c.new-piece.result.items c.reply_word.result.now c.new-piece.ensures c.reply_word.ensures.word in
-    err_any c.from_residual-in_err-put_tail.result _ (subst (AppendsProperPrefix (g.K.Sink.written c.args.sink.now) (g.K.Sink.written c.put_tail.new.sink)) line
-    (prefix_first _ _ c.new-piece.result.items ((c.reply_word.result.now ++ reply_numbers c.args.reply.now) ++ tail_text c.args.ledger c.args.reply.now) (10 ∷ []) (prefix_second _ _ _ _ _ _ _ (gathers_both _ _ _ _ _ _ _ _ c.in_ok-put.ensures.all c.in_ok-put_reply_numbers.ensures.all) c.in_err-put_tail.ensures.prefix)))
+pub returns-in_err-put_numbers-clause-prefix : goal.returns-in_err-put_numbers-clause-prefix
+returns-in_err-put_numbers-clause-prefix g c =
+    let r = c.args.reply.now in
+    err_any c.from_residual-in_err-put_numbers.result _ (line_cut c.args.ledger r _ _ _ _ _ (none_text r) (tail_text c.args.ledger r) (before_three _ _ _ _ (none_text r) (tail_text c.args.ledger r) (10 ∷ []) (prefix_second _ _ _ _ _ _ _ (gathers_both _ _ _ _ _ _ _ _ c.in_ok-put.ensures.all c.in_ok-put_reply_numbers.ensures.all) c.in_err-put_numbers.ensures.prefix)) c.new-piece.ensures c.reply_word.ensures.word (search rules) refl refl)
 
 pub returns-in_err-put-2-clause-prefix : goal.returns-in_err-put-2-clause-prefix
 returns-in_err-put-2-clause-prefix g c =
-    let line = line_of_reply c.args.ledger c.args.reply.now c.new-piece.result.items c.reply_word.result.now c.new-piece.ensures c.reply_word.ensures.word in
-    err_any c.from_residual-in_err-put-2.result _ (subst (AppendsProperPrefix (g.K.Sink.written c.args.sink.now) (g.K.Sink.written c.put-2.new.sink)) line
-    (prefix_second _ _ _ _ _ _ _ (gathers_both _ _ _ _ _ _ _ _ (gathers_both _ _ _ _ _ _ _ _ c.in_ok-put.ensures.all c.in_ok-put_reply_numbers.ensures.all) c.in_ok-put_tail.ensures.all) c.in_err-put-2.ensures.prefix))
+    let r = c.args.reply.now in
+    err_any c.from_residual-in_err-put-2.result _ (line_cut c.args.ledger r _ _ _ _ _ _ (tail_text c.args.ledger r) (before_two _ _ _ _ (tail_text c.args.ledger r) (10 ∷ []) (prefix_second _ _ _ _ _ _ _ (gathers_both _ _ _ _ _ _ _ _ (gathers_both _ _ _ _ _ _ _ _ c.in_ok-put.ensures.all c.in_ok-put_reply_numbers.ensures.all) c.in_ok-put_numbers.ensures.all) c.in_err-put-2.ensures.prefix)) c.new-piece.ensures c.reply_word.ensures.word (search rules) (search rules) refl)
+
+pub returns-in_err-put_tail-clause-prefix : goal.returns-in_err-put_tail-clause-prefix
+returns-in_err-put_tail-clause-prefix g c =
+    let r = c.args.reply.now in
+    err_any c.from_residual-in_err-put_tail.result _ (line_cut c.args.ledger r _ _ _ _ _ _ (tail_text c.args.ledger r) (before_last _ _ _ ((((c.reply_word.result.now ++ reply_numbers r) ++ spaced_all _) ++ _)) (tail_text c.args.ledger r) (10 ∷ []) (prefix_second _ _ _ _ _ _ _ (gathers_both _ _ _ _ _ _ _ _ (gathers_both _ _ _ _ _ _ _ _ (gathers_both _ _ _ _ _ _ _ _ c.in_ok-put.ensures.all c.in_ok-put_reply_numbers.ensures.all) c.in_ok-put_numbers.ensures.all) c.in_ok-put-2.ensures.all) c.in_err-put_tail.ensures.prefix)) c.new-piece.ensures c.reply_word.ensures.word (search rules) (search rules) refl)
+
+pub returns-in_err-put-3-clause-prefix : goal.returns-in_err-put-3-clause-prefix
+returns-in_err-put-3-clause-prefix g c =
+    let r = c.args.reply.now in
+    err_any c.from_residual-in_err-put-3.result _ (line_cut c.args.ledger r _ _ _ _ _ _ _ (prefix_second _ _ _ _ _ _ _ (gathers_both _ _ _ _ _ _ _ _ (gathers_both _ _ _ _ _ _ _ _ (gathers_both _ _ _ _ _ _ _ _ (gathers_both _ _ _ _ _ _ _ _ c.in_ok-put.ensures.all c.in_ok-put_reply_numbers.ensures.all) c.in_ok-put_numbers.ensures.all) c.in_ok-put-2.ensures.all) c.in_ok-put_tail.ensures.all) c.in_err-put-3.ensures.prefix) c.new-piece.ensures c.reply_word.ensures.word (search rules) (search rules) (search rules))
 
 pub returns-clause-all : goal.returns-clause-all
 returns-clause-all g c =
-    let line = line_of_reply c.args.ledger c.args.reply.now c.new-piece.result.items c.reply_word.result.now c.new-piece.ensures c.reply_word.ensures.word in
-    let all = (gathers_both _ _ _ _ _ _ _ _ (gathers_both _ _ _ _ _ _ _ _ (gathers_both _ _ _ _ _ _ _ _ c.in_ok-put.ensures.all c.in_ok-put_reply_numbers.ensures.all) c.in_ok-put_tail.ensures.all) c.in_ok-put-2.ensures.all) in
-    ok_weaker c.finish.result _ _ (λ end. subst (Appends (g.K.Sink.written c.args.sink.now) (g.K.Sink.written c.finish.new.sink)) line (gathers_end _ _ _ _ _ _ all end)) c.finish.ensures.all
+    let all = (gathers_both _ _ _ _ _ _ _ _ (gathers_both _ _ _ _ _ _ _ _ (gathers_both _ _ _ _ _ _ _ _ (gathers_both _ _ _ _ _ _ _ _ (gathers_both _ _ _ _ _ _ _ _ c.in_ok-put.ensures.all c.in_ok-put_reply_numbers.ensures.all) c.in_ok-put_numbers.ensures.all) c.in_ok-put-2.ensures.all) c.in_ok-put_tail.ensures.all) c.in_ok-put-3.ensures.all) in
+    ok_weaker c.finish.result _ _ (λ end. line_appended c.args.ledger c.args.reply.now _ _ _ _ _ _ _ (gathers_end _ _ _ _ _ _ all end) c.new-piece.ensures c.reply_word.ensures.word (search rules) (search rules) (search rules)) c.finish.ensures.all
 
 pub returns-clause-prefix : goal.returns-clause-prefix
 returns-clause-prefix g c =
-    let line = line_of_reply c.args.ledger c.args.reply.now c.new-piece.result.items c.reply_word.result.now c.new-piece.ensures c.reply_word.ensures.word in
-    let all = (gathers_both _ _ _ _ _ _ _ _ (gathers_both _ _ _ _ _ _ _ _ (gathers_both _ _ _ _ _ _ _ _ c.in_ok-put.ensures.all c.in_ok-put_reply_numbers.ensures.all) c.in_ok-put_tail.ensures.all) c.in_ok-put-2.ensures.all) in
-    err_weaker c.finish.result _ _ (λ end. subst (AppendsProperPrefix (g.K.Sink.written c.args.sink.now) (g.K.Sink.written c.finish.new.sink)) line (prefix_end _ _ _ _ _ _ all end)) c.finish.ensures.prefix
+    let all = (gathers_both _ _ _ _ _ _ _ _ (gathers_both _ _ _ _ _ _ _ _ (gathers_both _ _ _ _ _ _ _ _ (gathers_both _ _ _ _ _ _ _ _ (gathers_both _ _ _ _ _ _ _ _ c.in_ok-put.ensures.all c.in_ok-put_reply_numbers.ensures.all) c.in_ok-put_numbers.ensures.all) c.in_ok-put-2.ensures.all) c.in_ok-put_tail.ensures.all) c.in_ok-put-3.ensures.all) in
+    err_weaker c.finish.result _ _ (λ end. line_cut c.args.ledger c.args.reply.now _ _ _ _ _ _ _ (prefix_end _ _ _ _ _ _ all end) c.new-piece.ensures c.reply_word.ensures.word (search rules) (search rules) (search rules)) c.finish.ensures.prefix

@@ -1,11 +1,11 @@
-use Rattle.std.proofs.Common.{◌≡◌, ℕ, ◌+◌, ◌*◌, ◌^◌, ◌<◌, ◌||◌, ◌∙◌, ⊎_elim, true, false, ◌∷◌, ◌++◌, length, All, refl, sym, ap, ap₂, subst, arith}
+use Rattle.std.proofs.Common.{◌≡◌, ℕ, ◌+◌, ◌*◌, ◌^◌, ◌<◌, ◌||◌, ◌∙◌, ⊎_elim, true, false, ◌∷◌, ◌++◌, length, map, All, refl, sym, ap, ap₂, subst, arith}
 use Rattle.std.proofs.lemmas.Bool.{cases_lt}
 use Rattle.std.proofs.lemmas.List.Elements.{All-cons, All-head, All-tail}
 use Rattle.query_laws.specs.Orders.{AllStampsDiffer}
 use Rattle.query_laws.specs.StepLedger.{Spends}
 use Rattle.query_laws.proofs.Counting.{Spends-nothing, Spends-within}
 use Rattle.builder_trait.specs.Parts.{OwnsStamp, has_stamp, without}
-use Rattle.level_slots.specs.Slots.{ticks_of, held_in, held_of, weight_in, weight_of, live_in, items_in, live_items, all_items, asked_in, asked}
+use Rattle.level_slots.specs.Slots.{ticks_of, held_in, weight_in, weight_of, live_in, items_in, live_items, all_items, asked_in, asked}
 use Rattle.level_slots.specs.Neighbours.{IsPunctual, IsDue, IsDueSoon, HaveRoomsAbove}
 use Rattle.level_slots.specs.Stack.{AreLevels}
 use Rattle.level_slots.specs.Marking.{IsSameBelow}
@@ -346,13 +346,13 @@ returns-in-None-clause-cost g p c g' light =
     subst (λ n. Spends c.args.steps.now c.args.steps.now 0 n (n * g.B.Part.Part.mark_touches g')) (sym nothing)
     (Spends-within (Spends-nothing c.args.steps.now) refl refl (omega arith))
 
+pub returns-then-mark_in-clause-held : goal.returns-then-mark_in-clause-held
+returns-then-mark_in-clause-held g p c =
+    ap (λ ns. held_in c.in-Some.level.now ∷ ns) c.mark_in.ensures.held ∙ sym (ap (map held_in) c.in-Some.ensures.cases.0)
+
 pub returns-else-mark_in-clause-held : goal.returns-else-mark_in-clause-held
 returns-else-mark_in-clause-held g p c =
-    omega (
-      arith,
-      held-noted c.mark_in.new.levels c.mark_and_note.new.above c.mark_and_note.ensures.noted,
-      c.mark_in.ensures.held,
-      ap held_in c.mark_and_note.ensures.same,
-      c.mark_and_note.ensures.as_many,
-      ap held_of c.in-Some.ensures.cases.0,
-    )
+    let here : held_in c.mark_and_note.new.level ≡ held_in c.in-Some.level.now =
+    omega (arith, ap held_in c.mark_and_note.ensures.same, c.mark_and_note.ensures.as_many) in
+    ap₂ (λ n ns. n ∷ ns) here (held-noted c.mark_in.new.levels c.mark_and_note.new.above c.mark_and_note.ensures.noted ∙ c.mark_in.ensures.held)
+    ∙ sym (ap (map held_in) c.in-Some.ensures.cases.0)

@@ -1,4 +1,4 @@
-use Rattle.std.proofs.Common.{◌≡◌, ◌+◌, ◌*◌, ◌^◌, ◌<◌, ◌∙◌, sym, subst, arith}
+use Rattle.std.proofs.Common.{◌≡◌, ◌+◌, ◌*◌, ◌^◌, ◌<◌, ◌∙◌, drop, ap, sym, subst, arith}
 use Rattle.query_laws.specs.Orders.{AllStampsDiffer}
 use Rattle.level_slots.specs.Slots.{IsPartOf, weight_of, all_items, asked}
 use Rattle.level_slots.specs.Cost.{IsWithin, quotas}
@@ -45,3 +45,6 @@ returns-clause-cost g c g' light =
     let marks : n + 2 * g' ≡ 2 * g' + n = omega arith in
     subst (λ m. IsWithin q m t c.args.steps.now c.take_tick.new.steps) marks
     (subst (λ k. IsWithin k (n + 2 * g') t c.args.steps.now c.take_tick.new.steps) turns (IsWithin-then first (c.take_tick.ensures.cost g' light_mid)))
+
+pub returns-clause-held_above : goal.returns-clause-held_above
+returns-clause-held_above g c = c.take_tick.ensures.held_above ∙ ap (drop 1) c.mark_in.ensures.held

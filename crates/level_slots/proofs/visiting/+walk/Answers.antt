@@ -1,11 +1,11 @@
-use Rattle.std.proofs.Common.{◌≡◌, ℕ, ◌+◌, ◌-◌, ◌*◌, ◌^◌, ◌<◌, ◌≤◌, ◌∙◌, ◌∷◌, length, subst, sym, ap, ⊎_elim, arith}
+use Rattle.std.proofs.Common.{◌≡◌, ℕ, ◌+◌, ◌-◌, ◌*◌, ◌^◌, ◌<◌, ◌≤◌, ◌∙◌, ◌∷◌, length, map, subst, sym, ap, ap₂, ⊎_elim, arith}
 use Rattle.std.proofs.lemmas.Bool.{cases_lt}
 use Rattle.std.proofs.lemmas.List.Elements.{All-cons}
 use Rattle.query_laws.specs.Orders.{AllStampsDiffer}
 use Rattle.query_laws.specs.Permuted.{Permuted}
 use Rattle.query_laws.proofs.Permutations.{Permuted-refl}
 use Rattle.partial_build.specs.Quota.{quota}
-use Rattle.level_slots.specs.Slots.{IsPartOf, ticks_of, weight_of, items_in, live_items, all_items}
+use Rattle.level_slots.specs.Slots.{IsPartOf, ticks_of, held_in, weight_of, items_in, live_items, all_items}
 use Rattle.level_slots.specs.Neighbours.{IsHalfway, IsTower, IsPunctual, IsDue, HaveRooms, HaveRoomsAbove, HaveRoomsAhead}
 use Rattle.level_slots.specs.Cost.{IsWithin, quotas}
 use Rattle.level_slots.proofs.Distinct.{AllStampsDiffer-part, IsPartOf-back, IsPartOf-refl}
@@ -133,6 +133,10 @@ returns-in-Some-clause-cost g p c g' light =
     (subst (λ n. IsWithin (quota slope base n) 2 (touches n) c.args.steps.now c.visit.new.steps) next c.visit.ensures.cost)
     (light_below (length c.args.lower.now.parts) k g' (weight_of (c.in-Some.level.now ∷ above)) two light') rest)
     (cases_lt (length c.args.lower.now.parts) 2)
+
+pub returns-in-Some-clause-held : goal.returns-in-Some-clause-held
+returns-in-Some-clause-held g p c =
+    ap₂ (λ n ns. n ∷ ns) (c.walk.ensures.held_below ∙ c.visit.ensures.held) c.walk.ensures.held ∙ sym (ap (map held_in) c.in-Some.ensures.cases.0)
 
 pub returns-in_default-clause-tower : goal.returns-in_default-clause-tower
 returns-in_default-clause-tower g p c =

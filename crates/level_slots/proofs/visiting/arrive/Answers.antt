@@ -1,9 +1,9 @@
-use Rattle.std.proofs.Common.{◌≡◌, ◌+◌, ◌∙◌, List, ◌∷◌, ◌++◌, subst, sym, ap, arith}
+use Rattle.std.proofs.Common.{◌≡◌, ◌+◌, ◌∙◌, List, ◌∷◌, ◌++◌, map, drop, subst, sym, ap, arith}
 use Rattle.std.specs.List.{flat_map}
 use Rattle.std.proofs.lemmas.List.{length_push}
 use Rattle.query_laws.specs.Permuted.{Permuted}
 use Rattle.partial_build.specs.Construction.{live_of}
-use Rattle.level_slots.specs.Slots.{ticks_of, held_in, held_of, lowest_held, weight_of, live_items, all_items}
+use Rattle.level_slots.specs.Slots.{ticks_of, held_in, lowest_held, weight_of, live_items, all_items}
 use Rattle.level_slots.specs.Level.{IsOfLevel}
 use Rattle.level_slots.specs.Neighbours.{IsDue, IsDueSoon, HaveRooms, HaveRoomsAbove, arrives}
 use Rattle.level_slots.specs.Stack.{AreAllLevels}
@@ -89,9 +89,8 @@ returns-clause-weight g c =
     weight-pushed contents stamp before lowest above h c.arrive.new.self c.args.part (ap (λ v. v.parts) c.arrive.ensures) (ap (λ v. v.level) c.arrive.ensures)
     ∙ ap (λ ls. weight_of ls + 1) (sym c.in-Some.ensures.cases.0)
 
-pub returns-clause-held : goal.returns-clause-held
-returns-clause-held g c =
-    omega (arith, ap held_in c.arrive.ensures, length_push c.in-Some.lowest.now.parts c.args.part, ap held_of c.in-Some.ensures.cases.0)
+pub returns-clause-held_above : goal.returns-clause-held_above
+returns-clause-held_above g c = sym (ap (λ ls. drop 1 (map held_in ls)) c.in-Some.ensures.cases.0)
 
 pub returns-clause-lowest : goal.returns-clause-lowest
 returns-clause-lowest g c =

@@ -1,4 +1,4 @@
-use Rattle.std.proofs.Common.{◌++◌}
+use Rattle.std.proofs.Common.{◌++◌, ◌∙◌}
 use Rattle.query_laws.specs.Permuted.{composed}
 use Rattle.level_slots.specs.Slots.{all_items}
 use Rattle.level_slots.proofs.Distinct.{AllStampsDiffer-part, IsPartOf-permuted, IsPartOf-then}
@@ -23,3 +23,6 @@ returns-clause-items g c =
 
 pub returns-clause-rooms : goal.returns-clause-rooms
 returns-clause-rooms g c soon = c.take_tick.ensures.rooms (c.arrive.ensures.rooms_ahead soon)
+
+pub returns-clause-held_above : goal.returns-clause-held_above
+returns-clause-held_above g c = c.take_tick.ensures.held_above ∙ c.arrive.ensures.held_above

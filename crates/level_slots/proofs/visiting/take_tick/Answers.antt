@@ -1,7 +1,7 @@
-use Rattle.std.proofs.Common.{◌≡◌, ◌+◌, ◌-◌, ◌*◌, ◌^◌, ◌<◌, ◌∙◌, ◌∷◌, Some, None, subst, sym, ap, arith}
+use Rattle.std.proofs.Common.{◌≡◌, ◌+◌, ◌-◌, ◌*◌, ◌^◌, ◌<◌, ◌∙◌, ◌∷◌, Some, None, map, drop, subst, sym, ap, arith}
 use Rattle.std.proofs.lemmas.List.Elements.{All-cons}
 use Rattle.query_laws.specs.Orders.{AllStampsDiffer}
-use Rattle.level_slots.specs.Slots.{IsPartOf, weight_of, all_items}
+use Rattle.level_slots.specs.Slots.{IsPartOf, held_in, weight_of, all_items}
 use Rattle.level_slots.specs.Neighbours.{IsPunctual}
 use Rattle.level_slots.specs.Cost.{IsWithin, quotas}
 use Rattle.level_slots.specs.Stack.{AreHalfway, HaveRoomsNext}
@@ -46,3 +46,6 @@ returns-clause-cost g c g' light =
     (subst (λ f. IsWithin (quotas g.B.Builder.SLOPE g.B.Builder.BASE f g') (2 * (g' - 0)) (g.B.Part.Part.mark_touches g') c.args.steps.now c.walk.new.steps) first
     (subst (λ k. IsWithin (quotas g.B.Builder.SLOPE g.B.Builder.BASE (k + 1) g') (2 * (g' - k)) (g.B.Part.Part.mark_touches g') c.args.steps.now c.walk.new.steps)
     h.0 (c.walk.ensures.cost g' (subst (λ ls. weight_of ls < 2 ^ (g' + 1)) c.in-Some.ensures.cases.0 light))))
+
+pub returns-clause-held_above : goal.returns-clause-held_above
+returns-clause-held_above g c = c.walk.ensures.held ∙ sym (ap (λ ls. drop 1 (map held_in ls)) c.in-Some.ensures.cases.0)

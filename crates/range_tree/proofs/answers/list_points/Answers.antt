@@ -1,8 +1,8 @@
 use Rattle.std.proofs.Common.{◌≡◌, ◌+◌, ◌-◌, ◌*◌, ◌≤◌, ◌++◌, List, [], length, length-append, map, refl, sym, ap, ◌∙◌, arith, subst, All, append_assoc}
-use Rattle.std.specs.List.{flat_map, filter, items_where_true}
+use Rattle.std.specs.List.{flat_map}
 use Rattle.std.proofs.lemmas.List.{nil_from_length, map-append}
 use Rattle.std.proofs.lemmas.List.Elements.{All-head, All-tail}
-use Rattle.query_laws.specs.Permuted.{Permuted, composed}
+use Rattle.query_laws.specs.Permuted.{composed}
 use Rattle.query_laws.proofs.Counting.{Spends-then, Spends-within, Spends-weaker}
 use Rattle.query_laws.proofs.Permutations.{Permuted-length, Permuted-append_comm}
 use Rattle.row_blocks.specs.Heights.{height_of}

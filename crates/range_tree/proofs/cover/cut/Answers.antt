@@ -1,5 +1,5 @@
-use Rattle.std.proofs.Common.{◌≡◌, ◌+◌, ◌≤◌, ◌<◌, ◌∙◌, length, arith, refl, sym, subst, ◌++◌, ap}
-use Rattle.std.specs.List.{flat_map, filter, items_where_true}
+use Rattle.std.proofs.Common.{◌≡◌, ◌+◌, ◌≤◌, ◌∙◌, length, arith, refl, subst}
+use Rattle.std.specs.List.{flat_map, filter}
 use Rattle.query_laws.specs.Permuted.{Permuted}
 use Rattle.query_laws.proofs.Counting.{Spends-nothing, Spends-within}
 use Rattle.map_shapes.specs.Questions.{is_in}

@@ -1,4 +1,4 @@
-use Rattle.std.proofs.Common.{◌+◌, ◌-◌, ◌≡◌, subst, sym, arith}
+use Rattle.std.proofs.Common.{subst, sym}
 use Rattle.row_blocks.specs.Blocks.{IsMultiple}
 use Rattle.row_blocks.proofs.Partitioning.{start_of-multiple}
 use Rattle.range_tree.proofs.cover.leaves.Goals as goal

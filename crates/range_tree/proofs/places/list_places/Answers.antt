@@ -1,4 +1,4 @@
-use Rattle.std.proofs.Common.{◌≡◌, ◌+◌, ◌++◌, List, map, ap, ◌∙◌, arith, refl, sym, append-nil, append_assoc}
+use Rattle.std.proofs.Common.{◌++◌, List, map, ap, ◌∙◌, arith, refl, sym, append-nil, append_assoc}
 use Rattle.std.specs.List.{filter}
 use Rattle.std.proofs.lemmas.List.{map-append}
 use Rattle.query_laws.proofs.Counting.{Spends-nothing, Spends-then, Spends-within}

@@ -1,4 +1,4 @@
-use Rattle.std.proofs.Common.{List, ◌≡◌, ◌+◌, ap, ◌∙◌, arith, refl, sym}
+use Rattle.std.proofs.Common.{List, ap, arith, refl, sym}
 use Rattle.std.specs.List.{sum_by, filter}
 use Rattle.std.proofs.lemmas.List.Sums.{sum_by-append}
 use Rattle.query_laws.proofs.Counting.{Spends-nothing, Spends-then, Spends-within}

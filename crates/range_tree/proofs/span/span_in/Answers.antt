@@ -1,4 +1,4 @@
-use Rattle.std.proofs.Common.{◌+◌, ◌-◌, ◌≤◌, ◌^◌, arith, refl}
+use Rattle.std.proofs.Common.{◌-◌, ◌≤◌, ◌^◌, arith, refl}
 use Rattle.query_laws.proofs.Counting.{Spends-then, Spends-within}
 use Rattle.builder_trait.proofs.SearchLemmas.{Spends-searched}
 use Rattle.range_tree.specs.Rows.{entry_at}

@@ -1,16 +1,18 @@
-use Rattle.std.proofs.Common.{◌≡◌, ◌+◌, ◌-◌, ◌*◌, ◌^◌, ◌<◌, ◌≤◌, ◌∙◌, length, All, Contains, ap, sym, subst, arith}
+use Rattle.std.proofs.Common.{◌≡◌, ℕ, ◌+◌, ◌-◌, ◌*◌, ◌^◌, ◌<◌, ◌≤◌, ◌∙◌, length, map, drop, sum, All, Contains, ap, sym, subst, arith}
 use Rattle.query_laws.specs.Orders.{AllStampsDiffer}
 use Rattle.query_laws.specs.Permuted.{Permuted}
 use Rattle.query_laws.proofs.Permutations.{Permuted-length}
 use Rattle.builder_trait.specs.Parts.{without}
 use Rattle.builder_trait.specs.Builders.{begun}
-use Rattle.level_slots.specs.Slots.{Stacked, IsPartOf, held_of, lowest_held, memory_of, weight_of, live_items, all_items, asked}
+use Rattle.level_slots.specs.Slots.{Stacked, IsPartOf, held_in, held_of, lowest_held, held_by_level, memory_of, weight_of, parts_of, live_items, all_items, asked}
 use Rattle.level_slots.specs.Neighbours.{IsPunctual, IsDue, IsDueSoon, HaveRoomsAbove}
 use Rattle.level_slots.specs.Stack.{IsStack, AreAllLevels}
 use Rattle.level_slots.specs.Cost.{IsWithin, quotas}
 use Rattle.level_slots.proofs.Distinct.{AllStampsDiffer-part}
 use Rattle.level_slots.proofs.MarkedLevels.{one_fewer}
 use Rattle.level_slots.proofs.Stacks.{written, IsStack-ticked}
+use Rattle.level_slots.proofs.FewParts.{asked-few, parts-few}
+use Rattle.level_slots.proofs.HeldByLevel.{each_level-same, held-split}
 use Rattle.level_slots.proofs.stack.Stack.delete.Goals as goal
 
 pub take_out-requires-clause-levels : goal.take_out-requires-clause-levels
@@ -126,13 +128,27 @@ returns-clause-weight g c =
     let whole = written v.levels.len v.levels.items new (sym c.deref_mut.ensures.len ∙ ap length value) (c.take_out.ensures.as_many ∙ ap length value) in
     ap weight_of whole ∙ c.take_out.ensures.weight ∙ ap weight_of (value ∙ ap (λ s. s.levels) c.self.view_is)
 
+pub returns-clause-each_level : goal.returns-clause-each_level
+returns-clause-each_level g c =
+    let v = c.self.inside in
+    let old = v.levels.items in
+    let new = c.take_out.new.levels in
+    let value : c.deref_mut.result.now ≡ old = c.deref_mut.ensures.value in
+    let whole = written v.levels.len old new (sym c.deref_mut.ensures.len ∙ ap length value) (c.take_out.ensures.as_many ∙ ap length value) in
+    let above : drop 1 (map held_in new) ≡ drop 1 (map held_in old) = c.take_out.ensures.held_above ∙ ap (λ ls. drop 1 (map held_in ls)) value in
+    each_level-same _ new old (length v.starters.items) (length v.starters.items) whole
+    (omega (arith, c.take_out.ensures.lowest, ap lowest_held value)) above
+    ∙ ap held_by_level c.self.view_is
+
 pub returns-clause-memory : goal.returns-clause-memory
 returns-clause-memory g c =
     let v = c.self.inside in
+    let old = v.levels.items in
     let new = c.take_out.new.levels in
-    let value : c.deref_mut.result.now ≡ v.levels.items = c.deref_mut.ensures.value in
-    let whole = written v.levels.len v.levels.items new (sym c.deref_mut.ensures.len ∙ ap length value) (c.take_out.ensures.as_many ∙ ap length value) in
-    omega (arith, ap held_of whole, c.take_out.ensures.held, ap held_of value, ap memory_of c.self.view_is)
+    let value : c.deref_mut.result.now ≡ old = c.deref_mut.ensures.value in
+    let whole = written v.levels.len old new (sym c.deref_mut.ensures.len ∙ ap length value) (c.take_out.ensures.as_many ∙ ap length value) in
+    let above : drop 1 (map held_in new) ≡ drop 1 (map held_in old) = c.take_out.ensures.held_above ∙ ap (λ ls. drop 1 (map held_in ls)) value in
+    omega (arith, ap held_of whole, held-split new, held-split old, ap sum above, c.take_out.ensures.lowest, ap lowest_held value, ap memory_of c.self.view_is)
 
 pub returns-clause-spare : goal.returns-clause-spare
 returns-clause-spare g c = omega (arith, c.requires.spare, ap (λ v. v.spare) c.self.view_is)
@@ -147,3 +163,21 @@ returns-clause-cost g c g' light =
     (2 * g' + asked g.B.Part.Part.contents g.B.Item.Item.stamp (g.B.Item.Item.stamp c.args.item.now) ls)
     (g.B.Part.Part.mark_touches g') c.args.steps.now c.take_out.new.steps) (value ∙ ap (λ s. s.levels) c.self.view_is)
     (c.take_out.ensures.cost g' (subst (λ ls. weight_of ls < 2 ^ (g' + 1)) whole light))
+
+pub returns-clause-few_asked : goal.returns-clause-few_asked
+returns-clause-few_asked g c g' light =
+    let contents = g.B.Part.Part.contents in
+    let stamp = g.B.Item.Item.stamp in
+    let v = c.self.inside in
+    let new = c.take_out.new.levels in
+    let value : c.deref_mut.result.now ≡ v.levels.items = c.deref_mut.ensures.value in
+    let whole = written v.levels.len v.levels.items new (sym c.deref_mut.ensures.len ∙ ap length value) (c.take_out.ensures.as_many ∙ ap length value) in
+    let old : weight_of v.levels.items < 2 ^ (g' + 1) =
+    subst (λ w. w < 2 ^ (g' + 1)) (ap weight_of whole ∙ c.take_out.ensures.weight ∙ ap weight_of value) light in
+    let few : asked contents stamp (stamp c.args.item.now) v.levels.items ≤ 3 * (g' + 1) =
+    omega (
+      arith,
+      asked-few contents stamp (stamp c.args.item.now) v.levels.items,
+      parts-few contents stamp g.B.Item.Item.before v.levels.items c.self.invariant.0.levels g' old,
+    ) in
+    subst (λ (s : Stacked g.row.B-Part.Denot g.row.B-Item.Denot). asked contents stamp (stamp c.args.item.now) s.levels ≤ 3 * (g' + 1)) c.self.view_is few

@@ -1,13 +1,14 @@
-use Rattle.std.proofs.Common.{◌≡◌, ◌≢◌, ℕ, ◌+◌, ◌-◌, ◌^◌, ◌<◌, ◌≤◌, ◌∙◌, List, [], ◌∷◌, ◌++◌, length, All, ap, sym, subst, arith}
+use Rattle.std.proofs.Common.{◌≡◌, ◌≢◌, ℕ, ◌+◌, ◌-◌, ◌^◌, ◌<◌, ◌≤◌, ◌∙◌, List, [], ◌∷◌, ◌++◌, length, map, drop, sum, All, ap, sym, subst, arith}
 use Rattle.query_laws.specs.Orders.{AllStampsDiffer}
 use Rattle.query_laws.specs.Permuted.{Permuted}
 use Rattle.query_laws.proofs.Permutations.{Permuted-length}
 use Rattle.builder_trait.specs.Builders.{begun}
-use Rattle.level_slots.specs.Slots.{Stacked, IsPartOf, held_of, lowest_held, memory_of, weight_of, live_items, all_items}
+use Rattle.level_slots.specs.Slots.{Stacked, IsPartOf, held_in, held_of, lowest_held, held_by_level, memory_of, weight_of, live_items, all_items}
 use Rattle.level_slots.specs.Neighbours.{IsDue, IsDueSoon, HaveRoomsAbove}
 use Rattle.level_slots.specs.Stack.{IsStack, AreAllLevels}
 use Rattle.level_slots.proofs.Distinct.{AllStampsDiffer-push, AllStampsDiffer-part}
 use Rattle.level_slots.proofs.Stacks.{written, IsStack-ticked, IsWithin-first}
+use Rattle.level_slots.proofs.HeldByLevel.{each_level-same, held-split}
 use Rattle.level_slots.proofs.stack.Stack.insert.Goals as goal
 
 pub take_in-requires-clause-some : goal.take_in-requires-clause-some
@@ -132,13 +133,27 @@ take_in-requires-clause-place g c =
     let st = c.self.invariant.0 in
     omega (arith, ap lowest_held c.deref_mut.ensures.value, st.lowest_few, st.spare_few, c.requires.spare, ap (λ v. v.spare) c.self.view_is)
 
+pub returns-clause-each_level : goal.returns-clause-each_level
+returns-clause-each_level g c =
+    let v = c.self.inside in
+    let old = v.levels.items in
+    let new = c.take_in.new.levels in
+    let value : c.deref_mut.result.now ≡ old = c.deref_mut.ensures.value in
+    let whole = written v.levels.len old new (sym c.deref_mut.ensures.len ∙ ap length value) (c.take_in.ensures.as_many ∙ ap length value) in
+    let above : drop 1 (map held_in new) ≡ drop 1 (map held_in old) = c.take_in.ensures.held_above ∙ ap (λ ls. drop 1 (map held_in ls)) value in
+    each_level-same _ new old (length c.part_of-part.new.starters.items) (length v.starters.items) whole
+    (omega (arith, c.take_in.ensures.lowest, ap lowest_held value, c.part_of-part.ensures.one_fewer)) above
+    ∙ ap held_by_level c.self.view_is
+
 pub returns-clause-memory : goal.returns-clause-memory
 returns-clause-memory g c =
     let v = c.self.inside in
+    let old = v.levels.items in
     let new = c.take_in.new.levels in
-    let value : c.deref_mut.result.now ≡ v.levels.items = c.deref_mut.ensures.value in
-    let whole = written v.levels.len v.levels.items new (sym c.deref_mut.ensures.len ∙ ap length value) (c.take_in.ensures.as_many ∙ ap length value) in
-    omega (arith, ap held_of whole, c.take_in.ensures.held, ap held_of value, c.part_of-part.ensures.one_fewer, ap memory_of c.self.view_is)
+    let value : c.deref_mut.result.now ≡ old = c.deref_mut.ensures.value in
+    let whole = written v.levels.len old new (sym c.deref_mut.ensures.len ∙ ap length value) (c.take_in.ensures.as_many ∙ ap length value) in
+    let above : drop 1 (map held_in new) ≡ drop 1 (map held_in old) = c.take_in.ensures.held_above ∙ ap (λ ls. drop 1 (map held_in ls)) value in
+    omega (arith, ap held_of whole, held-split new, held-split old, ap sum above, c.take_in.ensures.lowest, ap lowest_held value, c.part_of-part.ensures.one_fewer, ap memory_of c.self.view_is)
 
 pub returns-clause-spare : goal.returns-clause-spare
 returns-clause-spare g c = omega (arith, c.requires.spare, ap (λ v. v.spare) c.self.view_is)
@@ -151,3 +166,12 @@ returns-clause-cost g c g' light =
     let whole = written v.levels.len v.levels.items new (sym c.deref_mut.ensures.len ∙ ap length value) (c.take_in.ensures.as_many ∙ ap length value) in
     IsWithin-first g.B.Builder.SLOPE g.B.Builder.BASE g' (c.part_of-part.ensures.cost (g.B.Part.Part.mark_touches g'))
     (c.take_in.ensures.cost g' (subst (λ ls. weight_of ls < 2 ^ (g' + 1)) whole light))
+
+pub returns-clause-some_turns : goal.returns-clause-some_turns
+returns-clause-some_turns g c =
+    let v = c.self.inside in
+    let new = c.take_in.new.levels in
+    let value : c.deref_mut.result.now ≡ v.levels.items = c.deref_mut.ensures.value in
+    let light : weight_of new < 2 ^ (31 + 1) = omega (arith, c.take_in.ensures.weight, ap weight_of value, ap (λ s. weight_of s.levels) c.self.view_is, c.requires.light) in
+    let ticked = c.take_in.ensures.cost 31 light in
+    omega (arith, c.part_of-part.ensures.some_turns, ticked.spent.turns_spent)

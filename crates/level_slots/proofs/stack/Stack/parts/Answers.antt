@@ -1,8 +1,9 @@
-use Rattle.std.proofs.Common.{◌≡◌, ℕ, ◌<◌, ◌∙◌, List, length, take, get_or, sum_by, refl, ap, arith}
+use Rattle.std.proofs.Common.{◌≡◌, ℕ, ◌<◌, ◌∙◌, List, length, take, get_or, sum_by, ◌^◌, ◌+◌, ◌*◌, ◌≤◌, refl, ap, subst, arith}
 use Rattle.std.proofs.lemmas.Grind.{common_steps}
 use Rattle.std.proofs.lemmas.List.Sums.{sum_by_more}
 use Rattle.std.proofs.lemmas.List.Recursion.{is_sum_by}
-use Rattle.level_slots.specs.Slots.{Slots, parts_of}
+use Rattle.level_slots.specs.Slots.{Slots, weight_of, parts_of}
+use Rattle.level_slots.proofs.FewParts.{parts-few}
 use Rattle.level_slots.proofs.stack.Stack.parts.Goals as goal
 
 summed : {P Item : Type 0} (levels : List (Slots P Item)) (n : ℕ) → n ≡ length levels
@@ -23,9 +24,14 @@ loop-level-preserved g c =
       few = omega (arith, c.parts.ensures.few, len, c.loop-level.invariant.few);
     }
 
-pub returns : goal.returns
-returns g c =
+pub returns-clause-value : goal.returns-clause-value
+returns-clause-value g c =
     let levels = c.args.self.now.levels in
     let same : c.deref-level-items.result.now ≡ levels = c.deref-level-items.ensures.value ∙ ap (λ s. s.levels) c.self.view_is in
     c.loop-level.invariant.parts
     ∙ summed levels c.loop-level.level-index (omega (arith, c.loop-level-test.false, c.loop-level.auto.level-index-end, ap length same))
+
+pub returns-clause-few : goal.returns-clause-few
+returns-clause-few g c =
+    subst (λ ls. (g' : ℕ) → weight_of ls < 2 ^ (g' + 1) → parts_of ls ≤ 3 * (g' + 1)) (ap (λ s. s.levels) c.self.view_is)
+    (parts-few g.B.Part.Part.contents g.B.Item.Item.stamp g.B.Item.Item.before c.self.inside.levels.items c.self.invariant.0.levels)

@@ -14,8 +14,13 @@ overflow_add-result g c =
     let held = IsBounded-fits 1 c.deref.result.now c.rooms_held.result c.rooms_held.ensures.few in
     omega (arith, held, c.len.ensures, c.self.inside.starters.ok.0, c.self.invariant.0.starters_few)
 
-pub returns : goal.returns
-returns g c =
+pub returns-clause-few : goal.returns-clause-few
+returns-clause-few g c =
+    let held = IsBounded-fits 1 c.deref.result.now c.rooms_held.result c.rooms_held.ensures.few in
+    omega (arith, held, c.len.ensures, c.self.inside.starters.ok.0, c.self.invariant.0.starters_few)
+
+pub returns-clause-value : goal.returns-clause-value
+returns-clause-value g c =
     let starters : c.len.result ≡ length c.self.inside.starters.items = omega (arith, c.len.ensures, c.self.inside.starters.ok.0) in
     let held : c.rooms_held.result ≡ rooms_in c.self.inside.levels.items = c.rooms_held.ensures.value ∙ ap rooms_in c.deref.ensures.value in
     let same : length c.self.inside.starters.items + rooms_in c.self.inside.levels.items ≡ rooms_of c.args.self.now = ap rooms_of c.self.view_is in

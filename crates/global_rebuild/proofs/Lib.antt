@@ -1,0 +1,6 @@
+pub mod Walking
+pub mod Forgetting
+pub mod Weights
+pub mod Appending
+pub mod Dropping
+pub mod Swapping

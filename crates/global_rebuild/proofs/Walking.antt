@@ -1,0 +1,70 @@
+-- The walk along a chain, an item after another.
+use Rattle.std.proofs.Common.{◌≡◌, ℕ, ◌+◌, ◌<◌, ◌≤◌, ◌∙◌, true, List, [], ◌∷◌, ◌++◌, Option, Some, None, All, map, sym, ap, subst, arith}
+use Rattle.std.specs.Option.{option_map_or}
+use Rattle.std.proofs.lemmas.Bool.Decides.{nat_tests}
+use Rattle.id_chain.specs.Chain.{Entry, is_linked, item_at, before, IsCursor, before_cursor}
+use Rattle.id_chain.specs.StampsRise.{StampsRise}
+use Rattle.id_chain.proofs.Entries.{is_linked-append, item_at-linked}
+use Rattle.id_chain.proofs.Stamps.{is_before-by_stamp}
+use Rattle.std.proofs.lemmas.Grind.{common_steps}
+use Rattle.std.proofs.lemmas.List.{map-append}
+use Rattle.std.proofs.lemmas.List.Elements.{All-cons}
+use Rattle.std.proofs.lemmas.List.Sorted.{All-permutation}
+use Rattle.query_laws.specs.Permuted.{Permuted, same_head, composed}
+use Rattle.query_laws.proofs.Permutations.{IsPermutation-from_Permuted, Permuted-append_comm, Permuted-sym}
+use Rattle.builder_trait.specs.Parts.{Contents}
+use Rattle.level_slots.specs.Slots.{IsPartOf, live_items, all_items}
+use Rattle.level_slots.proofs.Marks.{All-first}
+use Rattle.global_rebuild.specs.Index.{Shadow, IsShadowOf, stamp_at}
+
+module _ {Item : Type 0} (stamp : Item → ℕ) where
+  rise_within : (low : ℕ) (es : List (Entry Item)) (high : ℕ) → StampsRise stamp low es high → low ≤ high
+  rise_within low [] high rise = rise
+  rise_within low (e ∷ es) high rise = let rest = rise_within (stamp e.item + 1) es high rise.1 in omega (arith, rest, rise.0)
+
+  -- the stamp of a linked item is below the number above all
+  pub item_at-below : (handle low : ℕ) (item : Item) (es : List (Entry Item)) (high : ℕ) → StampsRise stamp low es high → item_at handle es ≡ Some item
+      → stamp item < high
+  item_at-below handle low item [] high rise is = absurd cc
+  item_at-below handle low item (e ∷ es) high rise is =
+      grind (arith, nat_tests, rise_within (stamp e.item + 1) es high rise.1, item_at-below handle (stamp e.item + 1) item es high rise.1)
+
+  -- an item has a smaller stamp than the next one
+  pub stamp_at-next : (handle stamps : ℕ) (item : Item) (es : List (Entry Item)) (next : Option ℕ) → StampsRise stamp 0 es stamps
+      → item_at handle es ≡ Some item → IsCursor next es
+      → before_cursor next es ≡ before handle es ++ record { handle = handle; item = item } ∷ [] → stamp item < stamp_at stamp next es stamps
+  stamp_at-next handle stamps item es None rise is cursor walked = item_at-below handle 0 item es stamps rise is
+  stamp_at-next handle stamps item es (Some next) rise is cursor walked =
+      let later = item_at-linked next es cursor in
+      let told = is_before-by_stamp stamp 0 stamps next handle later.0 item es rise later.1 is in
+      let linked : is_linked handle (before next es) ≡ true =
+      ap (is_linked handle) walked ∙ is_linked-append handle (before handle es) (record { handle = handle; item = item } ∷ []) ∙ grind (arith, nat_tests, common_steps) in
+      subst (λ o. stamp item < option_map_or stamp o stamps) (sym later.1) (grind (arith, nat_tests, told, linked))
+
+module _ {P Item : Type 0} (contents : P → Contents Item) (stamp : Item → ℕ) where
+  -- the shadow takes the item at the cursor
+  pub IsShadowOf-next : (r r' : Shadow P Item) (es : List (Entry Item)) (stamps handle : ℕ) (item : Item) → StampsRise stamp 0 es stamps
+      → IsShadowOf contents stamp r es stamps → r.cursor ≡ Some handle → item_at handle es ≡ Some item → IsCursor r'.cursor es
+      → before_cursor r'.cursor es ≡ before handle es ++ record { handle = handle; item = item } ∷ []
+      → Permuted (live_items contents r'.stack.levels) (item ∷ live_items contents r.stack.levels)
+      → IsPartOf (all_items contents r'.stack.levels) (item ∷ all_items contents r.stack.levels) → IsShadowOf contents stamp r' es stamps
+  IsShadowOf-next r r' es stamps handle item rise h at is cursor walked live items =
+      let item_of : Entry Item → Item = λ e. e.item in
+      let later = stamp_at-next stamp handle stamps item es r'.cursor rise is cursor walked in
+      let here : stamp_at stamp r.cursor es stamps ≡ stamp item = ap (λ c. stamp_at stamp c es stamps) at ∙ ap (λ o. option_map_or stamp o stamps) is in
+      let lower : All (λ x. stamp x < stamp_at stamp r'.cursor es stamps) (all_items contents r.stack.levels) =
+      λ k d within. let low = h.below k d within in omega (arith, low, here, later) in
+      record {
+        cursor = cursor;
+        live = subst (λ es'. Permuted (live_items contents r'.stack.levels) (map item_of es')) (sym walked)
+            (subst (λ l. Permuted (live_items contents r'.stack.levels) l) (sym (map-append item_of (before handle es) (record { handle = handle; item = item } ∷ [])))
+            (composed live (composed (same_head item (subst (λ c. Permuted (live_items contents r.stack.levels) (map item_of (before_cursor c es))) at h.live))
+            (Permuted-append_comm (item ∷ []) (map item_of (before handle es))))));
+        below = AreBelow-part (all_items contents r'.stack.levels) (item ∷ all_items contents r.stack.levels) (stamp_at stamp r'.cursor es stamps) items
+            (All-cons (λ x. stamp x < stamp_at stamp r'.cursor es stamps) item (all_items contents r.stack.levels) later lower);
+      }
+    where
+      AreBelow-part : (xs ys : List Item) (limit : ℕ) → IsPartOf xs ys → All (λ x. stamp x < limit) ys → All (λ x. stamp x < limit) xs
+      AreBelow-part xs ys limit part each =
+          All-first (λ x. stamp x < limit) xs part.0
+          (All-permutation (λ x. stamp x < limit) ys (xs ++ part.0) (IsPermutation-from_Permuted (Permuted-sym part.1)) each)

@@ -1,0 +1,33 @@
+use Rattle.std.proofs.Common.{◌≡◌, ◌+◌, ◌∙◌, ◌∷◌, inr, length, ap, sym, subst, arith}
+use Rattle.query_laws.specs.Permuted.{Permuted}
+use Rattle.query_laws.proofs.Permutations.{Permuted-length}
+use Rattle.level_slots.specs.Slots.{IsPartOf, live_items, all_items, weight_of}
+use Rattle.global_rebuild.specs.Index.{live_in}
+use Rattle.global_rebuild.proofs.Walking.{IsShadowOf-next}
+use Rattle.global_rebuild.proofs.shadow.Shadow.take_next.Given.{Over}
+use Rattle.global_rebuild.proofs.shadow.Shadow.take_next.Goals as goal
+
+-- one more is live
+more : (g : Over) (c : goal.After-self-1 g) → live_in g.B.Part.Part.contents c.insert.new.self ≡ live_in g.B.Part.Part.contents c.args.self.now.stack + 1
+more g c =
+    let contents = g.B.Part.Part.contents in
+    omega (arith, Permuted-length c.insert.ensures.live, ap length c.in_ok-prepare.ensures.live, ap (λ r. live_in contents r.stack) c.self.view_is)
+
+pub returns-clause-dead : goal.returns-clause-dead
+returns-clause-dead g c =
+    omega (arith, more g c, c.insert.ensures.weight, c.in_ok-prepare.ensures.weight, ap (λ r. weight_of r.stack.levels) c.self.view_is)
+
+pub returns-clause-taken : goal.returns-clause-taken
+returns-clause-taken g c = inr (more g c)
+
+pub returns-clause-at_most : goal.returns-clause-at_most
+returns-clause-at_most g c = omega (arith, more g c)
+
+pub returns-clause-shadow : goal.returns-clause-shadow
+returns-clause-shadow g c stamps rise h =
+    let contents = g.B.Part.Part.contents in
+    IsShadowOf-next contents g.B.Item.Item.stamp c.args.self.now (record { stack = c.insert.new.self; cursor = c.next-self-inside.result }) c.args.chain.now.entries
+    stamps c.in-Some.handle c.item.result rise h (sym (ap (λ r. r.cursor) c.self.view_is) ∙ c.in-Some.is) c.item.ensures.item c.next-self-inside.ensures.linked
+    (c.next-self-inside.ensures.before ∙ c.item.ensures.up_to)
+    (subst (λ l. Permuted (live_items contents c.insert.new.self.levels) (c.item.result ∷ l)) (c.in_ok-prepare.ensures.live ∙ ap (λ r. live_items contents r.stack.levels) c.self.view_is) c.insert.ensures.live)
+    (subst (λ l. IsPartOf (all_items contents c.insert.new.self.levels) (c.item.result ∷ l)) (c.in_ok-prepare.ensures.items ∙ ap (λ r. all_items contents r.stack.levels) c.self.view_is) c.insert.ensures.items)

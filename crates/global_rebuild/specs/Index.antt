@@ -1,0 +1,121 @@
+-- What contracts see of an index, beside the chain of its items (Overmars 1983).
+use Rattle.std.specs.Prelude.{◌≡◌, ℕ, ◌+◌, ◌-◌, ◌*◌, ◌^◌, ◌<◌, ◌≤◌, Bool, List, Option, Some, None, All, if◌then◌else◌, nat_le, nat_lt, length, map}
+use Rattle.std.specs.Option.{option_map, option_map_or}
+use Rattle.query_laws.specs.Permuted.{Permuted}
+use Rattle.builder_trait.specs.Parts.{Contents}
+use Rattle.id_chain.specs.Chain.{Entry, HandlesDiffer, item_at, IsCursor, before_cursor}
+use Rattle.id_chain.specs.StampsRise.{StampsRise}
+use Rattle.level_slots.specs.Slots.{Stacked, live_items, all_items, weight_of, memory_of}
+use Rattle.level_slots.specs.Rooms.{rooms_of, forecast_of}
+
+-- the stack that is being made, and the cursor of the walk along the chain: the handle of the item that comes next
+pub record Shadow (P Item : Type 0) : Type 0 where
+  pub stack : Stacked P Item
+  pub cursor : Option ℕ
+
+-- the stack that answers; the shadow, while a rebuild runs; how many parts of a retired stack are still in memory; and a number above
+-- every stamp that was ever given
+pub record Indexed (P Item : Type 0) : Type 0 where
+  pub main : Stacked P Item
+  pub shadow : Option (Shadow P Item)
+  pub retired : Option ℕ
+  pub stamps : ℕ
+
+-- how many items are left after a walk by four, which ends the rebuild where none is
+abbrev pub walked_on : Option ℕ → Option ℕ
+walked_on None = None
+walked_on (Some w) = if nat_le w 4 then None else Some (w - 4)
+
+module _ {Item : Type 0} (stamp : Item → ℕ) where
+  -- the stamp of the item at a cursor, and a number above all past the last
+  abbrev pub stamp_at : Option ℕ → List (Entry Item) → ℕ → ℕ
+  stamp_at None es stamps = stamps
+  stamp_at (Some handle) es stamps = option_map_or stamp (item_at handle es) stamps
+
+-- how many parts of a retired stack are still in memory
+abbrev pub retired_parts : {P Item : Type 0} → Indexed P Item → ℕ
+retired_parts i = option_map_or (λ n. n) i.retired 0
+
+-- the weight of the shadow, 0 where none is being made
+abbrev pub shadow_weight : {P Item : Type 0} → Indexed P Item → ℕ
+shadow_weight i = option_map_or (λ r. weight_of r.stack.levels) i.shadow 0
+
+-- the same of its rooms that are held
+abbrev pub shadow_rooms : {P Item : Type 0} → Indexed P Item → ℕ
+shadow_rooms i = option_map_or (λ r. rooms_of r.stack) i.shadow 0
+
+-- a stack holds no more rooms than may be wanted within two ticks
+abbrev pub IsForecast : {P Item : Type 0} → Stacked P Item → Type 0
+IsForecast s = rooms_of s ≤ 2 + forecast_of s.levels
+
+module _ {P Item : Type 0} (contents : P → Contents Item) where
+  abbrev pub live_in : Stacked P Item → ℕ
+  live_in s = length (live_items contents s.levels)
+
+  -- a shadow holds what it held, and the walk is where it was
+  pub record IsKept (r r' : Shadow P Item) : Type 0 where
+    pub cursor : r'.cursor ≡ r.cursor
+    pub live : live_items contents r'.stack.levels ≡ live_items contents r.stack.levels
+    pub items : all_items contents r'.stack.levels ≡ all_items contents r.stack.levels
+    pub weight : weight_of r'.stack.levels ≡ weight_of r.stack.levels
+
+  -- how much of the weight is dead
+  abbrev pub dead_in : Stacked P Item → ℕ
+  dead_in s = weight_of s.levels - live_in s
+
+  -- how many items the walk hasn't come by, while a rebuild runs
+  abbrev pub unwalked : Indexed P Item → Option ℕ
+  unwalked i = option_map (λ r. live_in i.main - live_in r.stack) i.shadow
+
+  -- the weights of the two stacks after a walk by four: the shadow weighs as much more as items were handed over, and is the main stack
+  -- where it has all
+  abbrev pub main_weight_on : Indexed P Item → ℕ
+  main_weight_on i = option_map_or (λ w. if nat_le w 4 then shadow_weight i + w else weight_of i.main.levels) (unwalked i) (weight_of i.main.levels)
+
+  abbrev pub shadow_weight_on : Indexed P Item → ℕ
+  shadow_weight_on i = option_map_or (λ w. if nat_le w 4 then 0 else shadow_weight i + 4) (unwalked i) 0
+
+  -- how many parts of a retired stack are in memory then, of which one is given up
+  abbrev pub retired_parts_on : Indexed P Item → ℕ
+  retired_parts_on i = option_map_or (λ w. if nat_le w 4 then memory_of i.main else retired_parts i) (unwalked i) (retired_parts i) - 1
+
+  -- more of the weight is dead than half of what is live, and eight
+  abbrev pub is_heavy : Stacked P Item → Bool
+  is_heavy main = nat_lt (live_in main + 16) (2 * dead_in main)
+
+  -- the rebuild is in time, with so many ticks more than it needs
+  pub record IsInTime (ahead : ℕ) (main : Stacked P Item) (r : Shadow P Item) : Type 0 where
+    pub few : live_in r.stack ≤ live_in main
+    pub main_light : 2 * dead_in main + (live_in main - live_in r.stack) + ahead ≤ 2 * live_in main + 19
+    pub shadow_light : 3 * dead_in r.stack + (live_in main - live_in r.stack) + ahead ≤ live_in main
+
+  -- no rebuild runs, and little is dead
+  abbrev pub IsQuiet : Stacked P Item → Type 0
+  IsQuiet main = 2 * dead_in main ≤ live_in main + 16
+
+  -- memory is there for a delete, and while a rebuild runs it is four items ahead, and some are left
+  pub record IsPrepared (i : Indexed P Item) : Type 0 where
+    pub main : 1 ≤ i.main.spare
+    pub shadow : (r : Shadow P Item) → i.shadow ≡ Some r
+        → (1 ≤ r.stack.spare) × IsInTime 4 i.main r × (1 ≤ live_in i.main - live_in r.stack)
+
+  module _ (stamp : Item → ℕ) where
+    -- a shadow has the items of a chain before the cursor; those that are dead in it were before the cursor too
+    pub record IsShadowOf (r : Shadow P Item) (es : List (Entry Item)) (stamps : ℕ) : Type 0 where
+      pub cursor : IsCursor r.cursor es
+      pub live : Permuted (live_items contents r.stack.levels) (map (λ e. e.item) (before_cursor r.cursor es))
+      pub below : All (λ x. stamp x < stamp_at stamp r.cursor es stamps) (all_items contents r.stack.levels)
+
+    -- the index is that of the items of a chain
+    pub record IsIndexOf (i : Indexed P Item) (es : List (Entry Item)) : Type 0 where
+      pub live : Permuted (live_items contents i.main.levels) (map (λ e. e.item) es)
+      pub shadow : (r : Shadow P Item) → i.shadow ≡ Some r → IsShadowOf r es i.stamps
+      pub rise : StampsRise stamp 0 es i.stamps
+      pub differ : HandlesDiffer es
+      pub few : length es < 2 ^ 29
+
+    -- What holds of an index between any two calls.
+    pub record IsIndex (i : Indexed P Item) : Type 0 where
+      pub below : All (λ x. stamp x < i.stamps) (all_items contents i.main.levels)
+      pub quiet : i.shadow ≡ None → IsQuiet i.main
+      pub in_time : (r : Shadow P Item) → i.shadow ≡ Some r → IsInTime 0 i.main r

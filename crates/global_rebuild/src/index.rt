@@ -1,0 +1,379 @@
+//! The index.
+ghost use Rattle.std.specs.Prelude.{◌≡◌, ℕ, ◌+◌, ◌-◌, ◌*◌, ◌^◌, ◌<◌, ◌≤◌, ◌⊎◌, ◌++◌, ◌∷◌, [], List, None, Some, true, false, if◌then◌else◌, IfOk, IsTrue, IsErr, OnErr, length, map};
+ghost use Rattle.std.specs.Option.{is_some, option_map, option_map_or};
+ghost use Rattle.query_laws.specs.StepLedger.{Spends};
+ghost use Rattle.id_chain.specs.Chain.{Entry, HandlesDiffer, is_linked, item_at, IsCursor, before_cursor, without_handle};
+ghost use Rattle.level_slots.specs.Slots.{live_items, all_items, weight_of, parts_of, memory_of};
+ghost use Rattle.level_slots.specs.Rooms.{rooms_of};
+ghost use Rattle.level_slots.specs.Asking.{touches_of};
+ghost use Rattle.level_slots.specs.Cost.{IsWithin, quotas};
+ghost use Rattle.global_rebuild.specs.Index.{Shadow as Walked, live_in, unwalked, walked_on, shadow_weight, main_weight_on, shadow_weight_on, shadow_rooms, retired_parts, retired_parts_on, is_heavy, IsForecast, IsKept, IsInTime, IsIndex, IsIndexOf, IsPrepared};
+
+use crate::shadow::Shadow;
+use builder_trait::{Answers, Asking, Builder, Part};
+use id_chain::{Chain, Handle};
+use level_slots::{Retired, Stack};
+use query_laws::step_ledger::Steps;
+use query_laws::{Item, NoMemory, Question};
+use std::alloc::Global;
+use std::marker::Model;
+use std::mem;
+use std::sync::ledger::Ledger;
+
+/// A stack of the items of a chain, which is made anew while it answers, before too much of it is dead (Overmars 1983).
+///
+/// Beside the stack there may be a shadow: a second stack that gets the items of the chain four an update, from the first one on. When it has
+/// all of them it takes the place of the first, whose memory is then given up a part an update.
+///
+/// An update is a [`prepare`](Index::prepare), which may be refused memory, and then a commit, which can't fail: an insert after the item was
+/// appended to the chain, a delete before it is unlinked.
+#[derive(Drop)]
+pub struct Index<B: Builder> {
+    alloc: Global,
+    main: Stack<B>,
+    shadow: Option<Shadow<B>>,
+    retired: Option<Retired<B>>,
+    stamps: u64,
+}
+
+impl<B: Builder> Model for Index<B> {
+    ghost use Rattle.global_rebuild.specs.Index.{Indexed, IsIndex};
+
+    ghost Value = { Indexed B.Part B.Item };
+
+    ghost view = { λ i. record { main = i.main; shadow = i.shadow; retired = i.retired; stamps = i.stamps } };
+
+    ghost invariant = { λ i. IsIndex B.Part.Part.contents B.Item.stamp (record { main = i.main; shadow = i.shadow; retired = i.retired; stamps = i.stamps }) };
+}
+
+impl<B: Builder> Index<B> {
+    /// An index of no items. It takes no memory; [`Index::prepare`] takes its from `alloc`.
+    pub fn new(alloc: Global) -> Index<B>
+        ensures { result ≡ record { main = record { levels = []; spare = 0; starters = 0 }; shadow = None; retired = None; stamps = 0 } }
+    {
+        Index {
+            alloc,
+            main: Stack::new(alloc),
+            shadow: None,
+            retired: None,
+            stamps: 0,
+        }
+    }
+
+    /// Readies the next update. While a rebuild runs, it hands four items over to the shadow, or all that are left, each an insert, and puts
+    /// it in the place of the main stack when it has all. Then it gives up a part of a stack that was put out of use, and takes the memory of
+    /// one update.
+    ///
+    /// `NoMemory` where it isn't given. The items are as before; some may be handed over, and the rebuild may have ended.
+    pub fn prepare<L: Ledger>(
+        &mut self,
+        chain: &Chain<B::Item>,
+        steps: &mut Steps<L>,
+    ) -> Result<(), NoMemory>
+        requires chain { IsIndexOf B.Part.Part.contents B.Item.stamp self.old chain.now.entries }
+        ensures chain { IsIndexOf B.Part.Part.contents B.Item.stamp self.new chain.now.entries }
+        ensures stamps { self.new.stamps ≡ self.old.stamps }
+        ensures prepared { IfOk result (λ _. IsPrepared B.Part.Part.contents self.new) }
+        ensures rooms { IfOk result (λ _. IsForecast self.new.main) }
+        ensures shadow_rooms { IfOk result (λ _. (r : Walked B.Part B.Item) → self.new.shadow ≡ Some r → IsForecast r.stack) }
+        ensures walked { IfOk result (λ _. unwalked B.Part.Part.contents self.new ≡ walked_on (unwalked B.Part.Part.contents self.old)) }
+        ensures weights { IfOk result (λ _. (weight_of self.new.main.levels ≡ main_weight_on B.Part.Part.contents self.old)
+            × (shadow_weight self.new ≡ shadow_weight_on B.Part.Part.contents self.old)) }
+        ensures retired { IfOk result (λ _. retired_parts self.new ≡ retired_parts_on B.Part.Part.contents self.old) }
+        ensures cost { (g : ℕ) → 2 * live_in B.Part.Part.contents self.old.main + 10 < 2 ^ (g + 1)
+            → IsWithin (4 * quotas B.SLOPE B.BASE 0 g) (4 * (2 * g)) (B.Part.Part.mark_touches g) steps.old steps.new }
+    {
+        self.walk(chain, 4, steps)?;
+        let has_walked = self.has_walked();
+        if has_walked {
+            swap(&mut self.main, &mut self.shadow, &mut self.retired);
+        }
+        give_up(&mut self.main, &mut self.retired);
+        take_memory(&mut self.main, &mut self.shadow)
+    }
+
+    /// Takes in the last item of a chain, which has a stamp that no item had before: an insert. The shadow gets it later.
+    pub fn commit_insert<L: Ledger>(
+        &mut self,
+        chain: &Chain<B::Item>,
+        handle: Handle,
+        steps: &mut Steps<L>,
+    )
+        requires prepared { IsPrepared B.Part.Part.contents self.old }
+        requires last { (front : List (Entry B.Item)) × (item : B.Item) × (chain.now.entries ≡ front ++ record { handle = handle; item = item } ∷ [])
+            × IsIndexOf B.Part.Part.contents B.Item.stamp self.old front × (self.old.stamps ≤ B.Item.stamp item) × (B.Item.stamp item < 2 ^ 63) }
+        requires differ { HandlesDiffer chain.now.entries }
+        requires few { length chain.now.entries < 2 ^ 29 }
+        ensures chain { IsIndexOf B.Part.Part.contents B.Item.stamp self.new chain.now.entries }
+        ensures stamps { (item : B.Item) → item_at handle chain.now.entries ≡ Some item → self.new.stamps ≡ B.Item.stamp item + 1 }
+        ensures weight { weight_of self.new.main.levels ≡ weight_of self.old.main.levels + 1 }
+        ensures rebuild { (self.new.shadow ≡ self.old.shadow) × (self.new.retired ≡ self.old.retired) }
+        ensures some_turns { steps.old.turns + 3 ≤ steps.new.turns }
+        ensures cost { (g : ℕ) → 2 * live_in B.Part.Part.contents self.old.main + 10 < 2 ^ (g + 1)
+            → IsWithin (quotas B.SLOPE B.BASE 0 g) (2 * g) (B.Part.Part.mark_touches g) steps.old steps.new }
+    {
+        let item = chain.item(handle);
+        self.main.insert(item, steps);
+        self.stamps = item.stamp() + 1;
+    }
+
+    /// Lets go of a linked item, which the caller unlinks next: a delete from the main stack, and one from the shadow where it was handed
+    /// over. Where too much of the main stack is dead then, a rebuild starts, at the first of the items that stay.
+    pub fn commit_delete<L: Ledger>(
+        &mut self,
+        chain: &Chain<B::Item>,
+        handle: Handle,
+        steps: &mut Steps<L>,
+    )
+        requires prepared { IsPrepared B.Part.Part.contents self.old }
+        requires chain { IsIndexOf B.Part.Part.contents B.Item.stamp self.old chain.now.entries }
+        requires linked { IsTrue (is_linked handle chain.now.entries) }
+        ensures chain { IsIndexOf B.Part.Part.contents B.Item.stamp self.new (without_handle handle chain.now.entries) }
+        ensures stamps { self.new.stamps ≡ self.old.stamps }
+        ensures weight { weight_of self.new.main.levels ≡ weight_of self.old.main.levels }
+        ensures shadow_weight { shadow_weight self.new ≡ shadow_weight self.old }
+        ensures retired { self.new.retired ≡ self.old.retired }
+        ensures starts { self.old.shadow ≡ None → unwalked B.Part.Part.contents self.new
+            ≡ (if is_heavy B.Part.Part.contents self.new.main then Some (live_in B.Part.Part.contents self.new.main) else None) }
+        ensures goes_on { (r : Walked B.Part B.Item) → self.old.shadow ≡ Some r → unwalked B.Part.Part.contents self.new
+            ≡ option_map (λ w. if is_linked handle (before_cursor r.cursor chain.now.entries) then w else w - 1) (unwalked B.Part.Part.contents self.old) }
+        ensures cost { (g : ℕ) → 2 * live_in B.Part.Part.contents self.old.main + 10 < 2 ^ (g + 1)
+            → IsWithin (2 * quotas B.SLOPE B.BASE 1 g) (2 * (5 * g + 3)) (B.Part.Part.mark_touches g) steps.old steps.new }
+    {
+        let item = chain.item(handle);
+        self.main.delete(&item, steps);
+        let Some(shadow) = &mut self.shadow else {
+            if 2 * self.main.weight() > 3 * self.main.live() + 16 {
+                start(
+                    &mut self.shadow,
+                    Shadow::new(self.alloc, first_but(chain, handle)),
+                );
+            }
+            return;
+        };
+        let was_handed_over = shadow.has_walked_by(chain, handle);
+        if was_handed_over {
+            shadow.delete(&item, steps);
+        } else if shadow.cursor() == Some(handle) {
+            shadow.go_to(chain.next(handle));
+        }
+    }
+
+    /// Puts a question to the items of the chain: to the parts of the main stack, once each, those of the highest level first.
+    ///
+    /// `NoMemory` where the tally of the question wanted memory that wasn't given. The asking is then given up.
+    pub fn ask<Q: Question<Item = B::Item>, L: Ledger>(
+        &self,
+        asking: &mut Asking<B::Part, Q>,
+        steps: &mut Steps<L>,
+    ) -> Result<(), NoMemory>
+    where
+        B::Part: Answers<Q>,
+        requires going { asking.old.is_given_up ≡ false }
+        requires room { asking.old.parts + parts_of self.now.main.levels < 2 ^ 32 }
+        ensures joined { (es : List (Entry B.Item)) → IsIndexOf B.Part.Part.contents B.Item.stamp self.now es
+            → IfOk result (λ _. asking.new ≡ record asking.old {
+              so_far = Q.join asking.old.question asking.old.so_far (Q.value asking.old.question (map (λ e. e.item) es));
+              parts = asking.old.parts + parts_of self.now.main.levels;
+            }) }
+        ensures given_up { OnErr result (asking.new
+            ≡ record asking.old { so_far = asking.new.so_far; parts = asking.new.parts; is_given_up = true }) }
+        ensures refused { IsErr result → IsTrue asking.old.refusable }
+        ensures cost { Spends steps.old steps.new 0 0 (touches_of (B.Part.ask_touches asking.old.question) self.now.main.levels) }
+    {
+        self.main.ask(asking, steps)
+    }
+
+    /// How many items the walk hasn't come by, and `None` where no rebuild runs.
+    pub fn unwalked(&self) -> Option<u64>
+        ensures value { result ≡ unwalked B.Part.Part.contents self.now }
+
+        // Little is dead, or a rebuild is in time.
+        ensures holds { IsIndex B.Part.Part.contents B.Item.stamp self.now }
+    {
+        let shadow = self.shadow.as_ref()?;
+        Some(self.main.live() - shadow.live())
+    }
+
+    /// How many items there are.
+    pub fn live(&self) -> u64
+        ensures { result ≡ live_in B.Part.Part.contents self.now.main }
+    {
+        self.main.live()
+    }
+
+    /// A number above every stamp that was ever given.
+    pub fn stamps(&self) -> u64
+        ensures { result ≡ self.now.stamps }
+    {
+        self.stamps
+    }
+
+    /// The weight of the main stack: how many items were inserted since it was made.
+    pub fn weight(&self) -> u64
+        ensures value { result ≡ weight_of self.now.main.levels }
+        ensures light { result ≤ 2 * live_in B.Part.Part.contents self.now.main + 9 }
+    {
+        self.main.weight()
+    }
+
+    /// The weight of the shadow, and 0 where no rebuild runs.
+    pub fn shadow_weight(&self) -> u64
+        ensures value { result ≡ shadow_weight self.now }
+        ensures light { 3 * result ≤ 4 * live_in B.Part.Part.contents self.now.main }
+    {
+        match &self.shadow {
+            Some(shadow) => shadow.weight(),
+            None => 0,
+        }
+    }
+
+    /// The number of complete parts that a question is put to.
+    pub fn parts(&self) -> u32
+        ensures value { result ≡ parts_of self.now.main.levels }
+
+        // At most three of a level.
+        ensures few { (g : ℕ) → 2 * live_in B.Part.Part.contents self.now.main + 10 < 2 ^ (g + 1) → parts_of self.now.main.levels ≤ 3 * (g + 1) }
+    {
+        self.main.parts()
+    }
+
+    /// The number of parts that are still in memory of the stack that a rebuild put out of use. Each preparation gives up one.
+    pub fn retired(&self) -> usize
+        ensures { result ≡ retired_parts self.now }
+    {
+        match &self.retired {
+            Some(stack) => stack.len(),
+            None => 0,
+        }
+    }
+
+    /// The weight of the rooms that are held and not begun, in both stacks: a room of level i weighs `2^i`, and a builder for a single
+    /// item 1.
+    pub fn rooms(&self) -> u64
+        ensures { result ≡ rooms_of self.now.main + shadow_rooms self.now }
+    {
+        let shadow = match &self.shadow {
+            Some(shadow) => shadow.rooms(),
+            None => 0,
+        };
+        self.main.rooms() + shadow
+    }
+
+    /// Hands so many items over, or all that are left, where a rebuild runs.
+    fn walk<L: Ledger>(
+        &mut self,
+        chain: &Chain<B::Item>,
+        most: u64,
+        steps: &mut Steps<L>,
+    ) -> Result<(), NoMemory>
+        requires few { most ≤ 4 }
+        requires chain { IsIndexOf B.Part.Part.contents B.Item.stamp self.old chain.now.entries }
+        ensures chain { IsIndexOf B.Part.Part.contents B.Item.stamp self.new chain.now.entries }
+        ensures same { (self.new.main ≡ self.old.main) × (self.new.stamps ≡ self.old.stamps) × (self.new.retired ≡ self.old.retired)
+            × (is_some self.new.shadow ≡ is_some self.old.shadow) }
+        ensures taken { IfOk result (λ _. (r r' : Walked B.Part B.Item) → self.old.shadow ≡ Some r → self.new.shadow ≡ Some r'
+            → (r'.cursor ≡ None) ⊎ (live_in B.Part.Part.contents r'.stack ≡ live_in B.Part.Part.contents r.stack + most)) }
+        ensures at_most { (r r' : Walked B.Part B.Item) → self.old.shadow ≡ Some r → self.new.shadow ≡ Some r'
+            → live_in B.Part.Part.contents r'.stack ≤ live_in B.Part.Part.contents r.stack + most }
+        ensures no_fewer { (r r' : Walked B.Part B.Item) → self.old.shadow ≡ Some r → self.new.shadow ≡ Some r'
+            → live_in B.Part.Part.contents r.stack ≤ live_in B.Part.Part.contents r'.stack }
+        ensures dead { (r r' : Walked B.Part B.Item) → self.old.shadow ≡ Some r → self.new.shadow ≡ Some r'
+            → weight_of r'.stack.levels + live_in B.Part.Part.contents r.stack ≡ weight_of r.stack.levels + live_in B.Part.Part.contents r'.stack }
+        ensures in_time { IfOk result (λ _. (r' : Walked B.Part B.Item) → self.new.shadow ≡ Some r' → (r'.cursor ≡ None → ⊥)
+            → IsInTime B.Part.Part.contents most self.new.main r') }
+        ensures cost { (g : ℕ) → 2 * live_in B.Part.Part.contents self.old.main + 10 < 2 ^ (g + 1)
+            → IsWithin (most * quotas B.SLOPE B.BASE 0 g) (most * (2 * g)) (B.Part.Part.mark_touches g) steps.old steps.new }
+    {
+        let Some(shadow) = &mut self.shadow else {
+            return Ok(());
+        };
+        shadow.walk(chain, most, steps)
+    }
+
+    /// Whether a rebuild runs, and all items are handed over.
+    fn has_walked(&self) -> bool
+        ensures ended { result ≡ true → (r : Walked B.Part B.Item) × (self.now.shadow ≡ Some r) × (r.cursor ≡ None) }
+        ensures going { result ≡ false → (r : Walked B.Part B.Item) → self.now.shadow ≡ Some r → r.cursor ≡ None → ⊥ }
+    {
+        match &self.shadow {
+            Some(shadow) => shadow.has_ended(),
+            None => false,
+        }
+    }
+}
+
+/// Puts a shadow, where there is one, in the place of a stack, which is retired.
+fn swap<B: Builder>(
+    main: &mut Stack<B>,
+    shadow: &mut Option<Shadow<B>>,
+    retired: &mut Option<Retired<B>>,
+)
+    ensures swapped { (r : Walked B.Part B.Item) → shadow.old ≡ Some r → (main.new ≡ r.stack) × (retired.new ≡ Some (memory_of main.old)) }
+    ensures kept { shadow.old ≡ None → (main.new ≡ main.old) × (retired.new ≡ retired.old) }
+    ensures ended { shadow.new ≡ None }
+{
+    if let Some(fresh) = shadow.take() {
+        let old = mem::replace(main, fresh.into_stack());
+        *retired = Some(old.retire());
+    }
+}
+
+/// Gives up a part of a retired stack, if one is left, to those that another keeps, where that has a place for it.
+fn give_up<B: Builder>(main: &mut Stack<B>, retired: &mut Option<Retired<B>>)
+    ensures one { option_map_or (λ n. n) retired.new 0 ≡ option_map_or (λ n. n) retired.old 0 - 1 }
+    ensures live { live_items B.Part.Part.contents main.new.levels ≡ live_items B.Part.Part.contents main.old.levels }
+    ensures items { all_items B.Part.Part.contents main.new.levels ≡ all_items B.Part.Part.contents main.old.levels }
+    ensures weight { weight_of main.new.levels ≡ weight_of main.old.levels }
+{
+    let Some(stack) = retired else {
+        return;
+    };
+    main.take_over(stack);
+    if stack.is_empty() {
+        *retired = None;
+    }
+}
+
+/// Takes the memory of one update, for a stack and its shadow. What they hold stays.
+fn take_memory<B: Builder>(
+    main: &mut Stack<B>,
+    shadow: &mut Option<Shadow<B>>,
+) -> Result<(), NoMemory>
+    ensures live { live_items B.Part.Part.contents main.new.levels ≡ live_items B.Part.Part.contents main.old.levels }
+    ensures items { all_items B.Part.Part.contents main.new.levels ≡ all_items B.Part.Part.contents main.old.levels }
+    ensures weight { weight_of main.new.levels ≡ weight_of main.old.levels }
+    ensures none { shadow.old ≡ None → shadow.new ≡ None }
+    ensures some { (r : Walked B.Part B.Item) → shadow.old ≡ Some r
+        → (r' : Walked B.Part B.Item) × (shadow.new ≡ Some r') × IsKept B.Part.Part.contents r r' }
+    ensures spare { IfOk result (λ _. (2 ≤ main.new.spare) × IsForecast main.new) }
+    ensures spare_too { IfOk result (λ _. (r : Walked B.Part B.Item) → shadow.new ≡ Some r → (2 ≤ r.stack.spare) × IsForecast r.stack) }
+{
+    main.prepare()?;
+    let Some(shadow) = shadow else {
+        return Ok(());
+    };
+    shadow.prepare()
+}
+
+/// Starts a rebuild, where none runs.
+fn start<B: Builder>(shadow: &mut Option<Shadow<B>>, fresh: Shadow<B>)
+    requires none { shadow.old ≡ None }
+    ensures started { shadow.new ≡ Some fresh }
+{
+    *shadow = Some(fresh);
+}
+
+/// The first item of a chain without that of a handle.
+fn first_but<I: Copy>(chain: &Chain<I>, handle: Handle) -> Option<Handle>
+    requires linked { IsTrue (is_linked handle chain.now.entries) }
+    requires differ { HandlesDiffer chain.now.entries }
+    ensures cursor { IsCursor result (without_handle handle chain.now.entries) }
+    ensures before { before_cursor result (without_handle handle chain.now.entries) ≡ [] }
+{
+    let first = chain.first();
+    if first == Some(handle) {
+        return chain.next(handle);
+    }
+    first
+}

@@ -1,0 +1,55 @@
+-- How many parts levels have, by their weight.
+use Rattle.std.proofs.Common.{ℕ, ◌+◌, ◌-◌, ◌*◌, ◌^◌, ◌<◌, ◌≤◌, Bool, true, false, List, [], ◌∷◌, length, if◌then◌else◌, ⊎_elim, arith}
+use Rattle.std.proofs.lemmas.Bool.{cases_lt}
+use Rattle.builder_trait.specs.Parts.{Contents, has_stamp}
+use Rattle.partial_build.specs.Construction.{live_of}
+use Rattle.level_slots.specs.Slots.{Slots, weight_of, parts_of, live_items, asked_in, asked}
+use Rattle.level_slots.specs.Neighbours.{IsTower}
+use Rattle.level_slots.specs.Stack.{AreAllLevels}
+use Rattle.level_slots.proofs.MarkedLevels.{light_level}
+
+unless : (b : Bool) (n m : ℕ) → n ≤ m → (if b then 0 else n) ≤ m
+unless true n m few = omega arith
+unless false n m few = few
+
+-- a level of at most three parts, below those with at most three for each level up to g
+counted : (n k g above : ℕ) → n ≤ 3 → (0 < n → k ≤ g) → above ≤ 3 * (g + 1 - (k + 1)) → n + above ≤ 3 * (g + 1 - k)
+counted n k g above few low rest = ⊎_elim
+    (λ some. omega (arith, few, low some, rest))
+    (λ none. omega (arith, none, rest))
+    (cases_lt 0 n)
+
+module _ {P Item : Type 0} (contents : P → Contents Item) where
+  asked_in-few : (stamp : Item → ℕ) (s : ℕ) (ps : List P) → asked_in contents stamp s ps ≤ length ps
+  asked_in-few stamp s [] = omega arith
+  asked_in-few stamp s (p ∷ ps) =
+      omega (arith, unless (has_stamp stamp s (live_of (contents p))) (asked_in contents stamp s ps) (length ps) (asked_in-few stamp s ps))
+
+  -- no part is asked twice
+  pub asked-few : (stamp : Item → ℕ) (s : ℕ) (levels : List (Slots P Item)) → asked contents stamp s levels ≤ parts_of levels
+  asked-few stamp s [] = omega arith
+  asked-few stamp s (l ∷ above) =
+      omega (
+        arith,
+        asked-few stamp s above,
+        unless (has_stamp stamp s (live_items contents above)) (asked_in contents stamp s l.parts) (length l.parts) (asked_in-few stamp s l.parts),
+      )
+
+  module _ (stamp : Item → ℕ) (before : ℕ → Item → Item → Bool) where
+    tower-few : (l : Slots P Item) (above : List (Slots P Item)) → IsTower contents stamp before l above → (g : ℕ)
+        → weight_of (l ∷ above) < 2 ^ (g + 1) → parts_of (l ∷ above) ≤ 3 * (g + 1 - l.level)
+    tower-few l [] tower g light =
+        counted (length l.parts) l.level g 0 (omega (arith, tower)) (λ some. light_level (length l.parts) l.level g 0 some light) (omega arith)
+    tower-few l (next ∷ above) tower g light =
+        let h = tower.0 in
+        let lighter : weight_of (next ∷ above) < 2 ^ (g + 1) = omega (arith, light) in
+        let rest : parts_of (next ∷ above) ≤ 3 * (g + 1 - (l.level + 1)) =
+        omega (arith, tower-few next above tower.1 g lighter, h.next_level) in
+        counted (length l.parts) l.level g (parts_of (next ∷ above)) h.few
+        (λ some. light_level (length l.parts) l.level g (weight_of (next ∷ above)) some light) rest
+
+    -- at most three of each level, and none is of a level above that of the weight
+    pub parts-few : (levels : List (Slots P Item)) → AreAllLevels contents stamp before levels → (g : ℕ) → weight_of levels < 2 ^ (g + 1)
+        → parts_of levels ≤ 3 * (g + 1)
+    parts-few [] h g light = omega arith
+    parts-few (lowest ∷ above) h g light = omega (arith, tower-few lowest above h.2 g light, h.0)

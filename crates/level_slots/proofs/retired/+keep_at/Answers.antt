@@ -1,0 +1,29 @@
+use Rattle.std.proofs.Common.{◌∷◌, sym, subst, ap, arith}
+use Rattle.level_slots.specs.Slots.{held_of, lowest_held}
+use Rattle.level_slots.specs.Preparing.{AreSameButKept}
+use Rattle.level_slots.proofs.TakingOver.{AreSameButKept-refl, grown}
+use Rattle.level_slots.proofs.retired.+keep_at.Goals as goal
+
+pub returns-in_default-clause-same : goal.returns-in_default-clause-same
+returns-in_default-clause-same g t c = AreSameButKept-refl c.args.levels.now
+
+pub returns-then-number-clause-same : goal.returns-then-number-clause-same
+returns-then-number-clause-same g t c =
+    subst (λ ls. AreSameButKept ls (c.take_over.new.self ∷ c.in-Some.above.now)) (sym c.in-Some.ensures.cases.0)
+    (c.take_over.ensures.same, AreSameButKept-refl c.in-Some.above.now)
+
+pub returns-then-number-clause-no_less : goal.returns-then-number-clause-no_less
+returns-then-number-clause-no_less g t c =
+    let e = c.take_over.ensures in
+    omega (arith, ap held_of c.in-Some.ensures.cases.0, (grown c.in-Some.level.now c.take_over.new.self c.args.reserved e.same e.kept e.freed).0)
+
+pub returns-then-number-clause-no_more : goal.returns-then-number-clause-no_more
+returns-then-number-clause-no_more g t c =
+    let e = c.take_over.ensures in
+    omega (arith, ap held_of c.in-Some.ensures.cases.0, (grown c.in-Some.level.now c.take_over.new.self c.args.reserved e.same e.kept e.freed).1)
+
+pub returns-then-number-clause-lowest : goal.returns-then-number-clause-lowest
+returns-then-number-clause-lowest g t c few =
+    let e = c.take_over.ensures in
+    (grown c.in-Some.level.now c.take_over.new.self c.args.reserved e.same e.kept e.freed).2
+    (omega (arith, few, ap lowest_held c.in-Some.ensures.cases.0))

@@ -1,0 +1,7 @@
+use Rattle.std.proofs.Common.{ap, arith}
+use Rattle.level_slots.specs.Slots.{held_of}
+use Rattle.level_slots.proofs.retired.Retired.len.Goals as goal
+
+pub returns : goal.returns
+returns g c =
+    omega (arith, c.len.ensures, c.self.inside.starters.ok.0, c.parts_held.ensures.value, ap held_of c.deref.ensures.value, c.self.view_is)

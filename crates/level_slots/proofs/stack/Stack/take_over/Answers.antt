@@ -1,0 +1,15 @@
+use Rattle.std.proofs.Common.{◌∙◌, length, ap, sym, arith}
+use Rattle.level_slots.proofs.Forecasting.{IsStack-kept}
+use Rattle.level_slots.proofs.stack.Stack.take_over.Goals as goal
+
+pub invariant_of-self : goal.invariant_of-self
+invariant_of-self g c =
+    let h = c.self.invariant in
+    let k = c.keep.ensures.kept in (
+      IsStack-kept g.B.Part.Part.contents g.B.Item.Item.stamp g.B.Item.Item.before g.B.Builder.SLOPE g.B.Builder.BASE h.0 k
+          (length c.self.inside.starters.items) (omega arith) h.0.starters_few (omega (arith, c.keep.ensures.lowest, c.len.ensures)),
+      h.1 ∙ sym k.weight,
+      h.2 ∙ ap length (sym k.live),
+      h.3,
+      h.4,
+    )

@@ -1,0 +1,45 @@
+-- What is left to look at once the words of a line are read along their form.
+use Rattle.std.specs.Prelude.{ℕ, ◌+◌, ◌==◌, Bool, not, List, length, Option, Some, None, Result, Ok, Err, nat_le, nat_lt, if◌then◌else◌}
+use Rattle.map_model.specs.Grammar.{words, name_field}
+use Rattle.map_model.specs.Script.Index.{IndexSet, no_indexes, index_count}
+use Rattle.map_model.specs.Script.Shape.{Kind, Points}
+use Rattle.map_model.specs.Script.LineFault as faults
+use Rattle.map_model.specs.Script.Form as model
+use Rattle.map_model.specs.Script.Grammar.{Values, Parsed, command_of}
+use Rattle.script_lang.specs.declared.line_fault.LineFault.{LineFault}
+use Rattle.script_lang.specs.declared.numbers.Numbers.{Numbers}
+use Rattle.script_lang.specs.declared.reading.Read.{Read}
+use Rattle.script_lang.specs.LineFault.{fault_of}
+use Rattle.script_lang.specs.Form.{verb_of, form_of, IsRow}
+use Rattle.script_lang.specs.Indexes.{Layer, layer_in}
+
+-- a kind and one or more indexes stand there, or nothing, where none follow
+abbrev pub has_end : Bool → ℕ → Bool
+has_end has_indexes left = if has_indexes then nat_le 2 left else left == 0
+
+abbrev pub values_in : List ℕ → Numbers → Values
+values_in name v = record { name = name; id = v.id; places = v.places; amount = v.amount; kind = Points; indexes = no_indexes }
+
+-- with fewer indexes than words behind the kind one of these isn't an index, or stands twice
+abbrev pub layered : model.Verb → Values → ℕ → Layer → Parsed
+layered verb v left (Ok layer) =
+    if nat_lt (index_count layer.1 + 1) left then Err faults.Index else Ok (Some (command_of verb (record v { kind = layer.0; indexes = layer.1 })))
+layered verb v left (Err fault) = Err fault
+
+-- the steps behind those on numbers
+abbrev pub ended : model.Verb → model.Form → List (List ℕ) → Values → Parsed
+ended verb f rest v = if not (model.is_ordered f.order v.places) then Err faults.Order else layered verb v (length rest) (layer_in rest)
+
+abbrev pub finished : model.Verb → model.Form → List (List ℕ) → Numbers → Option (List ℕ) → Parsed
+finished verb f rest v None = Err faults.Name
+finished verb f rest v (Some name) =
+    if not v.are_digits then Err faults.Number else (if not v.are_in_range then Err faults.Range else ended verb f rest (values_in name v))
+
+abbrev pub walked : model.Verb → model.Form → List ℕ → Numbers → List (List ℕ) → Parsed
+walked verb f word v rest = if not (has_end f.has_indexes (length rest)) then Err faults.Fields else finished verb f rest v (name_field word)
+
+-- what a line says of which so much is read
+abbrev pub said : Result (Option Read) LineFault → Parsed
+said (Err fault) = Err (fault_of fault)
+said (Ok None) = Ok None
+said (Ok (Some read)) = walked (verb_of read.form.now.verb) (form_of read.form.now) read.name.now read.numbers (words read.rest.now)
