@@ -1,0 +1,132 @@
+-- The machine's step where the layer of a name is found.
+use Rattle.std.proofs.Common.{◌≡◌, ℕ, ◌∙◌, Bool, true, false, not, ◌&&◌, if◌then◌else◌, List, [], ◌∷◌, ◌++◌, Option, Some, None, Result, Ok, Err, length, refl, sym, ap}
+use Rattle.std.specs.Prelude.{nat_le, IfOk}
+use Rattle.std.specs.Option.{is_some}
+use Rattle.global_rebuild.specs.Index.{Indexed}
+use Rattle.std.proofs.lemmas.Bool.{le-leb, lt-leb}
+use Rattle.map_model.specs.Script.Shape as shapes
+use Rattle.map_model.specs.Script.Index as indexes
+use Rattle.map_model.specs.Script.State.{Item, Layer, State, most_items, most_layers, live_count, is_live, layer_named, with_items, with_item, without_item}
+use Rattle.map_model.specs.Script.Answer.{Question, Answer, answer_over, index_of, kind_asked}
+use Rattle.map_model.specs.Script.Command.{MakeLayer, Add, Drop, Ask, lists_ids}
+use Rattle.map_model.specs.Script.Refusal as refusals
+use Rattle.map_model.specs.Script.Reply.{Reply, Made, Updated, Answered, is_refusal}
+use Rattle.map_model.specs.Script.Machine.{Outcome, step, is_taken, replied, refused}
+use Rattle.map_layers.specs.declared.faults.UpdateFault.{UpdateFault}
+use Rattle.map_layers.specs.declared.faults.UpdateFault.TheVariants.{NoLayer, WrongKind, Duplicate, Unknown, Full, NoMemory}
+use Rattle.map_layers.specs.declared.faults.AskFault.{AskFault}
+use Rattle.map_layers.specs.declared.faults.AskFault.TheVariants as ask
+use Rattle.map_layers.specs.Layer.{IsAdd, IsRemoval, IsAskRefusal}
+use Rattle.map_layers.specs.Replies.{updated, asked, IsAnswered}
+
+-- From one map to another, the items of the layer of a name are others.
+pub record IsRenewed (name : List ℕ) (old new : State) (layer : Layer) (items : List Item) : Type 0 where
+  pub found : layer_named name old ≡ Some layer
+  pub points : layer.kind ≡ shapes.Points
+  pub same : items ≡ layer.items → new ≡ old
+  pub changed : (change : List Item → List Item) → items ≡ change layer.items → new ≡ with_items name change old
+
+module _ (old new : State) (name : List ℕ) (id : ℕ) (layer : Layer) (items : List Item) (h : IsRenewed name old new layer items) where
+  -- ---- an add
+
+  module _ (x y w : ℕ) where
+    abbrev point : Item
+    point = record { id = id; shape = shapes.Point x y w }
+
+    -- what is made of it, as its tests say
+    abbrev adding : Bool → Bool → Outcome
+    adding live full =
+        if live then refused old (refusals.Duplicate id)
+        else (if full then refused old refusals.Full
+        else replied (with_items name (with_item point) old) Updated)
+
+    step-add : (live full : Bool) → is_live id layer.items ≡ live → nat_le most_items (live_count layer) ≡ full
+        → step old (Add name id (shapes.Point x y w)) ≡ adding live full
+    step-add live full is_live is_full = rw h.found (rw h.points (rw is_live (rw is_full refl)))
+
+    pub IsAnswered-add : {T : Type 0} (result : Result T UpdateFault) → IsAdd layer.items point items result
+        → IsAnswered old (Add name id (shapes.Point x y w)) new (updated result)
+    IsAnswered-add (Ok done) added =
+        step-add false false added.0 (lt-leb most_items (live_count layer) added.1)
+        ∙ ap (λ (s : State). replied s Updated) (sym (h.changed (with_item point) added.2))
+    IsAnswered-add (Err NoLayer) added = absurd added
+    IsAnswered-add (Err WrongKind) added = absurd added
+    IsAnswered-add (Err (Duplicate other)) added =
+        step-add true (nat_le most_items (live_count layer)) added.0 refl
+        ∙ (λ i. refused (sym (h.same added.2) i) (refusals.Duplicate (sym added.1 i)))
+    IsAnswered-add (Err (Unknown other)) added = absurd added
+    IsAnswered-add (Err Full) added =
+        step-add false true added.0 (le-leb most_items (live_count layer) added.1)
+        ∙ (λ i. refused (sym (h.same added.2) i) refusals.Full)
+    IsAnswered-add (Err NoMemory) added = (
+      ap (λ (o : Outcome). not (is_refusal o.reply)) (step-add false false added.0 (lt-leb most_items (live_count layer) added.1)),
+      h.same added.2,
+    )
+
+  -- ---- a drop
+
+  abbrev dropping : Bool → Outcome
+  dropping live = if live then replied (with_items name (without_item id) old) Updated else refused old (refusals.Unknown id)
+
+  step-drop : (live : Bool) → is_live id layer.items ≡ live → step old (Drop name id) ≡ dropping live
+  step-drop live is_live = rw h.found (rw is_live refl)
+
+  pub IsAnswered-drop : {T : Type 0} (result : Result T UpdateFault) → IsRemoval layer.items id items result
+      → IsAnswered old (Drop name id) new (updated result)
+  IsAnswered-drop (Ok done) removed =
+      step-drop true removed.0 ∙ ap (λ (s : State). replied s Updated) (sym (h.changed (without_item id) removed.1))
+  IsAnswered-drop (Err NoLayer) removed = absurd removed
+  IsAnswered-drop (Err WrongKind) removed = absurd removed
+  IsAnswered-drop (Err (Duplicate other)) removed = absurd removed
+  IsAnswered-drop (Err (Unknown other)) removed =
+      step-drop false removed.0 ∙ (λ i. refused (sym (h.same removed.2) i) (refusals.Unknown (sym removed.1 i)))
+  IsAnswered-drop (Err Full) removed = absurd removed
+  IsAnswered-drop (Err NoMemory) removed =
+      (ap (λ (o : Outcome). not (is_refusal o.reply)) (step-drop true removed.0), h.same removed.1)
+
+-- ---- no layer of the name
+
+pub unfound-add : (T : Type 0) (old : State) (name : List ℕ) (id x y w : ℕ) → layer_named name old ≡ None
+    → IsAnswered old (Add name id (shapes.Point x y w)) old (updated {T = T} (Err NoLayer))
+unfound-add T old name id x y w none = rw none refl
+
+pub unfound-drop : (T : Type 0) (old : State) (name : List ℕ) (id : ℕ) → layer_named name old ≡ None
+    → IsAnswered old (Drop name id) old (updated {T = T} (Err NoLayer))
+unfound-drop T old name id none = rw none refl
+
+-- ---- a question about points, for the index that answers rectangles
+
+module _ (old : State) (name : List ℕ) (question : Question) (of_points : kind_asked question ≡ shapes.Points) (of_range : index_of question ≡ indexes.Range) where
+  pub unfound-ask : {T : Type 0} (reply : T → Reply) → layer_named name old ≡ None → IsAnswered old (Ask name question) old (asked {T = T} reply (Err ask.NoLayer))
+  unfound-ask reply none = rw none refl
+
+  module _ (layer : Layer) (found : layer_named name old ≡ Some layer) (points : layer.kind ≡ shapes.Points) where
+    abbrev asking : Bool → Outcome
+    asking there = if not there then refused old refusals.Index else replied old (Answered (answer_over layer.items question))
+
+    pub step-ask : (there : Bool) → layer.indexes.range ≡ there → step old (Ask name question) ≡ asking there
+    step-ask there is_there = rw found (rw points (rw of_points (rw of_range (rw is_there refl))))
+
+    pub IsAnswered-ask : {T P I : Type 0} (index : Option (Indexed P I)) (answer : T → Answer) (result : Result T AskFault) → layer.indexes.range ≡ is_some index
+        → IsAskRefusal index (lists_ids question) result → IfOk result (λ t. answer t ≡ answer_over layer.items question)
+        → IsAnswered old (Ask name question) old (asked (λ t. Answered (answer t)) result)
+    IsAnswered-ask index answer (Ok t) there refused same = step-ask true (there ∙ refused) ∙ ap (λ a. replied old (Answered a)) (sym same)
+    IsAnswered-ask index answer (Err ask.NoLayer) there refused same = absurd refused
+    IsAnswered-ask index answer (Err ask.WrongKind) there refused same = absurd refused
+    IsAnswered-ask index answer (Err ask.NoIndex) there refused same = step-ask false (there ∙ refused)
+    IsAnswered-ask index answer (Err (ask.Unknown id)) there refused same = absurd refused
+    IsAnswered-ask index answer (Err ask.NoMemory) there refused same =
+        (ap (λ b. b && not (is_refusal (step old (Ask name question)).reply)) refused.1 ∙ ap (λ (o : Outcome). not (is_refusal o.reply)) (step-ask true (there ∙ refused.0)), refl)
+
+-- ---- a layer is made
+
+module _ (old : State) (name : List ℕ) (kind : shapes.Kind) (set : indexes.IndexSet) where
+  abbrev making : Bool → Bool → Outcome
+  making taken full =
+      if taken then refused old refusals.Taken
+      else (if full then refused old refusals.NoRoom
+      else replied (old ++ record { name = name; kind = kind; indexes = set; items = [] } ∷ []) Made)
+
+  pub step-make : (taken full : Bool) → is_taken name old ≡ taken → nat_le most_layers (length old) ≡ full
+      → step old (MakeLayer name kind set) ≡ making taken full
+  step-make taken full is_taken is_full = rw is_taken (rw is_full refl)

@@ -1,0 +1,50 @@
+-- What an index that is there costs.
+use Rattle.std.proofs.Common.{◌≡◌, ℕ, ◌≤◌, ◌<◌, List, [], ◌∷◌, length, ⊎_elim, Option, None, Some, arith, if◌then◌else◌, ap, sym, subst}
+use Rattle.std.specs.List.{flat_map}
+use Rattle.std.specs.Option.{is_some}
+use Rattle.std.proofs.lemmas.Bool.{cases_lt}
+use Rattle.std.proofs.lemmas.List.{length-append}
+use Rattle.query_laws.specs.Permuted.{nothing}
+use Rattle.query_laws.specs.StepLedger.{Counts}
+use Rattle.builder_trait.specs.Parts.{Contents}
+use Rattle.partial_build.specs.Construction.{live_of}
+use Rattle.level_slots.specs.Slots.{Slots, parts_of, live_in, live_items}
+use Rattle.level_slots.specs.Cost.{IsWithin}
+use Rattle.global_rebuild.specs.Index.{Indexed, IsIndexOf}
+use Rattle.map_layers.specs.Indexing.{if_there}
+
+module _ {P Item : Type 0} where
+  there : (index : Option (Indexed P Item)) (i : Indexed P Item) (n : ℕ) → index ≡ Some i → if_there index n ≡ n
+  there index i n is = ap (λ o. if is_some o then n else 0) is
+
+  pub IsWithin-there : {turns marks touches : ℕ} {old new : Counts} (index : Option (Indexed P Item)) (i : Indexed P Item) → index ≡ Some i
+      → IsWithin turns marks touches old new → IsWithin (if_there index turns) (if_there index marks) touches old new
+  IsWithin-there {turns} {marks} {touches} {old} {new} index i is h =
+      subst (λ m. IsWithin (if_there index turns) m touches old new) (sym (there index i marks is))
+      (subst (λ t. IsWithin t marks touches old new) (sym (there index i turns is)) h)
+
+-- an index without items
+module _ {P Item : Type 0} (contents : P → Contents Item) (stamp : Item → ℕ) where
+  pub IsIndexOf-empty : IsIndexOf contents stamp (record { main = record { levels = []; spare = 0; starters = 0 }; shadow = None; retired = None; stamps = 0 }) []
+  IsIndexOf-empty = record {
+    live = nothing;
+    shadow = λ r is. absurd cc;
+    rise = omega arith;
+    differ = tt;
+    few = omega arith;
+  }
+
+-- where items are live there are parts
+module _ {P Item : Type 0} (contents : P → Contents Item) where
+  some_in : (ps : List P) → 0 < length (flat_map (λ p. live_of (contents p)) ps) → 1 ≤ length ps
+  some_in [] some = absurd (omega (arith, some))
+  some_in (p ∷ ps) some = omega arith
+
+  pub some_part : (levels : List (Slots P Item)) → 0 < length (live_items contents levels) → 1 ≤ parts_of levels
+  some_part [] some = absurd (omega (arith, some))
+  some_part (l ∷ above) some =
+      let both = length-append (live_items contents above) (live_in contents l) in
+      ⊎_elim
+      (λ here. omega (arith, some_in l.parts here))
+      (λ none. omega (arith, some_part above (omega (arith, some, both, none))))
+      (cases_lt 0 (length (live_in contents l)))

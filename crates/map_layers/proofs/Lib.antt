@@ -1,0 +1,8 @@
+pub mod Indexed
+pub mod PointItems
+pub mod WithinBounds
+pub mod Names
+pub mod Built
+pub mod Answering
+pub mod Scans
+pub mod Questions

@@ -1,0 +1,60 @@
+-- The questions of an index are those of the definitions, which scan all items.
+use Rattle.std.proofs.Common.{◌≡◌, ℕ, ◌*◌, ◌^◌, ◌≤◌, ◌∙◌, Bool, List, [], ◌∷◌, length, map, filter, refl, ap, arith}
+use Rattle.std.specs.Prelude.{count_by, sum_by, nat_le}
+use Rattle.std.proofs.lemmas.Grind.{common_steps}
+use Rattle.id_chain.specs.Chain.{Entry}
+use Rattle.map_model.specs.Script.Shape as model
+use Rattle.map_model.specs.Script.Found.{insert_by, sorted_by}
+use Rattle.map_model.specs.Script.State.{Item}
+use Rattle.map_model.specs.Script.Answer.{ids_with}
+use Rattle.map_shapes.specs.declared.point.Point.{Point}
+use Rattle.map_shapes.specs.declared.rect.Rect.{Rect}
+use Rattle.map_shapes.specs.Ascending.{insert_sorted, sorted_ids}
+use Rattle.map_shapes.specs.Questions.{is_in, count_in, weight_in, ids_in}
+use Rattle.map_shapes.specs.Rect.{rect_of}
+use Rattle.map_layers.specs.Layer.{items_of}
+
+abbrev points_of : List (Entry Point) → List Point
+points_of es = map (λ e. e.item) es
+
+abbrev inside : Rect → Item → Bool
+inside rect item = model.is_inside (rect_of rect) item.shape
+
+module _ (rect : Rect) where
+  counted : (es : List (Entry Point)) → count_by (is_in rect) (points_of es) ≡ count_by (inside rect) (items_of es)
+  counted [] = refl
+  counted (e ∷ es) = grind (arith, common_steps, counted es)
+
+  few_counted : (es : List (Entry Point)) → count_by (is_in rect) (points_of es) ≤ length es
+  few_counted [] = omega arith
+  few_counted (e ∷ es) = grind (arith, common_steps, few_counted es)
+
+  pub count_in-scan : (es : List (Entry Point)) → length es ≤ 2 ^ 16 → count_in rect (points_of es) ≡ count_by (inside rect) (items_of es)
+  count_in-scan es few = omega (arith, few, few_counted es, counted es)
+
+  weighed : (es : List (Entry Point)) → sum_by (λ p. p.w) (filter (is_in rect) (points_of es)) ≡ sum_by (λ item. model.weight_of item.shape) (filter (inside rect) (items_of es))
+  weighed [] = refl
+  weighed (e ∷ es) = grind (arith, common_steps, weighed es)
+
+  few_weighed : (es : List (Entry Point)) → sum_by (λ p. p.w) (filter (is_in rect) (points_of es)) ≤ length es * 2 ^ 31
+  few_weighed [] = omega arith
+  few_weighed (e ∷ es) = grind (arith, common_steps, few_weighed es, e.item.w_in_range)
+
+  pub weight_in-scan : (es : List (Entry Point)) → length es ≤ 2 ^ 16
+      → weight_in rect (points_of es) ≡ sum_by (λ item. model.weight_of item.shape) (filter (inside rect) (items_of es))
+  weight_in-scan es few = omega (arith, few, few_weighed es, weighed es)
+
+  listed : (es : List (Entry Point)) → map (λ p. p.id) (filter (is_in rect) (points_of es)) ≡ map (λ item. item.id) (filter (inside rect) (items_of es))
+  listed [] = refl
+  listed (e ∷ es) = grind (arith, common_steps, listed es)
+
+inserted : (x : ℕ) (xs : List ℕ) → insert_sorted x xs ≡ insert_by nat_le x xs
+inserted x [] = refl
+inserted x (y ∷ ys) = grind (arith, common_steps, inserted x ys)
+
+sorted : (xs : List ℕ) → sorted_ids xs ≡ sorted_by nat_le xs
+sorted [] = refl
+sorted (x ∷ xs) = inserted x (sorted_ids xs) ∙ ap (insert_by nat_le x) (sorted xs)
+
+pub ids_in-scan : (rect : Rect) (es : List (Entry Point)) → ids_in rect (points_of es) ≡ ids_with (model.is_inside (rect_of rect)) (items_of es)
+ids_in-scan rect es = sorted (map (λ p. p.id) (filter (is_in rect) (points_of es))) ∙ ap (sorted_by nat_le) (listed rect es)

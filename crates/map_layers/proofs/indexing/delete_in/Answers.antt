@@ -1,0 +1,15 @@
+use Rattle.std.proofs.Common.{subst, arith}
+use Rattle.global_rebuild.specs.Index.{IsIndexOf}
+use Rattle.global_rebuild.proofs.Weights.{as_many}
+use Rattle.map_layers.specs.Indexing.{IsOf}
+use Rattle.map_layers.proofs.Indexed.{IsWithin-there}
+use Rattle.map_layers.proofs.indexing.delete_in.Goals as goal
+
+pub returns-in-Some-clause-cost : goal.returns-in-Some-clause-cost
+returns-in-Some-clause-cost g c g' light =
+    let contents = g.B.Part.Part.contents in
+    let stamp = g.B.Item.Item.stamp in
+    let es = c.args.chain.now.entries in
+    let h : IsIndexOf contents stamp c.in-Some.index es = subst (λ o. IsOf contents stamp o es) c.in-Some.is c.requires.of in
+    IsWithin-there c.args.index.now c.in-Some.index c.in-Some.is
+    (c.commit_delete.ensures.cost g' (omega (arith, light, as_many contents stamp c.in-Some.index es h)))

@@ -1,0 +1,60 @@
+use Rattle.std.proofs.Common.{rules, ◌≡◌, ◌≤◌, ◌∙◌, true, false, [], ◌∷◌, ◌++◌, length, map, All, bytes_eq, ◌<◌, refl, ap, sym, subst, arith}
+use Rattle.std.specs.Prelude.{nat_le}
+use Rattle.std.specs.List.{list_any}
+use Rattle.std.specs.Option.{is_some}
+use Rattle.std.proofs.lemmas.Bool.{le-leb, lt-leb}
+use Rattle.std.proofs.lemmas.List.{length-map, map-append}
+use Rattle.std.proofs.lemmas.List.Elements.{All-append, All-cons, All-nil}
+use Rattle.map_model.specs.Script.State.{Layer, most_layers}
+use Rattle.map_model.specs.Script.Reply.{Made}
+use Rattle.map_model.specs.Script.Machine.{replied}
+use Rattle.map_shapes.specs.Kind.{kind_of}
+use Rattle.map_shapes.specs.IndexSet.{index_set_of}
+use Rattle.map_layers.specs.Layer.{layer_of}
+use Rattle.map_layers.specs.Layers.{map_of, named, names_of, AllDiffer}
+use Rattle.map_layers.proofs.Built.{is_built-range, layer_of-new}
+use Rattle.map_layers.proofs.Names.{is_taken-named, is_among-named, AllDiffer-push}
+use Rattle.map_layers.proofs.Answering.{step-make}
+use Rattle.map_layers.proofs.layers.Layers.create.Goals as goal
+
+pub returns-then-is_some-clause-answered : goal.returns-then-is_some-clause-answered
+returns-then-is_some-clause-answered c =
+    let taken : is_some (named c.args.name.now c.args.self.now.layers) ≡ true = search rules in
+    step-make (map_of c.args.self.now) c.args.name.now (kind_of c.args.kind) (index_set_of c.args.indexes) true (nat_le most_layers (length (map_of c.args.self.now)))
+    (is_taken-named c.args.name.now c.args.self.now.layers ∙ taken) refl
+
+pub returns-then-is_full-clause-answered : goal.returns-then-is_full-clause-answered
+returns-then-is_full-clause-answered c =
+    let free : is_some (named c.args.name.now c.args.self.now.layers) ≡ false = search rules in
+    let full : length c.args.self.now.layers ≡ 8 = search rules in
+    step-make (map_of c.args.self.now) c.args.name.now (kind_of c.args.kind) (index_set_of c.args.indexes) false true
+    (is_taken-named c.args.name.now c.args.self.now.layers ∙ free)
+    (le-leb most_layers (length (map_of c.args.self.now)) (omega (arith, full, length-map c.args.self.now.layers layer_of)))
+
+pub invariant_of-self : goal.invariant_of-self
+invariant_of-self c =
+    let ls = c.self.inside.layers.items in
+    let free : is_some (named c.args.name.now ls) ≡ false = search rules in
+    let unused : list_any (λ other. bytes_eq other c.new.result.name) (names_of ls) ≡ false =
+    ap (λ n. list_any (λ other. bytes_eq other n) (names_of ls)) c.new.ensures.name ∙ sym (is_among-named c.args.name.now ls) ∙ free in
+    let names : names_of (ls ++ c.new.result ∷ []) ≡ names_of ls ++ c.new.result.name ∷ [] = map-append (λ l. l.name) ls (c.new.result ∷ []) in (
+      subst (λ xs. AllDiffer (names_of xs)) (sym c.push.ensures.items)
+          (subst AllDiffer (sym names) (AllDiffer-push (names_of ls) c.new.result.name c.self.invariant.0 unused)),
+      subst (All (λ l. l.adds ≤ c.self.inside.updates)) (sym c.push.ensures.items)
+          (All-append (λ l. l.adds ≤ c.self.inside.updates) ls (c.new.result ∷ []) c.self.invariant.1
+          (All-cons (λ l. l.adds ≤ c.self.inside.updates) c.new.result [] (omega (arith, c.new.ensures.adds)) (All-nil (λ l. l.adds ≤ c.self.inside.updates)))),
+    )
+
+pub returns-clause-answered : goal.returns-clause-answered
+returns-clause-answered c =
+    let ls = c.args.self.now.layers in
+    let built = is_built-range (kind_of c.args.kind) (index_set_of c.args.indexes) c.requires.built in
+    let free : is_some (named c.args.name.now ls) ≡ false = search rules in
+    let few : length ls < 8 = search rules in
+    let items : c.push.new.self.items ≡ ls ++ c.new.result ∷ [] = search rules in
+    let made : layer_of c.new.result ≡ record { name = c.args.name.now; kind = kind_of c.args.kind; indexes = index_set_of c.args.indexes; items = [] } =
+    layer_of-new c.new.result c.args.name.now (kind_of c.args.kind) (index_set_of c.args.indexes) c.new.ensures.name c.new.ensures.entries c.new.ensures.range built in
+    step-make (map_of c.args.self.now) c.args.name.now (kind_of c.args.kind) (index_set_of c.args.indexes) false false
+    (is_taken-named c.args.name.now ls ∙ free)
+    (lt-leb most_layers (length (map_of c.args.self.now)) (omega (arith, few, length-map ls layer_of)))
+    ∙ ap (λ s. replied s Made) (sym (ap (map layer_of) items ∙ map-append layer_of ls (c.new.result ∷ []) ∙ ap (λ (l : Layer). map_of c.args.self.now ++ l ∷ []) made))

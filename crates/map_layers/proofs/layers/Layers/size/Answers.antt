@@ -1,0 +1,29 @@
+use Rattle.std.proofs.Common.{rules, ◌≡◌, ◌∙◌, None, Some, ap, sym}
+use Rattle.std.specs.Option.{option_map}
+use Rattle.map_model.specs.Script.State.{layer_named}
+use Rattle.map_model.specs.Script.Reply as replies
+use Rattle.map_model.specs.Script.Machine.{replied, size_of}
+use Rattle.map_layers.specs.Layer.{layer_of}
+use Rattle.map_layers.specs.Layers.{map_of, named}
+use Rattle.map_layers.proofs.PointItems.{as_many_items}
+use Rattle.map_layers.proofs.Names.{layer_named-named}
+use Rattle.map_layers.proofs.layers.Layers.size.Goals as goal
+
+pub returns-in-Some : goal.returns-in-Some
+returns-in-Some c =
+    let l = c.in-Some.layer.now in
+    let found : named c.args.name.now c.args.self.now.layers ≡ Some l = search rules in
+    let here : layer_named c.args.name.now (map_of c.args.self.now) ≡ Some (layer_of l) =
+    layer_named-named c.args.name.now c.args.self.now.layers ∙ ap (option_map layer_of) found in
+    record {
+      answered = ap (size_of (map_of c.args.self.now)) here
+          ∙ ap (λ n. replied (map_of c.args.self.now) (replies.Sized n)) (as_many_items l.entries ∙ sym c.len.ensures.count);
+    }
+
+pub returns-in-None : goal.returns-in-None
+returns-in-None c =
+    let none : named c.args.name.now c.args.self.now.layers ≡ None = search rules in
+    record {
+      answered = ap (size_of (map_of c.args.self.now))
+          (layer_named-named c.args.name.now c.args.self.now.layers ∙ ap (option_map layer_of) none);
+    }

@@ -1,0 +1,24 @@
+-- An index that may be there, over the chain of a layer's items.
+use Rattle.std.specs.Prelude.{ℕ, ◌≤◌, List, Option, IfSome, if◌then◌else◌}
+use Rattle.std.specs.Option.{is_some}
+use Rattle.builder_trait.specs.Parts.{Contents}
+use Rattle.id_chain.specs.Chain.{Entry}
+use Rattle.global_rebuild.specs.Index.{Indexed, IsIndexOf, IsPrepared}
+
+module _ {P Item : Type 0} where
+  -- so much where the index is there
+  abbrev pub if_there : Option (Indexed P Item) → ℕ → ℕ
+  if_there index n = if is_some index then n else 0
+
+  module _ (contents : P → Contents Item) where
+    -- where it is there, it is that of the entries
+    abbrev pub IsOf : (Item → ℕ) → Option (Indexed P Item) → List (Entry Item) → Type 0
+    IsOf stamp index es = IfSome index (λ i. IsIndexOf contents stamp i es)
+
+    -- where it is there, it is prepared
+    abbrev pub IsReady : Option (Indexed P Item) → Type 0
+    IsReady index = IfSome index (IsPrepared contents)
+
+  -- where it is there, every stamp that it was given is below a number
+  abbrev pub IsBelow : Option (Indexed P Item) → ℕ → Type 0
+  IsBelow index adds = IfSome index (λ i. i.stamps ≤ adds)

@@ -1,0 +1,5 @@
+pub mod Indexing
+pub mod Layer
+pub mod Costs
+pub mod Replies
+pub mod Layers

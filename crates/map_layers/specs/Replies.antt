@@ -1,0 +1,52 @@
+-- What the calls' results say in the words of the definitions.
+use Rattle.std.specs.Prelude.{◌≡◌, Result, Ok, Err, IsTrue}
+use Rattle.map_model.specs.Script.State.{State}
+use Rattle.map_model.specs.Script.Refusal as refusals
+use Rattle.map_model.specs.Script.Command.{Command}
+use Rattle.map_model.specs.Script.Reply.{Reply, Made, Updated, Refused}
+use Rattle.map_model.specs.Script.Machine.{step}
+use Rattle.map_model.specs.Script.Output.{may_lack_memory}
+use Rattle.map_layers.specs.declared.faults.CreateFault.{CreateFault}
+use Rattle.map_layers.specs.declared.faults.CreateFault.TheVariants as create
+use Rattle.map_layers.specs.declared.faults.UpdateFault.{UpdateFault}
+use Rattle.map_layers.specs.declared.faults.UpdateFault.TheVariants as update
+use Rattle.map_layers.specs.declared.faults.AskFault.{AskFault}
+use Rattle.map_layers.specs.declared.faults.AskFault.TheVariants as ask
+
+abbrev pub refusal_of_create : CreateFault → refusals.Refusal
+refusal_of_create create.Taken = refusals.Taken
+refusal_of_create create.NoRoom = refusals.NoRoom
+
+abbrev pub refusal_of_update : UpdateFault → refusals.Refusal
+refusal_of_update update.NoLayer = refusals.NoLayer
+refusal_of_update update.WrongKind = refusals.Kind
+refusal_of_update (update.Duplicate id) = refusals.Duplicate id
+refusal_of_update (update.Unknown id) = refusals.Unknown id
+refusal_of_update update.Full = refusals.Full
+refusal_of_update update.NoMemory = refusals.NoMemory
+
+abbrev pub refusal_of_ask : AskFault → refusals.Refusal
+refusal_of_ask ask.NoLayer = refusals.NoLayer
+refusal_of_ask ask.WrongKind = refusals.Kind
+refusal_of_ask ask.NoIndex = refusals.Index
+refusal_of_ask (ask.Unknown id) = refusals.Unknown id
+refusal_of_ask ask.NoMemory = refusals.NoMemory
+
+abbrev pub created : {T : Type 0} → Result T CreateFault → Reply
+created (Ok done) = Made
+created (Err fault) = Refused (refusal_of_create fault)
+
+abbrev pub updated : {T : Type 0} → Result T UpdateFault → Reply
+updated (Ok done) = Updated
+updated (Err fault) = Refused (refusal_of_update fault)
+
+-- a question's reply, where an answer is what it says
+abbrev pub asked : {T : Type 0} → (T → Reply) → Result T AskFault → Reply
+asked reply_of (Ok given) = reply_of given
+asked reply_of (Err fault) = Refused (refusal_of_ask fault)
+
+-- A command is answered on a map as the machine that scans it does; where memory is lacking for it, the machine would refuse nothing,
+-- and the map stays.
+abbrev pub IsAnswered : State → Command → State → Reply → Type 0
+IsAnswered old command new (Refused refusals.NoMemory) = IsTrue (may_lack_memory old command) × (new ≡ old)
+IsAnswered old command new reply = step old command ≡ record { state = new; reply = reply }

@@ -1,0 +1,177 @@
+//! The layers of a map.
+mod asking;
+
+ghost use Rattle.std.specs.Prelude.{◌≡◌, ℕ, ◌+◌, ◌*◌, ◌<◌, ◌≤◌, ◌^◌, true, false, None, Some, Ok, Err, IfOk, length};
+ghost use Rattle.std.specs.Option.{option_map};
+ghost use Rattle.query_laws.specs.StepLedger.{lap_begun};
+ghost use Rattle.map_model.specs.Script.State.{layer_named};
+ghost use Rattle.map_model.specs.Script.Shape as model;
+ghost use Rattle.map_model.specs.Script.Command as commands;
+ghost use Rattle.map_model.specs.Script.Reply as replies;
+ghost use Rattle.map_shapes.specs.Kind.{kind_of};
+ghost use Rattle.map_shapes.specs.IndexSet.{index_set_of};
+ghost use Rattle.map_shapes.specs.Shape.{model_shape};
+ghost use Rattle.map_layers.specs.Layers.{no_layers, map_of, is_built, named, place_named};
+ghost use Rattle.map_layers.specs.Costs.{IsCostIn, IsToldIn};
+ghost use Rattle.map_layers.specs.Replies.{created, updated, asked, IsAnswered};
+
+use crate::point_layer::PointLayer;
+use crate::{AskFault, CreateFault, UpdateFault};
+use arrayvec::ArrayVec;
+use map_shapes::{IndexSet, Kind, Name, Shape, Spent};
+use query_laws::step_ledger::Steps;
+use std::alloc::Global;
+use std::marker::Model;
+use std::sync::ledger::Ledger;
+
+/// The most layers of a map.
+const MOST_LAYERS: usize = 8;
+
+/// A map of at most eight layers, which lie in place. Contracts see the map of the definitions, and what an update may cost there.
+///
+/// An update takes all memory before it changes anything, and spends a bounded number of turns, marks and touches, whatever came before
+/// it. A question is put to the complete parts of one index. Each call that is handed steps begins a lap.
+#[derive(Drop)]
+pub struct Layers {
+    layers: ArrayVec<PointLayer, MOST_LAYERS, Global>,
+    alloc: Global,
+    updates: u64,
+}
+
+impl Model for Layers {
+    ghost use Rattle.std.specs.Prelude.{◌≤◌, All};
+    ghost use Rattle.map_layers.specs.Layers.{LayersState, names_of, AllDiffer};
+
+    ghost Value = { LayersState };
+
+    ghost view = { λ l. record { layers = l.layers.items; updates = l.updates } };
+
+    ghost invariant = { λ l. AllDiffer (names_of l.layers.items) × All (λ layer. layer.adds ≤ l.updates) l.layers.items };
+}
+
+impl Layers {
+    /// A map without layers. It takes no memory; updates take theirs from `alloc`.
+    pub fn new(alloc: Global) -> Layers
+        ensures { result ≡ no_layers }
+    {
+        Layers {
+            layers: ArrayVec::new_in(alloc),
+            alloc,
+            updates: 0,
+        }
+    }
+
+    /// Makes an empty layer of a kind and indexes that are built: points with `range`. It takes no memory.
+    pub fn create(&mut self, name: &Name, kind: Kind, indexes: IndexSet) -> Result<(), CreateFault>
+        requires built { is_built (kind_of kind) (index_set_of indexes) ≡ true }
+        ensures answered { IsAnswered (map_of self.old) (commands.MakeLayer name.now (kind_of kind) (index_set_of indexes)) (map_of self.new) (created result) }
+        ensures updates { self.new.updates ≡ self.old.updates }
+    {
+        if layer_of(self.layers.as_slice(), name).is_some() {
+            return Err(CreateFault::Taken);
+        }
+        if self.layers.is_full() {
+            return Err(CreateFault::NoRoom);
+        }
+        self.layers
+            .push(PointLayer::new(self.alloc, *name, indexes.range));
+        Ok(())
+    }
+
+    /// Adds a point at the end of a layer.
+    pub fn add_point<L: Ledger>(
+        &mut self,
+        name: &Name,
+        id: u64,
+        x: u32,
+        y: u32,
+        w: u32,
+        steps: &mut Steps<L>,
+    ) -> Result<Spent, UpdateFault>
+        requires x_in_range { x < 2 ^ 31 }
+        requires y_in_range { y < 2 ^ 31 }
+        requires w_in_range { w < 2 ^ 31 }
+        requires few { self.old.updates < 2 ^ 40 }
+        ensures answered { IsAnswered (map_of self.old) (commands.Add name.now id (model.Point x y w)) (map_of self.new) (updated result) }
+        ensures counted { self.new.updates ≡ self.old.updates + 1 }
+
+        // Bounded, refused memory or not; and nothing where it is refused for another cause.
+        ensures cost { IsCostIn (layer_named name.now (map_of self.old)) result (lap_begun steps.old) steps.new }
+        ensures told { IfOk result (λ spent. IsToldIn (layer_named name.now (map_of self.old)) true spent (lap_begun steps.old) steps.new) }
+    {
+        steps.start_lap();
+        self.updates += 1;
+        match place_of(self.layers.as_slice(), name) {
+            Some(k) => self.layers.as_mut_slice()[k].add(id, x, y, w, steps),
+            None => Err(UpdateFault::NoLayer),
+        }
+    }
+
+    /// Drops the item with an identifier from a layer.
+    pub fn remove<L: Ledger>(
+        &mut self,
+        name: &Name,
+        id: u64,
+        steps: &mut Steps<L>,
+    ) -> Result<Spent, UpdateFault>
+        requires few { self.old.updates < 2 ^ 40 }
+        ensures answered { IsAnswered (map_of self.old) (commands.Drop name.now id) (map_of self.new) (updated result) }
+        ensures counted { self.new.updates ≡ self.old.updates + 1 }
+
+        // Bounded, refused memory or not; and nothing where it is refused for another cause.
+        ensures cost { IsCostIn (layer_named name.now (map_of self.old)) result (lap_begun steps.old) steps.new }
+        ensures told { IfOk result (λ spent. IsToldIn (layer_named name.now (map_of self.old)) false spent (lap_begun steps.old) steps.new) }
+    {
+        steps.start_lap();
+        self.updates += 1;
+        match place_of(self.layers.as_slice(), name) {
+            Some(k) => self.layers.as_mut_slice()[k].remove(id, steps),
+            None => Err(UpdateFault::NoLayer),
+        }
+    }
+
+    /// How many items a layer has.
+    pub fn size(&self, name: &Name) -> Result<u64, AskFault>
+        ensures answered { IsAnswered (map_of self.now) (commands.Size name.now) (map_of self.now) (asked replies.Sized result) }
+    {
+        match layer_of(self.layers.as_slice(), name) {
+            Some(layer) => Ok(layer.len() as u64),
+            None => Err(AskFault::NoLayer),
+        }
+    }
+
+    /// The shape of the item of a layer with an identifier.
+    pub fn get(&self, name: &Name, id: u64) -> Result<Shape, AskFault>
+        ensures answered { IsAnswered (map_of self.now) (commands.Get name.now id) (map_of self.now)
+            (asked (λ shape. replies.Got (model_shape shape)) result) }
+    {
+        let Some(layer) = layer_of(self.layers.as_slice(), name) else {
+            return Err(AskFault::NoLayer);
+        };
+        match layer.get(id) {
+            Some(shape) => Ok(shape),
+            None => Err(AskFault::Unknown(id)),
+        }
+    }
+
+    /// How many calls of updates there were, refused ones included.
+    pub fn updates(&self) -> u64
+        ensures { result ≡ self.now.updates }
+    {
+        self.updates
+    }
+}
+
+/// The layer of a name.
+fn layer_of<'a>(layers: &'a [PointLayer], name: &Name) -> Option<&'a PointLayer>
+    ensures { option_map (λ l. l.now) result ≡ named name.now layers.now }
+{
+    layers.iter().find(|layer| layer.has_name(name))
+}
+
+/// Where the layer of a name is.
+fn place_of(layers: &[PointLayer], name: &Name) -> Option<usize>
+    ensures { result ≡ place_named name.now layers.now }
+{
+    layers.iter().position(|layer| layer.has_name(name))
+}

@@ -1,0 +1,102 @@
+//! The questions that a layer's index answers.
+ghost use Rattle.std.specs.Prelude.{◌≡◌, ◌≤◌, ◌^◌, None, Some, Err, IfOk, length, map};
+ghost use Rattle.query_laws.specs.StepLedger.{lap_begun};
+ghost use Rattle.map_model.specs.Script.State.{layer_named};
+ghost use Rattle.map_model.specs.Script.Answer as answers;
+ghost use Rattle.map_model.specs.Script.Command.{Ask};
+ghost use Rattle.map_model.specs.Script.Reply.{Answered};
+ghost use Rattle.map_shapes.specs.Rect.{rect_of};
+ghost use Rattle.map_layers.specs.Layer.{Layered, layer_of, IsAskRefusal};
+ghost use Rattle.map_layers.specs.Layers.{map_of, named};
+ghost use Rattle.map_layers.specs.Costs.{IsAsking, IsAskingIn};
+ghost use Rattle.map_layers.specs.Replies.{asked, IsAnswered};
+
+use super::layer_of;
+use crate::{AskFault, Layers};
+use builder_trait::{Answers, Given};
+use map_shapes::{Asked, CountIn, ListIn, Name, Point, Rect, SumIn};
+use query_laws::Question;
+use query_laws::step_ledger::Steps;
+use range_tree::RangePart;
+use std::sync::ledger::Ledger;
+
+impl Layers {
+    /// The number of points of a layer in a rectangle or on its border.
+    pub fn count<L: Ledger>(
+        &self,
+        name: &Name,
+        rect: &Rect,
+        steps: &mut Steps<L>,
+    ) -> Result<(Given<RangePart, CountIn>, Asked), AskFault>
+        ensures answered { IsAnswered (map_of self.now) (Ask name.now (answers.CountIn (rect_of rect.now))) (map_of self.now)
+            (asked (λ given. Answered (answers.Counted given.0.answer)) result) }
+        ensures question { IfOk result (λ given. given.0.question.0 ≡ rect.now) }
+        ensures consulted { IfOk result (λ given. given.1.parts ≡ given.0.parts) }
+        ensures cost { IfOk result (λ given. IsAskingIn (layer_named name.now (map_of self.now)) given.1 (lap_begun steps.old) steps.new) }
+    {
+        self.ask(name, &CountIn(*rect), steps)
+    }
+
+    /// What the points of a layer in a rectangle or on its border weigh together.
+    pub fn sum<L: Ledger>(
+        &self,
+        name: &Name,
+        rect: &Rect,
+        steps: &mut Steps<L>,
+    ) -> Result<(Given<RangePart, SumIn>, Asked), AskFault>
+        ensures answered { IsAnswered (map_of self.now) (Ask name.now (answers.SumIn (rect_of rect.now))) (map_of self.now)
+            (asked (λ given. Answered (answers.Summed given.0.answer)) result) }
+        ensures question { IfOk result (λ given. given.0.question.0 ≡ rect.now) }
+        ensures consulted { IfOk result (λ given. given.1.parts ≡ given.0.parts) }
+        ensures cost { IfOk result (λ given. IsAskingIn (layer_named name.now (map_of self.now)) given.1 (lap_begun steps.old) steps.new) }
+    {
+        self.ask(name, &SumIn(*rect), steps)
+    }
+
+    /// The identifiers of the points of a layer in a rectangle or on its border, ascending.
+    pub fn list<L: Ledger>(
+        &self,
+        name: &Name,
+        rect: &Rect,
+        steps: &mut Steps<L>,
+    ) -> Result<(Given<RangePart, ListIn>, Asked), AskFault>
+        ensures answered { IsAnswered (map_of self.now) (Ask name.now (answers.ListIn (rect_of rect.now))) (map_of self.now)
+            (asked (λ given. Answered (answers.Listed given.0.answer)) result) }
+        ensures question { IfOk result (λ given. given.0.question.0 ≡ rect.now) }
+        ensures consulted { IfOk result (λ given. given.1.parts ≡ given.0.parts) }
+        ensures cost { IfOk result (λ given. IsAskingIn (layer_named name.now (map_of self.now)) given.1 (lap_begun steps.old) steps.new) }
+    {
+        self.ask(name, &ListIn(*rect), steps)
+    }
+
+    /// Puts a question to the index for rectangles of a layer.
+    fn ask<Q: Question<Item = Point>, L: Ledger>(
+        &self,
+        name: &Name,
+        question: &Q,
+        steps: &mut Steps<L>,
+    ) -> Result<(Given<RangePart, Q>, Asked), AskFault>
+    where
+        RangePart: Answers<Q>,
+        ensures no_layer { named name.now self.now.layers ≡ None → result ≡ Err AskFault.NoLayer }
+        ensures refused { (l : Layered) → named name.now self.now.layers ≡ Some l → IsAskRefusal l.range Q.refusable result }
+        ensures question { IfOk result (λ given. given.0.question ≡ question.now) }
+        ensures value { (l : Layered) → named name.now self.now.layers ≡ Some l
+            → IfOk result (λ given. given.0.answer ≡ Q.value question.now (map (λ e. e.item) l.entries)) }
+        ensures consulted { IfOk result (λ given. given.1.parts ≡ given.0.parts) }
+        ensures few { (l : Layered) → named name.now self.now.layers ≡ Some l → length l.entries ≤ 2 ^ 16 }
+        ensures cost { (l : Layered) → named name.now self.now.layers ≡ Some l → IfOk result (λ given. IsAsking (layer_of l) given.1 (lap_begun steps.old) steps.new) }
+    {
+        steps.start_lap();
+        let Some(layer) = layer_of(self.layers.as_slice(), name) else {
+            return Err(AskFault::NoLayer);
+        };
+        let given = layer.ask_range(self.alloc, question, steps)?;
+        let asked = Asked {
+            parts: given.consulted(),
+            part_bound: layer.bounds().parts,
+            touches: steps.lap_touches(),
+        };
+        Ok((given, asked))
+    }
+}
