@@ -1,5 +1,8 @@
 //! The worked construction of `partial_build`'s test, over range parts.
-ghost use Rattle.std.specs.Prelude.{◌≡◌, ◌≢◌, [], ◌∷◌, true, IsTrue, IfOk};
+ghost use Rattle.std.specs.Prelude.{◌≡◌, ◌≢◌, ◌≤◌, [], ◌∷◌, true, length, IsTrue, IfOk};
+ghost use Rattle.query_laws.specs.Orders.{AllStampsDiffer};
+ghost use Rattle.builder_trait.specs.Builders.{begun};
+ghost use Rattle.ordered_merge.specs.Merging.{StampsDiffer};
 
 use builder_trait::{Builder, Part, completed};
 use map_shapes::Point;
@@ -59,24 +62,51 @@ fn construction_seen<B: Builder, L: Ledger>(
     requires within_b { B.Item.stamp second ≢ B.Item.stamp fourth }
 {
     let mut steps = Steps::<L>::new(blank);
-    let mut a: B::Part = pair::<B, L>(alloc, first, third, &mut steps)?;
+    let a: B::Part = pair::<B, L>(alloc, first, third, &mut steps)?;
     let b: B::Part = pair::<B, L>(alloc, second, fourth, &mut steps)?;
     let builder = B::room(alloc, 2)?;
+    let room = Room::<B>::new(alloc, 2)?;
     steps.start_lap();
-    let mut build = Room::<B>::new(alloc, 2)?.begin(&a, &b);
+    Ok(construct(a, b, first, room, builder, &mut steps))
+}
+
+/// The same, of the two parts, with the room for the construction and a builder for the next one.
+fn construct<B: Builder, L: Ledger>(
+    mut a: B::Part,
+    b: B::Part,
+    first: B::Item,
+    room: Room<B>,
+    builder: B,
+    steps: &mut Steps<L>,
+) -> ([u64; 4], [usize; 4], [u64; 5])
+    requires level { room ≡ 2 }
+    requires begun { B.progress builder ≡ begun 2 }
+    requires first { (third : B.Item) × (B.Part.Part.contents a ≡ record {
+      items = first ∷ third ∷ [];
+      flags = true ∷ true ∷ [];
+      reordered = first ∷ third ∷ [];
+      places = 0 ∷ 1 ∷ [];
+      at_level = 1;
+    }) }
+    requires few { length (B.Part.Part.contents b).items ≤ 2 }
+    requires apart { AllStampsDiffer B.Item.stamp (B.Part.Part.contents a).items }
+    requires other_apart { AllStampsDiffer B.Item.stamp (B.Part.Part.contents b).items }
+    requires differ { StampsDiffer B.Item.stamp (B.Part.Part.contents a).items (B.Part.Part.contents b).items }
+{
+    let mut build = room.begin(&a, &b);
     let begun = (build.turns_left(), build.waiting());
-    build.tick(&a, &b, &mut steps);
+    build.tick(&a, &b, steps);
     let ticked = (build.turns_left(), build.waiting());
-    a.mark(&first, &mut steps);
+    a.mark(&first, steps);
     build.note(&first);
     let noted = (build.turns_left(), build.waiting());
-    build.tick(&a, &b, &mut steps);
+    build.tick(&a, &b, steps);
     let drained = (build.turns_left(), build.waiting());
-    build.tick(&a, &b, &mut steps);
-    build.tick(&a, &b, &mut steps);
+    build.tick(&a, &b, steps);
+    build.tick(&a, &b, steps);
     let (part, tables) = build.publish();
     let again = Room::of(builder, tables).begin(&a, &b);
-    Ok((
+    (
         [begun.0, ticked.0, noted.0, drained.0],
         [begun.1, ticked.1, noted.1, drained.1],
         [
@@ -86,7 +116,7 @@ fn construction_seen<B: Builder, L: Ledger>(
             steps.lap_marks(),
             again.turns_left(),
         ],
-    ))
+    )
 }
 
 /// A tick takes 4 * 2 + 12 + 4 = 24 turns. At first 8 are left for the merge, and 2 * (4 * 2 + 12) = 40 at most for the builder.

@@ -75,21 +75,21 @@ is_among-named name [] = refl
 is_among-named name (l ∷ ls) = grind (arith, common_steps, is_among-named name ls)
 
 -- a list with another entry at a place
-pub set-middle : {A : Type 0} (front : List A) (x y : A) (back : List A) → set (front ++ x ∷ back) (length front) y ≡ front ++ y ∷ back
+set-middle : {A : Type 0} (front : List A) (x y : A) (back : List A) → set (front ++ x ∷ back) (length front) y ≡ front ++ y ∷ back
 set-middle [] x y back = refl
 set-middle (z ∷ front) x y back = ap (λ l. z ∷ l) (set-middle front x y back)
 
-pub get_or-middle : {A : Type 0} (front : List A) (x d : A) (back : List A) → get_or (front ++ x ∷ back) (length front) d ≡ x
+get_or-middle : {A : Type 0} (front : List A) (x d : A) (back : List A) → get_or (front ++ x ∷ back) (length front) d ≡ x
 get_or-middle [] x d back = refl
 get_or-middle (z ∷ front) x d back = get_or-middle front x d back
 
 -- no layer of the name is there
-pub unnamed : (name : List ℕ) (f : List Item → List Item) (ls : List Layered) → named name ls ≡ None → with_items name f (map layer_of ls) ≡ map layer_of ls
+unnamed : (name : List ℕ) (f : List Item → List Item) (ls : List Layered) → named name ls ≡ None → with_items name f (map layer_of ls) ≡ map layer_of ls
 unnamed name f [] none = refl
 unnamed name f (l ∷ ls) none = grind (arith, common_steps, unnamed name f ls)
 
 -- a layer in place of another one of the same name
-pub names-kept : (front : List Layered) (l l' : Layered) (back : List Layered) → l'.name ≡ l.name → names_of (front ++ l' ∷ back) ≡ names_of (front ++ l ∷ back)
+names-kept : (front : List Layered) (l l' : Layered) (back : List Layered) → l'.name ≡ l.name → names_of (front ++ l' ∷ back) ≡ names_of (front ++ l ∷ back)
 names-kept [] l l' back same = ap (λ n. n ∷ names_of back) same
 names-kept (k ∷ front) l l' back same = ap (λ ns. k.name ∷ ns) (names-kept front l l' back same)
 
@@ -113,16 +113,16 @@ is_taken-named name (l ∷ ls) = grind (arith, common_steps, is_taken-named name
 pub IsAt-less : {name : List ℕ} {ls : List Layered} {k : ℕ} → IsAt name ls k → k < length ls
 IsAt-less {name} {ls} {k} at = omega (arith, at.place, ap length at.split, length-append at.front (at.layer ∷ at.back))
 
-pub IsAt-here : {name : List ℕ} {ls : List Layered} {k : ℕ} (at : IsAt name ls k) (d : Layered) → get_or ls k d ≡ at.layer
+IsAt-here : {name : List ℕ} {ls : List Layered} {k : ℕ} (at : IsAt name ls k) (d : Layered) → get_or ls k d ≡ at.layer
 IsAt-here {name} {ls} {k} at d = ap (λ xs. get_or xs k d) at.split ∙ ap (λ n. get_or (at.front ++ at.layer ∷ at.back) n d) at.place ∙ get_or-middle at.front at.layer d at.back
 
 -- a slice of all layers was written
-pub refilled : (items written_to : List Layered) (k : ℕ) (l' : Layered) → written_to ≡ items → refill (length items) items (set written_to k l') ≡ set written_to k l'
+refilled : (items written_to : List Layered) (k : ℕ) (l' : Layered) → written_to ≡ items → refill (length items) items (set written_to k l') ≡ set written_to k l'
 refilled items written_to k l' same = written (length items) items (set written_to k l') refl (length-set written_to k l' ∙ ap length same)
 
 -- ---- a layer in place of another one of the same name
 
-pub named-at : (name : List ℕ) (k : ℕ) (ls : List Layered) (at : IsAt name ls k) → named name ls ≡ Some at.layer
+named-at : (name : List ℕ) (k : ℕ) (ls : List Layered) (at : IsAt name ls k) → named name ls ≡ Some at.layer
 named-at name k ls at = ap (named name) at.split ∙ past at.front at.first
   where
     past : (front : List Layered) → named name front ≡ None → named name (front ++ at.layer ∷ at.back) ≡ Some at.layer
@@ -154,37 +154,55 @@ renewed name change (k ∷ front) l l' back none has after is =
     sym (ap (λ b. (if b then changed change (layer_of k) else layer_of k) ∷ with_items name change (map layer_of (front ++ l ∷ back))) other
     ∙ ap (λ t. layer_of k ∷ t) (sym (renewed name change front l l' back rest has after is)))
 
-module _ (name : List ℕ) (k : ℕ) (ls ls' : List Layered) (l l' : Layered) (at : IsAt name ls k) (here : l ≡ at.layer) (same_name : l'.name ≡ l.name)
-    (placed : ls' ≡ set ls k l') where
+module _ (name : List ℕ) (k : ℕ) (items ls : List Layered) (d l' : Layered) (written_to : ls ≡ items) (found : place_named name ls ≡ Some k)
+    (same_name : l'.name ≡ (get_or ls k d).name) where
+  at : IsAt name ls k
+  at = IsAt-place name k ls found
+
+  abbrev l : Layered
+  l = get_or ls k d
+
+  abbrev ls' : List Layered
+  ls' = refill (length items) items (set ls k l')
+
   split : ls' ≡ at.front ++ l' ∷ at.back
-  split = placed ∙ ap (λ xs. set xs k l') at.split ∙ ap (λ n. set (at.front ++ at.layer ∷ at.back) n l') at.place ∙ set-middle at.front at.layer l' at.back
+  split = refilled items ls k l' written_to ∙ ap (λ xs. set xs k l') at.split ∙ ap (λ n. set (at.front ++ at.layer ∷ at.back) n l') at.place
+      ∙ set-middle at.front at.layer l' at.back
 
   own : ls ≡ at.front ++ l ∷ at.back
-  own = at.split ∙ ap (λ x. at.front ++ x ∷ at.back) (sym here)
+  own = at.split ∙ ap (λ x. at.front ++ x ∷ at.back) (sym (IsAt-here at d))
 
   has : bytes_eq l.name name ≡ true
-  has = ap (λ x. bytes_eq x.name name) here ∙ at.has
+  has = ap (λ x. bytes_eq x.name name) (IsAt-here at d) ∙ at.has
 
-  pub names-same : names_of ls' ≡ names_of ls
-  names-same = ap names_of split ∙ names-kept at.front l l' at.back same_name ∙ ap names_of (sym own)
+  -- the names are the same
+  pub AllDiffer-at : AllDiffer (names_of items) → AllDiffer (names_of ls')
+  AllDiffer-at differ = subst AllDiffer (ap names_of (sym written_to ∙ own) ∙ sym (names-kept at.front l l' at.back same_name) ∙ ap names_of (sym split)) differ
 
-  pub adds-more : (most : ℕ) → All (λ x. x.adds ≤ most) ls → l'.adds ≤ most + 1 → All (λ x. x.adds ≤ most + 1) ls'
-  adds-more most all one =
-      subst (All (λ x. x.adds ≤ most + 1)) (sym placed)
-      (All-set (λ x. x.adds ≤ most + 1) ls k l' one (λ i d within. omega (arith, all i d within)))
+  -- at most one add more
+  pub adds-at : (most : ℕ) → All (λ x. x.adds ≤ most) items → l'.adds ≤ l.adds + 1 → All (λ x. x.adds ≤ most + 1) ls'
+  adds-at most all one =
+      let own_all = subst (All (λ x. x.adds ≤ most)) (sym written_to) all in
+      subst (All (λ x. x.adds ≤ most + 1)) (sym (refilled items ls k l' written_to))
+      (All-set (λ x. x.adds ≤ most + 1) ls k l' (omega (arith, one, own_all k d (IsAt-less at))) (λ i e within. omega (arith, own_all i e within)))
 
-  pub IsRenewed-at : AllDiffer (names_of ls) → is_some l'.range ≡ is_some l.range
-      → IsRenewed name (map layer_of ls) (map layer_of ls') (layer_of l) (items_of l'.entries)
+  pub found-at : layer_named name (map layer_of items) ≡ Some (layer_of l)
+  found-at = ap (λ xs. layer_named name (map layer_of xs)) (sym written_to) ∙ layer_named-named name ls ∙ ap (option_map layer_of) (named-at name k ls at)
+      ∙ ap (λ x. Some (layer_of x)) (sym (IsAt-here at d))
+
+  pub IsRenewed-at : AllDiffer (names_of items) → is_some l'.range ≡ is_some l.range
+      → IsRenewed name (map layer_of items) (map layer_of ls') (layer_of l) (items_of l'.entries)
   IsRenewed-at differ range = record {
-    found = layer_named-named name ls ∙ ap (option_map layer_of) (named-at name k ls at) ∙ ap (λ x. Some (layer_of x)) (sym here);
+    found = found-at;
     points = refl;
-    same = λ items.
-        let same : layer_of l' ≡ layer_of l = λ i. record { name = same_name i; kind = Points; indexes = record no_indexes { range = range i }; items = items i } in
+    same = λ same_items.
+        let same : layer_of l' ≡ layer_of l = λ i. record { name = same_name i; kind = Points; indexes = record no_indexes { range = range i }; items = same_items i } in
         ap (map layer_of) split ∙ map-append layer_of at.front (l' ∷ at.back) ∙ ap (λ h. map layer_of at.front ++ h ∷ map layer_of at.back) same
-        ∙ sym (map-append layer_of at.front (l ∷ at.back)) ∙ ap (map layer_of) (sym own);
-    changed = λ change items.
-        let is : layer_of l' ≡ changed change (layer_of l) = λ i. record { name = same_name i; kind = Points; indexes = record no_indexes { range = range i }; items = items i } in
+        ∙ sym (map-append layer_of at.front (l ∷ at.back)) ∙ ap (map layer_of) (sym own ∙ written_to);
+    changed = λ change new_items.
+        let is : layer_of l' ≡ changed change (layer_of l) = λ i. record { name = same_name i; kind = Points; indexes = record no_indexes { range = range i }; items = new_items i } in
         ap (map layer_of) split
-        ∙ renewed name change at.front l l' at.back at.first has (none-after name at.front l at.back (subst (λ xs. AllDiffer (names_of xs)) own differ) has) is
-        ∙ ap (λ xs. with_items name change (map layer_of xs)) (sym own);
+        ∙ renewed name change at.front l l' at.back at.first has
+        (none-after name at.front l at.back (subst (λ xs. AllDiffer (names_of xs)) (sym written_to ∙ own) differ) has) is
+        ∙ ap (λ xs. with_items name change (map layer_of xs)) (sym own ∙ written_to);
   }

@@ -70,7 +70,7 @@ impl Layers {
         if layer_of(self.layers.as_slice(), name).is_some() {
             return Err(CreateFault::Taken);
         }
-        if self.layers.is_full() {
+        if self.layers.len() >= MOST_LAYERS {
             return Err(CreateFault::NoRoom);
         }
         self.layers

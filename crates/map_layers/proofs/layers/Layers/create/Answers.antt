@@ -1,4 +1,4 @@
-use Rattle.std.proofs.Common.{rules, ◌≡◌, ◌≤◌, ◌∙◌, true, false, [], ◌∷◌, ◌++◌, length, map, All, bytes_eq, ◌<◌, refl, ap, sym, subst, arith}
+use Rattle.std.proofs.Common.{rules, ◌≡◌, ◌≤◌, ◌∙◌, true, false, [], ◌∷◌, ◌++◌, length, map, All, bytes_eq, refl, ap, sym, subst, arith}
 use Rattle.std.specs.Prelude.{nat_le}
 use Rattle.std.specs.List.{list_any}
 use Rattle.std.specs.Option.{is_some}
@@ -23,13 +23,13 @@ returns-then-is_some-clause-answered c =
     step-make (map_of c.args.self.now) c.args.name.now (kind_of c.args.kind) (index_set_of c.args.indexes) true (nat_le most_layers (length (map_of c.args.self.now)))
     (is_taken-named c.args.name.now c.args.self.now.layers ∙ taken) refl
 
-pub returns-then-is_full-clause-answered : goal.returns-then-is_full-clause-answered
-returns-then-is_full-clause-answered c =
+pub returns-then-len-ge-MOST_LAYERS-clause-answered : goal.returns-then-len-ge-MOST_LAYERS-clause-answered
+returns-then-len-ge-MOST_LAYERS-clause-answered c =
     let free : is_some (named c.args.name.now c.args.self.now.layers) ≡ false = search rules in
-    let full : length c.args.self.now.layers ≡ 8 = search rules in
+    let held : c.len.result ≡ length c.args.self.now.layers = search rules in
     step-make (map_of c.args.self.now) c.args.name.now (kind_of c.args.kind) (index_set_of c.args.indexes) false true
     (is_taken-named c.args.name.now c.args.self.now.layers ∙ free)
-    (le-leb most_layers (length (map_of c.args.self.now)) (omega (arith, full, length-map c.args.self.now.layers layer_of)))
+    (le-leb most_layers (length (map_of c.args.self.now)) (omega (arith, c.if-len-ge-MOST_LAYERS.true, held, length-map c.args.self.now.layers layer_of)))
 
 pub invariant_of-self : goal.invariant_of-self
 invariant_of-self c =
@@ -50,11 +50,11 @@ returns-clause-answered c =
     let ls = c.args.self.now.layers in
     let built = is_built-range (kind_of c.args.kind) (index_set_of c.args.indexes) c.requires.built in
     let free : is_some (named c.args.name.now ls) ≡ false = search rules in
-    let few : length ls < 8 = search rules in
+    let held : c.len.result ≡ length ls = search rules in
     let items : c.push.new.self.items ≡ ls ++ c.new.result ∷ [] = search rules in
     let made : layer_of c.new.result ≡ record { name = c.args.name.now; kind = kind_of c.args.kind; indexes = index_set_of c.args.indexes; items = [] } =
     layer_of-new c.new.result c.args.name.now (kind_of c.args.kind) (index_set_of c.args.indexes) c.new.ensures.name c.new.ensures.entries c.new.ensures.range built in
     step-make (map_of c.args.self.now) c.args.name.now (kind_of c.args.kind) (index_set_of c.args.indexes) false false
     (is_taken-named c.args.name.now ls ∙ free)
-    (lt-leb most_layers (length (map_of c.args.self.now)) (omega (arith, few, length-map ls layer_of)))
+    (lt-leb most_layers (length (map_of c.args.self.now)) (omega (arith, c.if-len-ge-MOST_LAYERS.false, held, length-map ls layer_of)))
     ∙ ap (λ s. replied s Made) (sym (ap (map layer_of) items ∙ map-append layer_of ls (c.new.result ∷ []) ∙ ap (λ (l : Layer). map_of c.args.self.now ++ l ∷ []) made))

@@ -1,7 +1,8 @@
-use Rattle.std.proofs.Common.{rules, ◌≡◌, ◌∙◌, None, Some, ap, sym}
+use Rattle.std.proofs.Common.{rules, ◌≡◌, ◌∙◌, None, Some, ap, sym, arith}
 use Rattle.std.specs.Option.{option_map}
 use Rattle.map_model.specs.Script.State.{layer_named, shape_of}
-use Rattle.map_model.specs.Script.Machine.{got, get_from}
+use Rattle.map_model.specs.Script.Refusal as refusals
+use Rattle.map_model.specs.Script.Machine.{got, get_from, refused}
 use Rattle.map_shapes.specs.Shape.{model_shape}
 use Rattle.map_layers.specs.Layer.{items_of, layer_of}
 use Rattle.map_layers.specs.Layers.{map_of, named}
@@ -33,4 +34,7 @@ returns-in-None c =
     let here : layer_named c.args.name.now (map_of c.args.self.now) ≡ Some (layer_of l) =
     layer_named-named c.args.name.now c.args.self.now.layers ∙ ap (option_map layer_of) found in
     let none : shape_of c.args.id (items_of l.entries) ≡ None = sym c.get.ensures ∙ ap (option_map model_shape) c.in-None.is in
-    record { answered = ap (get_from (map_of c.args.self.now) c.args.id) here ∙ ap (got (map_of c.args.self.now) c.args.id) none }
+    record {
+      answered = ap (get_from (map_of c.args.self.now) c.args.id) here ∙ ap (got (map_of c.args.self.now) c.args.id) none
+          ∙ ap (λ id. refused (map_of c.args.self.now) (refusals.Unknown id)) (omega arith);
+    }

@@ -1,4 +1,4 @@
-use Rattle.std.proofs.Common.{rules, ◌≡◌, ◌∙◌, None, Some, ap, sym}
+use Rattle.std.proofs.Common.{rules, ◌≡◌, ◌∙◌, None, Some, ap, arith}
 use Rattle.std.specs.Option.{option_map}
 use Rattle.map_model.specs.Script.State.{layer_named}
 use Rattle.map_model.specs.Script.Reply as replies
@@ -17,7 +17,7 @@ returns-in-Some c =
     layer_named-named c.args.name.now c.args.self.now.layers ∙ ap (option_map layer_of) found in
     record {
       answered = ap (size_of (map_of c.args.self.now)) here
-          ∙ ap (λ n. replied (map_of c.args.self.now) (replies.Sized n)) (as_many_items l.entries ∙ sym c.len.ensures.count);
+          ∙ ap (λ n. replied (map_of c.args.self.now) (replies.Sized n)) (omega (arith, as_many_items l.entries, c.len.ensures.count, c.len.ensures.few));
     }
 
 pub returns-in-None : goal.returns-in-None

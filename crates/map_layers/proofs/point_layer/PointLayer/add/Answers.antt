@@ -16,7 +16,7 @@ use Rattle.map_layers.proofs.point_layer.PointLayer.add.Goals as goal
 pub returns-then-is_some-clause-added : goal.returns-then-is_some-clause-added
 returns-then-is_some-clause-added g c =
     let some : is_some (handle_of (λ p. p.id) c.args.id c.args.self.now.entries) ≡ true = search rules in
-    (live_found c.args.id c.args.self.now.entries ∙ some, refl, refl)
+    (live_found c.args.id c.args.self.now.entries ∙ some, omega arith, refl)
 
 pub returns-then-len-ge-MOST_ITEMS-clause-added : goal.returns-then-len-ge-MOST_ITEMS-clause-added
 returns-then-len-ge-MOST_ITEMS-clause-added g c =

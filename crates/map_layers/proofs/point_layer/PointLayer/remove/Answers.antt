@@ -13,7 +13,7 @@ use Rattle.map_layers.proofs.point_layer.PointLayer.remove.Goals as goal
 pub returns-in_default-clause-removed : goal.returns-in_default-clause-removed
 returns-in_default-clause-removed g c =
     let none : is_some (handle_of (λ p. p.id) c.args.id c.args.self.now.entries) ≡ false = search rules in
-    (live_found c.args.id c.args.self.now.entries ∙ none, refl, refl)
+    (live_found c.args.id c.args.self.now.entries ∙ none, omega arith, refl)
 
 pub returns-in_err-prepare_in-clause-removed : goal.returns-in_err-prepare_in-clause-removed
 returns-in_err-prepare_in-clause-removed g c =
