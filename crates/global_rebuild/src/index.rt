@@ -5,7 +5,7 @@ ghost use Rattle.query_laws.specs.StepLedger.{Spends};
 ghost use Rattle.id_chain.specs.Chain.{Entry, HandlesDiffer, is_linked, item_at, IsCursor, before_cursor, without_handle};
 ghost use Rattle.level_slots.specs.Slots.{live_items, all_items, weight_of, parts_of, memory_of};
 ghost use Rattle.level_slots.specs.Rooms.{rooms_of};
-ghost use Rattle.level_slots.specs.Asking.{touches_of};
+ghost use Rattle.level_slots.specs.Asking.{HaveAtMost, touches_of};
 ghost use Rattle.level_slots.specs.Cost.{IsWithin, quotas};
 ghost use Rattle.global_rebuild.specs.Index.{Shadow as Walked, live_in, unwalked, walked_on, shadow_weight, main_weight_on, shadow_weight_on, shadow_rooms, retired_parts, retired_parts_on, is_heavy, IsForecast, IsKept, IsInTime, IsIndex, IsIndexOf, IsPrepared};
 
@@ -234,6 +234,7 @@ impl<B: Builder> Index<B> {
 
         // At most three of a level.
         ensures few { (g : ℕ) → 2 * live_in B.Part.Part.contents self.now.main + 10 < 2 ^ (g + 1) → parts_of self.now.main.levels ≤ 3 * (g + 1) }
+        ensures sizes { (g : ℕ) → 2 * live_in B.Part.Part.contents self.now.main + 10 < 2 ^ (g + 1) → HaveAtMost B.Part.Part.contents (2 ^ g) self.now.main.levels }
     {
         self.main.parts()
     }

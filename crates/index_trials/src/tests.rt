@@ -97,63 +97,50 @@ fn row_of<L: Ledger>(
     })
 }
 
-/// Adds points as `add` does, and puts what is seen then behind the rows.
-fn add_and_see<L: Ledger>(
-    alloc: Global,
-    collection: &mut Collection<RangeBuilder>,
-    from: u64,
-    to: u64,
-    rows: &mut Vec<Row>,
-    steps: &mut Steps<L>,
-) -> Result<(), NoMemory>
-    requires ordered { from ≤ to }
-    requires few { to < 2 ^ 10 }
-    requires stamps { collection.old.index.stamps ≤ from }
-    requires length { length collection.old.entries ≤ from }
-    ensures stamps { OnOk result (collection.new.index.stamps ≤ to) }
-    ensures length { OnOk result (length collection.new.entries ≤ to) }
-{
-    add(collection, from, to, steps)?;
-    rows.push(row_of(alloc, collection, steps)?)?;
-    Ok(())
+/// An update, or so many of one kind.
+#[derive(Clone, Copy, Debug, PartialEq)]
+enum Move {
+    Add(u64),
+    DropOldest(u64),
+    DropNewest,
 }
 
-/// Drops points as `drop_oldest` does, and puts what is seen then behind the rows.
-fn drop_and_see<L: Ledger>(
-    alloc: Global,
+/// The most points that a test adds.
+const MOST: u64 = 1_000;
+
+/// Makes a move. The identifier of the next point comes in and goes out.
+fn make<L: Ledger>(
     collection: &mut Collection<RangeBuilder>,
-    count: u64,
-    rows: &mut Vec<Row>,
+    chosen: Move,
+    next: u64,
     steps: &mut Steps<L>,
-) -> Result<(), NoMemory>
-    ensures stamps { collection.new.index.stamps ≡ collection.old.index.stamps }
-    ensures no_more { length collection.new.entries ≤ length collection.old.entries }
+) -> Result<u64, NoMemory>
+    requires few { next ≤ 1000 }
+    requires stamps { collection.old.index.stamps ≤ next }
+    requires length { length collection.old.entries ≤ next }
+    ensures few { IfOk result (λ later. later ≤ 1000) }
+    ensures stamps { IfOk result (λ later. collection.new.index.stamps ≤ later) }
+    ensures length { IfOk result (λ later. length collection.new.entries ≤ later) }
 {
-    drop_oldest(collection, count, steps)?;
-    rows.push(row_of(alloc, collection, steps)?)?;
-    Ok(())
+    match chosen {
+        Move::Add(count) => {
+            let later = next.saturating_add(count).min(MOST);
+            add(collection, next, later, steps)?;
+            Ok(later)
+        }
+        Move::DropOldest(count) => {
+            drop_oldest(collection, count, steps)?;
+            Ok(next)
+        }
+        Move::DropNewest => {
+            remove_newest(collection, steps)?;
+            Ok(next)
+        }
+    }
 }
 
-/// Twenty adds and fourteen drops of the oldest.
-fn add_and_drop<L: Ledger>(
-    alloc: Global,
-    collection: &mut Collection<RangeBuilder>,
-    rows: &mut Vec<Row>,
-    steps: &mut Steps<L>,
-) -> Result<(), NoMemory>
-    requires stamps { collection.old.index.stamps ≤ 1 }
-    requires length { length collection.old.entries ≤ 1 }
-    ensures stamps { OnOk result (collection.new.index.stamps ≤ 21) }
-    ensures length { OnOk result (length collection.new.entries ≤ 21) }
-{
-    add_and_see(alloc, collection, 1, 21, rows, steps)?;
-    drop_and_see(alloc, collection, 12, rows, steps)?;
-    drop_and_see(alloc, collection, 1, rows, steps)?;
-    drop_and_see(alloc, collection, 1, rows, steps)
-}
-
-/// Those and three more adds: what is seen after some of them.
-fn rebuilt<L: Ledger>(alloc: Global, blank: Blank) -> Result<Vec<Row>, NoMemory>
+/// What is seen after each of some moves, from no points on.
+fn seen_after<L: Ledger>(alloc: Global, moves: &[Move], blank: Blank) -> Result<Vec<Row>, NoMemory>
     requires name { blank.name ≡ L.name }
     requires parts { blank.parts ≡ L.parts }
     requires shares { blank.parts ≡ SHARES }
@@ -161,16 +148,25 @@ fn rebuilt<L: Ledger>(alloc: Global, blank: Blank) -> Result<Vec<Row>, NoMemory>
     let mut steps = Steps::<L>::new(blank);
     let mut collection = Collection::new(alloc);
     let mut rows = Vec::new(alloc);
-    add_and_drop(alloc, &mut collection, &mut rows, &mut steps)?;
-    add_and_see(alloc, &mut collection, 21, 22, &mut rows, &mut steps)?;
-    add_and_see(alloc, &mut collection, 22, 23, &mut rows, &mut steps)?;
-    add_and_see(alloc, &mut collection, 23, 24, &mut rows, &mut steps)?;
+    let mut next = 0;
+    for chosen in moves {
+        next = make(&mut collection, *chosen, next, &mut steps)?;
+        rows.push(row_of(alloc, &collection, &mut steps)?)?;
+    }
     Ok(rows)
 }
 
 #[test]
 fn rebuilds_in_two_updates(rt: HostRuntime) -> Result<(), Fail> {
-    let rows = rebuilt::<Brand>(rt.alloc(), blank())?;
+    let moves = [
+        Move::Add(20),
+        Move::DropOldest(12),
+        Move::DropOldest(1),
+        Move::DropOldest(1),
+        Move::Add(1),
+        Move::Add(1),
+        Move::Add(1),
+    ];
     let wanted = [
         (None, 20, 0, 6, 20),
         (None, 20, 0, 3, 8),
@@ -180,8 +176,9 @@ fn rebuilds_in_two_updates(rt: HostRuntime) -> Result<(), Fail> {
         (None, 9, 0, 4, 8),
         (None, 10, 0, 5, 9),
     ];
+    let rows = seen_after::<Brand>(rt.alloc(), &moves, blank())?;
     assert_eq!(rt; rows.len(), wanted.len());
-    for (place, row) in rows.iter().enumerate() {
+    for (row, wanted) in rows.iter().zip(wanted) {
         let seen = (
             row.unwalked,
             row.weight,
@@ -189,118 +186,55 @@ fn rebuilds_in_two_updates(rt: HostRuntime) -> Result<(), Fail> {
             row.parts,
             row.count,
         );
-        assert_eq!(rt; seen, wanted[place]);
+        assert_eq!(rt; seen, wanted);
     }
     Ok(())
 }
 
-/// Nine adds, nine drops of the oldest, and one more add: what is seen before the last drop, and after it and the add.
-fn emptied<L: Ledger>(alloc: Global, blank: Blank) -> Result<[Row; 3], NoMemory>
-    requires name { blank.name ≡ L.name }
-    requires parts { blank.parts ≡ L.parts }
-    requires shares { blank.parts ≡ SHARES }
-{
-    let mut steps = Steps::<L>::new(blank);
-    let mut collection = Collection::new(alloc);
-    add(&mut collection, 0, 9, &mut steps)?;
-    drop_oldest(&mut collection, 8, &mut steps)?;
-    let quiet = row_of(alloc, &collection, &mut steps)?;
-    drop_oldest(&mut collection, 1, &mut steps)?;
-    let started = row_of(alloc, &collection, &mut steps)?;
-    add(&mut collection, 9, 10, &mut steps)?;
-    let swapped = row_of(alloc, &collection, &mut steps)?;
-    Ok([quiet, started, swapped])
-}
-
+/// A rebuild starts with nothing live, and ends in the next update.
 #[test]
 fn rebuilds_with_nothing_live(rt: HostRuntime) -> Result<(), Fail> {
-    let [quiet, started, swapped] = emptied::<Brand>(rt.alloc(), blank())?;
-    assert_eq!(rt; (quiet.unwalked, quiet.weight, quiet.count), (None, 9, 1));
-    assert_eq!(rt;
-        (started.unwalked, started.weight, started.count),
-        (Some(0), 9, 0)
-    );
-    assert_eq!(rt;
-        (swapped.unwalked, swapped.weight, swapped.count),
-        (None, 1, 1)
-    );
+    let moves = [
+        Move::Add(9),
+        Move::DropOldest(8),
+        Move::DropOldest(1),
+        Move::Add(1),
+    ];
+    let wanted = [(None, 9, 9), (None, 9, 1), (Some(0), 9, 0), (None, 1, 1)];
+    let rows = seen_after::<Brand>(rt.alloc(), &moves, blank())?;
+    assert_eq!(rt; rows.len(), wanted.len());
+    for (row, wanted) in rows.iter().zip(wanted) {
+        assert_eq!(rt; (row.unwalked, row.weight, row.count), wanted);
+    }
     Ok(())
 }
 
-/// What comes after a rebuild has started with five points left.
-#[derive(Clone, Copy, Debug, PartialEq)]
-enum Next {
-    DropOldest,
-    DropNewest,
-    Add,
-}
-
-/// The update that comes next.
-fn take_next<L: Ledger>(
-    collection: &mut Collection<RangeBuilder>,
-    next: Next,
-    steps: &mut Steps<L>,
-) -> Result<(), NoMemory>
-    requires stamps { collection.old.index.stamps ≤ 16 }
-    requires length { length collection.old.entries ≤ 16 }
-{
-    match next {
-        Next::DropOldest => drop_oldest(collection, 1, steps),
-        Next::DropNewest => {
-            remove_newest(collection, steps)?;
-            Ok(())
-        }
-        Next::Add => add(collection, 16, 17, steps),
-    }
-}
-
-/// Sixteen adds and eleven drops of the oldest: what is seen after ten drops, and after eleven.
-fn five_live<L: Ledger>(
-    alloc: Global,
-    collection: &mut Collection<RangeBuilder>,
-    steps: &mut Steps<L>,
-) -> Result<[Row; 2], NoMemory>
-    requires stamps { collection.old.index.stamps ≤ 0 }
-    requires length { length collection.old.entries ≤ 0 }
-    ensures stamps { IfOk result (λ _. collection.new.index.stamps ≤ 16) }
-    ensures length { IfOk result (λ _. length collection.new.entries ≤ 16) }
-{
-    add(collection, 0, 16, steps)?;
-    drop_oldest(collection, 10, steps)?;
-    let quiet = row_of(alloc, collection, steps)?;
-    drop_oldest(collection, 1, steps)?;
-    Ok([quiet, row_of(alloc, collection, steps)?])
-}
-
-/// The same and one more update: what is seen before it and after it.
-fn five_left<L: Ledger>(alloc: Global, next: Next, blank: Blank) -> Result<[Row; 3], NoMemory>
-    requires name { blank.name ≡ L.name }
-    requires parts { blank.parts ≡ L.parts }
-    requires shares { blank.parts ≡ SHARES }
-{
-    let mut steps = Steps::<L>::new(blank);
-    let mut collection = Collection::new(alloc);
-    let [quiet, started] = five_live(alloc, &mut collection, &mut steps)?;
-    take_next(&mut collection, next, &mut steps)?;
-    let last = row_of(alloc, &collection, &mut steps)?;
-    Ok([quiet, started, last])
-}
-
+/// A rebuild starts with five points left; what comes next is a drop at either end, or an add.
 #[test]
 fn rebuilds_with_five_live(rt: HostRuntime) -> Result<(), Fail> {
-    for (next, wanted) in [
-        (Next::DropOldest, (Some(1), 16, 4, 4)),
-        (Next::DropNewest, (Some(0), 16, 4, 4)),
-        (Next::Add, (Some(2), 17, 4, 6)),
+    for (last, wanted_last) in [
+        (Move::DropOldest(1), (Some(1), 16, 4, 4)),
+        (Move::DropNewest, (Some(0), 16, 4, 4)),
+        (Move::Add(1), (Some(2), 17, 4, 6)),
     ] {
-        let [quiet, started, row] = five_left::<Brand>(rt.alloc(), next, blank())?;
-        assert_eq!(rt; (quiet.unwalked, quiet.weight), (None, 16));
-        assert_eq!(rt;
-            (started.unwalked, started.weight, started.shadow_weight),
-            (Some(5), 16, 0)
-        );
-        let seen = (row.unwalked, row.weight, row.shadow_weight, row.count);
-        assert_eq!(rt; seen, wanted);
+        let moves = [
+            Move::Add(16),
+            Move::DropOldest(10),
+            Move::DropOldest(1),
+            last,
+        ];
+        let wanted = [
+            (None, 16, 0, 16),
+            (None, 16, 0, 6),
+            (Some(5), 16, 0, 5),
+            wanted_last,
+        ];
+        let rows = seen_after::<Brand>(rt.alloc(), &moves, blank())?;
+        assert_eq!(rt; rows.len(), wanted.len());
+        for (row, wanted) in rows.iter().zip(wanted) {
+            let seen = (row.unwalked, row.weight, row.shadow_weight, row.count);
+            assert_eq!(rt; seen, wanted);
+        }
     }
     Ok(())
 }

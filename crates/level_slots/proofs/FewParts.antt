@@ -1,12 +1,16 @@
 -- How many parts levels have, by their weight.
-use Rattle.std.proofs.Common.{ℕ, ◌+◌, ◌-◌, ◌*◌, ◌^◌, ◌<◌, ◌≤◌, Bool, true, false, List, [], ◌∷◌, length, if◌then◌else◌, ⊎_elim, arith}
+use Rattle.std.proofs.Common.{ℕ, suc, ◌+◌, ◌-◌, ◌*◌, ◌^◌, ◌<◌, ◌≤◌, Bool, true, false, List, [], ◌∷◌, All, length, if◌then◌else◌, ⊎_elim, arith}
 use Rattle.std.proofs.lemmas.Bool.{cases_lt}
+use Rattle.std.proofs.lemmas.List.Elements.{All-cons, All-nil}
 use Rattle.builder_trait.specs.Parts.{Contents, has_stamp}
 use Rattle.partial_build.specs.Construction.{live_of}
 use Rattle.level_slots.specs.Slots.{Slots, weight_of, parts_of, live_items, asked_in, asked}
+use Rattle.level_slots.specs.Asking.{HaveAtMost}
+use Rattle.level_slots.specs.Level.{IsOfLevel}
 use Rattle.level_slots.specs.Neighbours.{IsTower}
 use Rattle.level_slots.specs.Stack.{AreAllLevels}
 use Rattle.level_slots.proofs.MarkedLevels.{light_level}
+use Rattle.level_slots.proofs.Publishing.{higher}
 
 unless : (b : Bool) (n m : ℕ) → n ≤ m → (if b then 0 else n) ≤ m
 unless true n m few = omega arith
@@ -34,6 +38,20 @@ module _ {P Item : Type 0} (contents : P → Contents Item) where
         asked-few stamp s above,
         unless (has_stamp stamp s (live_items contents above)) (asked_in contents stamp s l.parts) (length l.parts) (asked_in-few stamp s l.parts),
       )
+
+  -- a part has as many items as its level allows, and its level weighs no more than all
+  small_level : (l : Slots P Item) (g rest : ℕ) → All (λ p. IsOfLevel l.level (contents p)) l.parts → length l.parts * 2 ^ l.level + rest < 2 ^ (g + 1)
+      → All (λ p. length (contents p).items ≤ 2 ^ g) l.parts
+  small_level l g rest of_level light k p within =
+      let low : l.level ≤ g = light_level (length l.parts) l.level g rest (omega (arith, within)) light in
+      omega (arith, (of_level k p within).fits, higher l.level g low)
+
+  pub parts-small : (levels : List (Slots P Item)) → All (λ l. All (λ p. IsOfLevel l.level (contents p)) l.parts) levels → (g : ℕ)
+      → weight_of levels < 2 ^ (g + 1) → HaveAtMost contents (2 ^ g) levels
+  parts-small [] of_level g light = All-nil (λ l. All (λ p. length (contents p).items ≤ 2 ^ g) l.parts)
+  parts-small (l ∷ above) of_level g light = All-cons (λ l. All (λ p. length (contents p).items ≤ 2 ^ g) l.parts) l above
+      (small_level l g (weight_of above) (of_level 0 l (omega arith)) light)
+      (parts-small above (λ k d within. of_level (suc k) d (omega (arith, within))) g (omega (arith, light)))
 
   module _ (stamp : Item → ℕ) (before : ℕ → Item → Item → Bool) where
     tower-few : (l : Slots P Item) (above : List (Slots P Item)) → IsTower contents stamp before l above → (g : ℕ)

@@ -7,7 +7,7 @@ ghost use Rattle.builder_trait.specs.Builders.{begun};
 ghost use Rattle.partial_build.specs.Construction.{live_of};
 ghost use Rattle.partial_build.specs.Quota.{quota};
 ghost use Rattle.level_slots.specs.Slots.{Stacked, IsPartOf, live_items, all_items, weight_of, parts_of, held_in, held_by_level, memory_of, asked};
-ghost use Rattle.level_slots.specs.Asking.{IsHeight, touches_of};
+ghost use Rattle.level_slots.specs.Asking.{IsHeight, HaveAtMost, touches_of};
 ghost use Rattle.level_slots.specs.Level.{IsOfLevel};
 ghost use Rattle.level_slots.specs.Cost.{IsWithin, quotas};
 ghost use Rattle.level_slots.specs.Rooms.{rooms_of, kept_in, forecast_of};
@@ -182,6 +182,7 @@ impl<B: Builder> Stack<B> {
 
         // Whichever bound g there is, as for an insert.
         ensures few { (g : ℕ) → weight_of self.now.levels < 2 ^ (g + 1) → parts_of self.now.levels ≤ 3 * (g + 1) }
+        ensures sizes { (g : ℕ) → weight_of self.now.levels < 2 ^ (g + 1) → HaveAtMost B.Part.Part.contents (2 ^ g) self.now.levels }
     {
         let mut parts = 0;
         for level in &self.levels {

@@ -6,3 +6,4 @@ pub mod Built
 pub mod Answering
 pub mod Scans
 pub mod Questions
+pub mod Touches

@@ -1,11 +1,12 @@
 -- What a question to the layer of a name is answered, and what it costs.
-use Rattle.std.proofs.Common.{◌≡◌, ◌∙◌, ℕ, Option, Some, None, Result, Ok, Err, List, map, refl, sym, ap, subst}
+use Rattle.std.proofs.Common.{◌≡◌, ◌∙◌, ℕ, Bool, Option, Some, None, Result, Ok, Err, List, map, refl, sym, ap, subst}
 use Rattle.std.specs.Prelude.{IfOk}
 use Rattle.std.specs.Option.{option_map}
 use Rattle.query_laws.specs.StepLedger.{Counts}
+use Rattle.global_rebuild.specs.Index.{Indexed}
 use Rattle.map_model.specs.Script.Shape as shapes
 use Rattle.map_model.specs.Script.Index as indexes
-use Rattle.map_model.specs.Script.State.{layer_named}
+use Rattle.map_model.specs.Script.State.{Layer, layer_named}
 use Rattle.map_model.specs.Script.Answer.{Question, Answer, answer_over, index_of, kind_asked}
 use Rattle.map_model.specs.Script.Command.{Ask, lists_ids}
 use Rattle.map_model.specs.Script.Reply.{Answered}
@@ -38,12 +39,24 @@ module _ (layers : List Layered) (name : List ℕ) {T : Type 0} (result : Result
           IsAnswered-ask (map layer_of layers) name question points range (layer_of l) (layer_named-named name layers ∙ ap (option_map layer_of) is) refl
           l.range answer result refl (refused l is) (value l is)
 
-  pub cost_in : (old new : Counts) (cost_of : T → Asked) → ((l : Layered) → named name layers ≡ Some l → IfOk result (λ t. IsAsking (layer_of l) (cost_of t) old new))
-      → IfOk result (λ t. IsAskingIn (layer_named name (map layer_of layers)) (cost_of t) old new)
-  cost_in old new cost_of cost = at (named name layers) refl
+  pub cost_in : (old new : Counts) (cost_of : T → Asked) (most : T → Layer → ℕ)
+      → ((l : Layered) → named name layers ≡ Some l → IfOk result (λ t. IsAsking (layer_of l) (most t (layer_of l)) (cost_of t) old new))
+      → IfOk result (λ t. IsAskingIn (layer_named name (map layer_of layers)) (most t) (cost_of t) old new)
+  cost_in old new cost_of most cost = at (named name layers) refl
     where
-      at : (found : Option Layered) → named name layers ≡ found → IfOk result (λ t. IsAskingIn (layer_named name (map layer_of layers)) (cost_of t) old new)
-      at None is = subst (λ r. IfOk r (λ t. IsAskingIn (layer_named name (map layer_of layers)) (cost_of t) old new)) (sym (none is)) tt
+      at : (found : Option Layered) → named name layers ≡ found → IfOk result (λ t. IsAskingIn (layer_named name (map layer_of layers)) (most t) (cost_of t) old new)
+      at None is = subst (λ r. IfOk r (λ t. IsAskingIn (layer_named name (map layer_of layers)) (most t) (cost_of t) old new)) (sym (none is)) tt
       at (Some l) is =
           let here = layer_named-named name layers ∙ ap (option_map layer_of) is in
-          subst (λ o. IfOk result (λ t. IsAskingIn o (cost_of t) old new)) (sym here) (cost l is)
+          subst (λ o. IfOk result (λ t. IsAskingIn o (most t) (cost_of t) old new)) (sym here) (cost l is)
+
+-- where it is answered, the index is there
+pub IfOk-there : {T P I : Type 0} {Q R : T → Type 0} (index : Option (Indexed P I)) (refusable : Bool) (result : Result T AskFault) → IsAskRefusal index refusable result
+    → ((i : Indexed P I) → index ≡ Some i → (t : T) → Q t → R t) → IfOk result Q → IfOk result R
+IfOk-there (Some i) refusable (Ok t) refused f h = f i refl t h
+IfOk-there None refusable (Ok t) refused f h = absurd cc
+IfOk-there index refusable (Err e) refused f h = tt
+
+pub IfOk-both : {T E : Type 0} (Q R : T → Type 0) (result : Result T E) → IfOk result Q → IfOk result R → IfOk result (λ t. Q t × R t)
+IfOk-both Q R (Ok t) h h' = (h, h')
+IfOk-both Q R (Err e) h h' = tt

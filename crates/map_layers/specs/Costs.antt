@@ -1,7 +1,11 @@
 -- What a call on a layer costs.
-use Rattle.std.specs.Prelude.{◌≡◌, ℕ, ◌+◌, ◌*◌, Bool, Option, None, Some, Result, Ok, Err}
-use Rattle.query_laws.specs.StepLedger.{Counts, lap_of}
+use Rattle.std.specs.Prelude.{◌≡◌, ℕ, ◌+◌, ◌*◌, ◌^◌, ◌≤◌, IfSome, Bool, Option, None, Some, Result, Ok, Err}
+use Rattle.query_laws.specs.StepLedger.{Counts, Spends, lap_of}
+use Rattle.builder_trait.specs.Parts.{Contents}
+use Rattle.level_slots.specs.Slots.{parts_of}
+use Rattle.level_slots.specs.Asking.{HaveAtMost, touches_of}
 use Rattle.level_slots.specs.Cost.{IsWithin}
+use Rattle.global_rebuild.specs.Index.{Indexed}
 use Rattle.map_model.specs.Script.State.{Layer, live_count}
 use Rattle.map_model.specs.Script.Cost.{bounds_at, turn_bound, mark_bound, IsSpent, IsAsked}
 use Rattle.map_shapes.specs.Cost.{spent_of, asked_of}
@@ -38,12 +42,22 @@ pub record IsTold (layer : Layer) (adds : Bool) (spent : Spent) (old new : Count
   pub turns : new.turns ≡ old.turns + spent.turns
   pub marks : new.marks ≡ old.marks + spent.marks
 
--- A question that is answered costs touches, and no turn and no mark; how many parts and touches is told.
-pub record IsAsking (layer : Layer) (asked : Asked) (old new : Counts) : Type 0 where
+-- A question that is answered costs so many touches at most, and no turn and no mark; how many parts and touches is told.
+pub record IsAsking (layer : Layer) (most : ℕ) (asked : Asked) (old new : Counts) : Type 0 where
   pub bounds : IsAsked layer (asked_of asked)
-  pub touches : asked.touches ≡ lap_of old.touches new.touches
+  pub touches : new.touches ≡ old.touches + asked.touches
+  pub few_touches : asked.touches ≤ most
   pub turns : new.turns ≡ old.turns
   pub marks : new.marks ≡ old.marks
+
+-- what a question asked and read, by the index that it asked
+pub record HasAsked {P Item : Type 0} (contents : P → Contents Item) (layer : Layer) (index : Option (Indexed P Item)) (touches : P → ℕ) (asked : Asked)
+    (old new : Counts) : Type 0 where
+  pub bounds : IsAsked layer (asked_of asked)
+  pub parts : IfSome index (λ i. asked.parts ≡ parts_of i.main.levels)
+  pub sizes : IfSome index (λ i. HaveAtMost contents (2 ^ (bounds_at (live_count layer)).level) i.main.levels)
+  pub lap : asked.touches ≡ lap_of old.touches new.touches
+  pub spent : IfSome index (λ i. Spends old new 0 0 (touches_of touches i.main.levels))
 
 -- ---- the same for the layer of a name, where there is one
 
@@ -55,6 +69,6 @@ abbrev pub IsToldIn : Option Layer → Bool → Spent → Counts → Counts → 
 IsToldIn None adds spent old new = ⊥
 IsToldIn (Some layer) adds spent old new = IsTold layer adds spent old new
 
-abbrev pub IsAskingIn : Option Layer → Asked → Counts → Counts → Type 0
-IsAskingIn None asked old new = ⊥
-IsAskingIn (Some layer) asked old new = IsAsking layer asked old new
+abbrev pub IsAskingIn : Option Layer → (Layer → ℕ) → Asked → Counts → Counts → Type 0
+IsAskingIn None most asked old new = ⊥
+IsAskingIn (Some layer) most asked old new = IsAsking layer (most layer) asked old new

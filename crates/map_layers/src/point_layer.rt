@@ -1,15 +1,17 @@
 //! A layer of points.
 ghost use Rattle.std.specs.Prelude.{◌≡◌, ℕ, ◌+◌, ◌*◌, ◌<◌, ◌≤◌, ◌^◌, true, false, [], IfOk, OnOk, IfSome, bytes_eq, length, map};
 ghost use Rattle.std.specs.Option.{is_some, option_map};
-ghost use Rattle.query_laws.specs.StepLedger.{lap_begun};
+ghost use Rattle.query_laws.specs.StepLedger.{Spends, lap_begun};
 ghost use Rattle.level_slots.specs.Slots.{parts_of};
+ghost use Rattle.level_slots.specs.Asking.{HaveAtMost, touches_of};
 ghost use Rattle.map_model.specs.Script.Index.{index_count};
 ghost use Rattle.map_model.specs.Script.Shape as model;
 ghost use Rattle.map_model.specs.Script.State as state;
-ghost use Rattle.map_model.specs.Script.Cost.{turn_bound, mark_bound, part_bound};
+ghost use Rattle.map_model.specs.Script.Cost.{bounds_at, turn_bound, mark_bound, part_bound};
 ghost use Rattle.map_shapes.specs.Shape.{model_shape};
+ghost use Rattle.map_layers.specs.Indexing.{IsOf};
 ghost use Rattle.map_layers.specs.Costs.{IsCost, IsTold};
-ghost use Rattle.map_layers.specs.Layer.{item_of, items_of, indexes_of, layer_of, IsAdd, IsRemoval, IsAskRefusal};
+ghost use Rattle.map_layers.specs.Layer.{item_of, items_of, indexes_of, layer_of, stamp_of, IsAdd, IsRemoval, IsAskRefusal};
 
 use crate::bounds::{Bounds, spent};
 use crate::indexing::{delete_in, insert_in, new_in, prepare_in};
@@ -83,7 +85,7 @@ impl PointLayer {
     }
 
     /// How many points there are.
-    pub fn len(&self) -> usize
+    pub(crate) fn len(&self) -> usize
         ensures count { result ≡ length self.now.entries }
         ensures few { result ≤ 2 ^ 16 }
     {
@@ -191,6 +193,9 @@ impl PointLayer {
         ensures few_parts { IfOk result (λ given. given.parts ≤ part_bound (layer_of self.now)) }
         ensures some_part { IfOk result (λ given. 0 < length self.now.entries → 1 ≤ given.parts) }
         ensures few { length self.now.entries ≤ 2 ^ 16 }
+        ensures of { IsOf (λ part. part) stamp_of self.now.range self.now.entries }
+        ensures sizes { IfOk result (λ _. IfSome self.now.range (λ i. HaveAtMost (λ part. part) (2 ^ (bounds_at (length self.now.entries)).level) i.main.levels)) }
+        ensures spent { IfSome self.now.range (λ i. Spends steps.old steps.new 0 0 (touches_of (bound-7.ask_touches question.now) i.main.levels)) }
         ensures reads { (steps.new.turns ≡ steps.old.turns) × (steps.new.marks ≡ steps.old.marks) × (steps.new.lap_start ≡ steps.old.lap_start) }
     {
         let Some(index) = &self.range else {

@@ -1,14 +1,15 @@
 //! The questions that a layer's index answers.
-ghost use Rattle.std.specs.Prelude.{◌≡◌, ◌≤◌, ◌^◌, None, Some, Err, IfOk, length, map};
+ghost use Rattle.std.specs.Prelude.{◌≡◌, ◌≤◌, ◌+◌, ◌*◌, ◌^◌, None, Some, Err, IfOk, length, map};
 ghost use Rattle.query_laws.specs.StepLedger.{lap_begun};
 ghost use Rattle.map_model.specs.Script.State.{layer_named};
 ghost use Rattle.map_model.specs.Script.Answer as answers;
 ghost use Rattle.map_model.specs.Script.Command.{Ask};
 ghost use Rattle.map_model.specs.Script.Reply.{Answered};
 ghost use Rattle.map_shapes.specs.Rect.{rect_of};
-ghost use Rattle.map_layers.specs.Layer.{Layered, layer_of, IsAskRefusal};
+ghost use Rattle.map_layers.specs.Indexing.{IsOf};
+ghost use Rattle.map_layers.specs.Layer.{Layered, layer_of, stamp_of, IsAskRefusal};
 ghost use Rattle.map_layers.specs.Layers.{map_of, named};
-ghost use Rattle.map_layers.specs.Costs.{IsAsking, IsAskingIn};
+ghost use Rattle.map_layers.specs.Costs.{HasAsked, IsAskingIn, rows_of, touches_in_part};
 ghost use Rattle.map_layers.specs.Replies.{asked, IsAnswered};
 
 use super::layer_of;
@@ -32,7 +33,8 @@ impl Layers {
             (asked (λ given. Answered (answers.Counted given.0.answer)) result) }
         ensures question { IfOk result (λ given. given.0.question.0 ≡ rect.now) }
         ensures consulted { IfOk result (λ given. given.1.parts ≡ given.0.parts) }
-        ensures cost { IfOk result (λ given. IsAskingIn (layer_named name.now (map_of self.now)) given.1 (lap_begun steps.old) steps.new) }
+        ensures cost { IfOk result (λ given. IsAskingIn (layer_named name.now (map_of self.now)) (λ layer. given.1.parts * touches_in_part layer)
+            given.1 (lap_begun steps.old) steps.new) }
     {
         self.ask(name, &CountIn(*rect), steps)
     }
@@ -48,7 +50,8 @@ impl Layers {
             (asked (λ given. Answered (answers.Summed given.0.answer)) result) }
         ensures question { IfOk result (λ given. given.0.question.0 ≡ rect.now) }
         ensures consulted { IfOk result (λ given. given.1.parts ≡ given.0.parts) }
-        ensures cost { IfOk result (λ given. IsAskingIn (layer_named name.now (map_of self.now)) given.1 (lap_begun steps.old) steps.new) }
+        ensures cost { IfOk result (λ given. IsAskingIn (layer_named name.now (map_of self.now)) (λ layer. given.1.parts * touches_in_part layer)
+            given.1 (lap_begun steps.old) steps.new) }
     {
         self.ask(name, &SumIn(*rect), steps)
     }
@@ -64,7 +67,8 @@ impl Layers {
             (asked (λ given. Answered (answers.Listed given.0.answer)) result) }
         ensures question { IfOk result (λ given. given.0.question.0 ≡ rect.now) }
         ensures consulted { IfOk result (λ given. given.1.parts ≡ given.0.parts) }
-        ensures cost { IfOk result (λ given. IsAskingIn (layer_named name.now (map_of self.now)) given.1 (lap_begun steps.old) steps.new) }
+        ensures cost { IfOk result (λ given. IsAskingIn (layer_named name.now (map_of self.now))
+            (λ layer. given.1.parts * touches_in_part layer + 8 * rows_of layer * length given.0.answer) given.1 (lap_begun steps.old) steps.new) }
     {
         self.ask(name, &ListIn(*rect), steps)
     }
@@ -85,7 +89,9 @@ impl Layers {
             → IfOk result (λ given. given.0.answer ≡ Q.value question.now (map (λ e. e.item) l.entries)) }
         ensures consulted { IfOk result (λ given. given.1.parts ≡ given.0.parts) }
         ensures few { (l : Layered) → named name.now self.now.layers ≡ Some l → length l.entries ≤ 2 ^ 16 }
-        ensures cost { (l : Layered) → named name.now self.now.layers ≡ Some l → IfOk result (λ given. IsAsking (layer_of l) given.1 (lap_begun steps.old) steps.new) }
+        ensures of { (l : Layered) → named name.now self.now.layers ≡ Some l → IsOf (λ part. part) stamp_of l.range l.entries }
+        ensures cost { (l : Layered) → named name.now self.now.layers ≡ Some l
+            → IfOk result (λ given. HasAsked (λ part. part) (layer_of l) l.range (bound-7.ask_touches question.now) given.1 (lap_begun steps.old) steps.new) }
     {
         steps.start_lap();
         let Some(layer) = layer_of(self.layers.as_slice(), name) else {

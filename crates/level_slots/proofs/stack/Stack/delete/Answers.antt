@@ -1,10 +1,10 @@
-use Rattle.std.proofs.Common.{◌≡◌, ℕ, ◌+◌, ◌-◌, ◌*◌, ◌^◌, ◌<◌, ◌≤◌, ◌∙◌, length, map, drop, sum, All, Contains, ap, sym, subst, arith}
+use Rattle.std.proofs.Common.{◌≡◌, ◌+◌, ◌-◌, ◌*◌, ◌^◌, ◌<◌, ◌≤◌, ◌∙◌, length, map, drop, sum, All, Contains, ap, sym, subst, arith}
 use Rattle.query_laws.specs.Orders.{AllStampsDiffer}
 use Rattle.query_laws.specs.Permuted.{Permuted}
 use Rattle.query_laws.proofs.Permutations.{Permuted-length}
 use Rattle.builder_trait.specs.Parts.{without}
 use Rattle.builder_trait.specs.Builders.{begun}
-use Rattle.level_slots.specs.Slots.{Stacked, IsPartOf, held_in, held_of, lowest_held, held_by_level, memory_of, weight_of, parts_of, live_items, all_items, asked}
+use Rattle.level_slots.specs.Slots.{Stacked, IsPartOf, held_in, held_of, lowest_held, held_by_level, memory_of, weight_of, live_items, all_items, asked}
 use Rattle.level_slots.specs.Neighbours.{IsPunctual, IsDue, IsDueSoon, HaveRoomsAbove}
 use Rattle.level_slots.specs.Stack.{IsStack, AreAllLevels}
 use Rattle.level_slots.specs.Cost.{IsWithin, quotas}

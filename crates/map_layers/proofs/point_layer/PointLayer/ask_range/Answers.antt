@@ -1,5 +1,7 @@
-use Rattle.std.proofs.Common.{rules, ◌≡◌, ◌+◌, ◌*◌, ◌≤◌, length, ap, subst, sym, arith}
+use Rattle.std.proofs.Common.{rules, Some, ◌≡◌, ◌+◌, ◌*◌, ◌^◌, ◌≤◌, length, ap, subst, sym, arith}
+use Rattle.std.specs.Prelude.{IfSome}
 use Rattle.level_slots.specs.Slots.{parts_of}
+use Rattle.level_slots.specs.Asking.{HaveAtMost}
 use Rattle.global_rebuild.specs.Index.{IsIndexOf}
 use Rattle.global_rebuild.proofs.Weights.{as_many}
 use Rattle.map_model.specs.Script.Cost.{greatest_level}
@@ -28,3 +30,14 @@ returns-clause-some_part g c some =
     let h : IsIndexOf (λ part. part) stamp_of c.in-Some.index es = subst (λ o. IsOf (λ part. part) stamp_of o es) c.in-Some.is c.self.invariant.1 in
     let consulted : c.in_ok-finish.field-0.parts ≡ parts_of c.in-Some.index.main.levels = search rules in
     omega (arith, consulted, some_part (λ part. part) c.in-Some.index.main.levels (omega (arith, some, ap length same, as_many (λ part. part) stamp_of c.in-Some.index es h)))
+
+pub returns-clause-sizes : goal.returns-clause-sizes
+returns-clause-sizes g c =
+    let es = c.self.inside.directory.entries in
+    let same : es ≡ c.args.self.now.entries = search rules in
+    let h : IsIndexOf (λ part. part) stamp_of c.in-Some.index es = subst (λ o. IsOf (λ part. part) stamp_of o es) c.in-Some.is c.self.invariant.1 in
+    let n = length c.args.self.now.entries in
+    let light = greatest-light n (omega (arith, c.self.invariant.3, ap length same)) in
+    let sizes = c.parts.ensures.sizes (greatest_level n) (omega (arith, light, ap length same, as_many (λ part. part) stamp_of c.in-Some.index es h)) in
+    let is : c.args.self.now.range ≡ Some c.in-Some.index = search rules in
+    subst (λ o. IfSome o (λ i. HaveAtMost (λ part. part) (2 ^ greatest_level n) i.main.levels)) (sym is) sizes
