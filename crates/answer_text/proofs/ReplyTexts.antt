@@ -3,8 +3,8 @@ use Rattle.std.proofs.Common.{◌≡◌, ℕ, Bool, false, cond, nat_eq, List, [
 use Rattle.std.specs.List.{flat_map}
 use Rattle.std.specs.Io.KnownBytes.{Appends}
 use Rattle.map_io.specs.ProperPrefix.{AppendsProperPrefix}
-use Rattle.map_model.specs.Script.Reply.{spaced, numbers_or_none, shape_numbers, found_numbers, reply_text, reply_line}
-use Rattle.map_model.specs.Script.Refusal.{refusal_text}
+use Rattle.map_model.specs.Reply.{spaced, numbers_or_none, shape_numbers, found_numbers, reply_text, reply_line}
+use Rattle.map_model.specs.Refusal.{refusal_text}
 use Rattle.std.proofs.lemmas.List.Concat.{flat_map-append}
 use Rattle.map_shapes.specs.declared.found.Found as shapes
 use Rattle.std.proofs.lemmas.Bool.Decides.{nat_tests}

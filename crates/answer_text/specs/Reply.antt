@@ -1,9 +1,9 @@
 -- A reply and what it cost as the definitions have them.
 use Rattle.std.specs.Prelude.{map, option_map}
-use Rattle.map_model.specs.Script.Answer as answers
-use Rattle.map_model.specs.Script.Refusal as refusals
-use Rattle.map_model.specs.Script.Reply as replies
-use Rattle.map_model.specs.Script.Cost as costs
+use Rattle.map_model.specs.Answer as answers
+use Rattle.map_model.specs.Refusal as refusals
+use Rattle.map_model.specs.Reply as replies
+use Rattle.map_model.specs.Cost as costs
 use Rattle.map_shapes.specs.Shape.{model_shape}
 use Rattle.map_shapes.specs.Found.{found_of, peak_of}
 use Rattle.map_shapes.specs.Cost.{spent_of, asked_of}

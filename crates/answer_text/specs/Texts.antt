@@ -1,7 +1,7 @@
 -- A reply's line by its parts: a word or two, numbers, identifiers or ` none`, and what it cost.
 use Rattle.std.specs.Prelude.{◌==◌, ℕ, List, [], ◌∷◌, Bool, false, Some, None, is_none, codes, length, flat_map, if◌then◌else◌}
-use Rattle.map_model.specs.Script.Reply.{spaced, shape_numbers}
-use Rattle.map_model.specs.Script.Cost.{cost_text}
+use Rattle.map_model.specs.Reply.{spaced, shape_numbers}
+use Rattle.map_model.specs.Cost.{cost_text}
 use Rattle.map_shapes.specs.declared.found.Found as shapes
 use Rattle.map_shapes.specs.Shape.{model_shape}
 use Rattle.answer_text.specs.declared.refusal.Refusal.{Refusal}

@@ -31,7 +31,7 @@ pub enum Reply {
 
 impl Reply {
     ghost use Rattle.std.specs.Prelude.{◌≡◌};
-    ghost use Rattle.map_model.specs.Script.Reply.{is_refusal};
+    ghost use Rattle.map_model.specs.Reply.{is_refusal};
     ghost use Rattle.answer_text.specs.Reply.{reply_of};
 
     /// Whether it is a refusal: exactly where its line begins with `no `.

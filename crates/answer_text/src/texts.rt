@@ -1,7 +1,7 @@
 // The texts that replies are made of.
 ghost use Rattle.std.specs.Prelude.{◌≡◌, ◌+◌, ◌≤◌, ◌∷◌, ◌++◌, length, decimal};
-ghost use Rattle.map_model.specs.Script.Cost.{out_of};
-ghost use Rattle.map_model.specs.Script.Reply.{spaced};
+ghost use Rattle.map_model.specs.Cost.{out_of};
+ghost use Rattle.map_model.specs.Reply.{spaced};
 ghost use Rattle.answer_text.specs.Texts.{refusal_word, reply_word, listed_ids, has_none, none_text};
 
 use crate::{Refusal, Reply};

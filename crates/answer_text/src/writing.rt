@@ -3,8 +3,8 @@ ghost use Rattle.std.specs.Prelude.{◌≡◌, ◌<◌, ◌≤◌, ◌++◌, len
 ghost use Rattle.std.specs.Io.KnownBytes.{Appends};
 ghost use Rattle.map_io.specs.Faults.{Rose};
 ghost use Rattle.map_io.specs.ProperPrefix.{AppendsProperPrefix};
-ghost use Rattle.map_model.specs.Script.Reply.{spaced, shape_numbers, reply_line};
-ghost use Rattle.map_model.specs.Script.Cost as costs;
+ghost use Rattle.map_model.specs.Reply.{spaced, shape_numbers, reply_line};
+ghost use Rattle.map_model.specs.Cost as costs;
 ghost use Rattle.map_shapes.specs.Shape.{model_shape};
 ghost use Rattle.map_shapes.specs.Cost.{spent_of, asked_of};
 ghost use Rattle.answer_text.specs.Reply.{reply_of, cost_of};

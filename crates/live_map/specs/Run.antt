@@ -1,9 +1,9 @@
--- What a run takes in and writes.
-use Rattle.std.specs.Prelude.{◌≡◌, ℕ, ◌+◌, ◌<◌, ◌≤◌, ⊤, List, [], ◌∷◌, ◌++◌, length, take, Option, Some, None, codes}
+-- What a run takes in, answers and writes.
+use Rattle.std.specs.Prelude.{◌≡◌, ◌≢◌, ℕ, ◌+◌, ◌<◌, ◌≤◌, ◌⊎◌, List, [], ◌∷◌, ◌++◌, length, take, Option, codes}
 use Rattle.std.specs.Io.KnownBytes.{Appends, Consumes, IsAtEnd}
 use Rattle.map_io.specs.ProperPrefix.{AppendsProperPrefix}
-use Rattle.map_model.specs.Text.{lines, whole_lines, refusals}
-use Rattle.map_session.specs.Answering.{IsOutput, IsInterrupted}
+use Rattle.map_model.specs.Text.{lines, whole_lines}
+use Rattle.map_session.specs.Answering.{Moment, IsAnswered, IsStopped}
 use Rattle.live_map.specs.declared.intake.Ending.{Ending}
 use Rattle.live_map.specs.declared.intake.Ending.TheVariants as endings
 use Rattle.live_map.specs.declared.run.Status.{Status}
@@ -25,18 +25,32 @@ code_of WriteFault = 4
 code_of TooLong = 5
 code_of NoMemory = 6
 
--- Where a source and a sink tell their bytes: P holds of what the source had left, of the bytes that were taken from
--- it, and of those that were appended to the sink.
-abbrev pub Told : Option (List ℕ) → Option (List ℕ) → Option (List ℕ) → Option (List ℕ) → (List ℕ → List ℕ → List ℕ → Type 0) → Type 0
-Told None rest' written written' P = ⊤
-Told (Some left) rest' None written' P = ⊤
-Told (Some left) rest' (Some before) written' P =
-    (taken : List ℕ) × (written : List ℕ) × Consumes (Some left) rest' taken × Appends (Some before) written' written × P left taken written
+-- ---- a run
 
--- Where a source tells its bytes: P holds of those that were taken from it.
-abbrev pub ToldTaken : Option (List ℕ) → Option (List ℕ) → (List ℕ → Type 0) → Type 0
-ToldTaken None rest' P = ⊤
-ToldTaken (Some left) rest' P = (taken : List ℕ) × Consumes (Some left) rest' taken × P taken
+-- so many bytes at most were taken, and P holds of them
+abbrev pub Takes : ℕ → Option (List ℕ) → Option (List ℕ) → (List ℕ → Type 0) → Type 0
+Takes most rest rest' P = (taken : List ℕ) × Consumes rest rest' taken × (length taken ≤ most) × P taken
+
+-- all that was left was taken, within the limit, and each line of it is answered
+abbrev pub AnswersAll : Option (List ℕ) → Option (List ℕ) → Moment → Moment → Type 0
+AnswersAll rest rest' start now = IsAtEnd rest' × Takes script_limit rest rest' (λ taken. IsAnswered start (lines taken) now)
+
+-- the session is as it was, and nothing was counted
+abbrev pub IsIdle : Moment → Moment → Type 0
+IsIdle start now = (now.session ≡ start.session) × (now.counts ≡ start.counts)
+
+-- What a run with these words took, answered and wrote, by how it ended.
+abbrev pub HasRun : {W : Type 0} → List W → Option (List ℕ) → Option (List ℕ) → Moment → Status → Moment → Type 0
+HasRun words rest rest' start Clean now = (words ≡ []) × AnswersAll rest rest' start now × (now.session.refused ≡ 0)
+HasRun words rest rest' start Refusals now = (words ≡ []) × AnswersAll rest rest' start now × (0 < now.session.refused)
+HasRun words rest rest' start Usage now = (words ≢ []) × Takes 0 rest rest' (λ _. IsIdle start now × Appends start.written now.written usage_line)
+HasRun words rest rest' start ReadFault now = (words ≡ []) × Takes script_limit rest rest' (λ taken. IsAnswered start (whole_lines taken) now)
+HasRun words rest rest' start WriteFault now =
+    ((words ≡ []) × Takes (script_limit + 1) rest rest' (λ taken. IsStopped start (lines taken) now))
+    ⊎ ((words ≢ []) × Takes 0 rest rest' (λ _. IsIdle start now × AppendsProperPrefix start.written now.written usage_line))
+HasRun words rest rest' start TooLong now = (words ≡ [])
+    × Takes (script_limit + 1) rest rest' (λ taken. (length taken ≡ script_limit + 1) × IsAnswered start (whole_lines (take script_limit taken)) now)
+HasRun words rest rest' start NoMemory now = (words ≡ []) × Takes script_limit rest rest' (λ _. IsIdle start now × Appends start.written now.written [])
 
 -- ---- taking in
 
@@ -58,15 +72,15 @@ script_of endings.End text = lines text
 script_of endings.Fault text = whole_lines text
 script_of endings.TooLong text = whole_lines text
 
--- A text was answered from the empty map on, as far as its ending allows.
-abbrev pub AnswersText : Ending → List ℕ → Option (List ℕ) → Option (List ℕ) → Status → Type 0
-AnswersText ending text written written' Clean = (ending ≡ endings.End) × ((bytes : List ℕ) × Appends written written' bytes × IsOutput (lines text) bytes × (refusals bytes ≡ 0))
-AnswersText ending text written written' Refusals = (ending ≡ endings.End) × ((bytes : List ℕ) × Appends written written' bytes × IsOutput (lines text) bytes × (0 < refusals bytes))
-AnswersText ending text written written' Usage = ⊥
-AnswersText ending text written written' ReadFault = (ending ≡ endings.Fault) × ((bytes : List ℕ) × Appends written written' bytes × IsOutput (whole_lines text) bytes)
-AnswersText ending text written written' WriteFault = (bytes : List ℕ) × Appends written written' bytes × IsInterrupted (script_of ending text) bytes
-AnswersText ending text written written' TooLong = (ending ≡ endings.TooLong) × ((bytes : List ℕ) × Appends written written' bytes × IsOutput (whole_lines text) bytes)
-AnswersText ending text written written' NoMemory = ⊥
+-- A text was answered, as far as its ending allows.
+abbrev pub AnswersText : Ending → List ℕ → Moment → Status → Moment → Type 0
+AnswersText ending text start Clean now = (ending ≡ endings.End) × IsAnswered start (lines text) now × (now.session.refused ≡ 0)
+AnswersText ending text start Refusals now = (ending ≡ endings.End) × IsAnswered start (lines text) now × (0 < now.session.refused)
+AnswersText ending text start Usage now = ⊥
+AnswersText ending text start ReadFault now = (ending ≡ endings.Fault) × IsAnswered start (whole_lines text) now
+AnswersText ending text start WriteFault now = IsStopped start (script_of ending text) now
+AnswersText ending text start TooLong now = (ending ≡ endings.TooLong) × IsAnswered start (whole_lines text) now
+AnswersText ending text start NoMemory now = ⊥
 
 -- the usage line was written, or a proper prefix of it
 abbrev pub WritesUsage : Option (List ℕ) → Option (List ℕ) → Status → Type 0

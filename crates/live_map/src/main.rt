@@ -4,16 +4,23 @@
 mod intake;
 mod run;
 
-ghost use Rattle.std.specs.Prelude.{◌≡◌, ◌≢◌, drop};
+ghost use Rattle.std.specs.Prelude.{◌≡◌, ◌≢◌, drop, false};
 ghost use Rattle.std.specs.Process.{exit_status};
 ghost use Rattle.std.specs.IoError.{error_kind};
-ghost use Rattle.live_map.specs.Run.{code_of};
+ghost use Rattle.query_laws.specs.StepLedger.{Counts, nothing_counted};
+ghost use Rattle.map_session.specs.Session.{new_session};
+ghost use Rattle.map_session.specs.Answering.{moment};
+ghost use Rattle.live_map.specs.Run.{code_of, HasRun};
 
-use map_io::{StdSink, StdSource};
-pub use run::{Status, run};
+use map_io::{Sink, Source, StdSink, StdSource};
+use query_laws::step_ledger::{SHARES, Steps, blank};
+pub use run::{Ended, Status, run};
+use std::alloc::Global;
 use std::io::ErrorKind;
+use std::marker::Brand;
 use std::process::ExitCode;
 use std::rt::Env;
+use std::sync::ledger::{Blank, Ledger};
 use std::{env, io};
 
 /// The exit status where no memory is found for the arguments.
@@ -29,7 +36,27 @@ fn main(rt: HostRuntime) -> ExitCode {
     };
     let mut source = StdSource::new(rt.stdin());
     let mut sink = StdSink::new(rt.stdout());
-    exit_code(run(rt.alloc(), words_of(&arguments), &mut source, &mut sink))
+    let words = words_of(&arguments);
+    let ended = run_once::<_, _, Brand>(rt.alloc(), words, &mut source, &mut sink, blank());
+    exit_code(ended.status)
+}
+
+/// A run whose steps are counted from nothing.
+fn run_once<S: Source, K: Sink, L: Ledger>(
+    alloc: Global,
+    words: &[String],
+    source: &mut S,
+    sink: &mut K,
+    blank: Blank,
+) -> Ended
+    requires name { blank.name ≡ L.name }
+    requires parts { blank.parts ≡ L.parts }
+    requires shares { blank.parts ≡ SHARES }
+    ensures { (counts : Counts) × HasRun words.now (S.rest source.old) (S.rest source.new)
+        (moment (new_session false) (K.written sink.old) nothing_counted) result.status (moment result.session (K.written sink.new) counts) }
+{
+    let mut steps = Steps::<L>::new(blank);
+    run(alloc, words, source, sink, &mut steps)
 }
 
 /// The list of arguments, of which the first is the program's name.

@@ -4,7 +4,7 @@ ghost use Rattle.std.specs.List.Sorted.{IsStrictlyIncreasing};
 
 use super::*;
 use map_io::{MemSink, MemSource};
-use std::alloc::{AllocError, Global};
+use std::alloc::AllocError;
 use std::test::Fail;
 
 /// A source's or a sink's piece, and the number of its call that fails: 0 for none.
@@ -35,6 +35,25 @@ fn failing_calls(alloc: Global, call: u64) -> Result<Vec<u64>, AllocError>
     Ok(calls)
 }
 
+/// How the run of a script ended, and what was written.
+fn ended_run(
+    alloc: Global,
+    script: &[u8],
+    reads: Plan,
+    writes: Plan,
+) -> Result<(Ended, Vec<u8>), Fail>
+    requires reads { 1 ≤ reads.piece }
+    requires writes { 1 ≤ writes.piece }
+{
+    let bytes = Vec::from_slice(alloc, script)?;
+    let space = vec![in alloc; 0u8; 4096]?;
+    let mut source = MemSource::new(bytes, reads.piece, failing_calls(alloc, reads.failing)?);
+    let mut sink = MemSink::new(space, writes.piece, failing_calls(alloc, writes.failing)?);
+    let ended = run_once::<_, _, Brand>(alloc, &[], &mut source, &mut sink, blank());
+    let written = Vec::from_slice(alloc, sink.written())?;
+    Ok((ended, written))
+}
+
 /// What a script is answered, with its status.
 fn run_script(
     alloc: Global,
@@ -45,67 +64,62 @@ fn run_script(
     requires reads { 1 ≤ reads.piece }
     requires writes { 1 ≤ writes.piece }
 {
-    let bytes = Vec::from_slice(alloc, script)?;
-    let space = vec![in alloc; 0u8; 4096]?;
-    let mut source = MemSource::new(bytes, reads.piece, failing_calls(alloc, reads.failing)?);
-    let mut sink = MemSink::new(space, writes.piece, failing_calls(alloc, writes.failing)?);
-    let status = run(alloc, &[], &mut source, &mut sink);
-    let written = Vec::from_slice(alloc, sink.written())?;
-    Ok((status, written))
+    let (ended, written) = ended_run(alloc, script, reads, writes)?;
+    Ok((ended.status, written))
 }
 
-const ROWS: [(&[u8], &[u8], Status); 12] = [
+/// Two points at opposite corners, counted and weighed.
+const CORNERS: &[u8] =
+    b"layer a points range\nadd a 1 0 0 2147483647\nadd a 2 2147483647 2147483647 2147483647\ncount a 0 0 2147483647 2147483647\nsum a 0 0 2147483647 2147483647\n";
+
+const CORNERS_ANSWERED: &[u8] = b"ok\nok\nok\ncount 2\nsum 4294967294\n";
+
+/// An identifier twice, one that isn't there, and three updates.
+const IDENTIFIERS: &[u8] =
+    b"layer a points range\nadd a 7 1 1 1\nadd a 7 2 2 2\ndrop a 8\nget a 7\nget a 8\nsize a\n";
+
+const ROWS: [(&[u8], &[u8], Status); 10] = [
     (b"", b"", Status::Clean),
     (
         b"layer a points range\ncount a 0 0 9 9\n",
         b"ok\ncount 0\n",
         Status::Clean,
     ),
+    (CORNERS, CORNERS_ANSWERED, Status::Clean),
     (
-        b"layer a points range\nadd a 7 1 1 1\nadd a 7 2 2 2\ncount a 0 0 9 9\ncount b 0 0 9 9\ndrop a 7\n",
-        b"ok\nok\nno duplicate 7\ncount 1\nno layer\nno command\n",
+        IDENTIFIERS,
+        b"ok\nok\nno duplicate 7\nno unknown 8\nget 1 1 1\nno unknown 8\nsize 1\n",
         Status::Refusals,
     ),
-    // The border is inside, and a last line without a line feed counts.
+    // An item is dropped and added again while the part that it is in is a source.
     (
-        b"layer a points range\nadd a 1 0 0 2147483647\nadd a 2 2147483647 2147483647 2147483647\ncount a 0 0 2147483647 2147483647",
-        b"ok\nok\nok\ncount 2\n",
+        b"layer a points range\nadd a 7 5 5 1\nadd a 1 1 1 1\nadd a 2 2 2 1\nadd a 3 3 3 1\nadd a 4 4 4 1\ndrop a 7\nadd a 7 5 5 1\nadd a 5 20 20 1\nadd a 6 20 20 1\nadd a 8 20 20 1\nadd a 9 20 20 1\nadd a 10 20 20 1\nadd a 11 20 20 1\nadd a 12 20 20 1\nlist a 0 0 99 99\nsum a 0 0 99 99\n",
+        b"ok\nok\nok\nok\nok\nok\nok\nok\nok\nok\nok\nok\nok\nok\nok\nlist 1 2 3 4 5 6 7 8 9 10 11 12\nsum 12\n",
         Status::Clean,
     ),
-    (b"\n", b"", Status::Clean),
-    (b" \t \n# layer\n#\n\t#x y\n", b"", Status::Clean),
     (
-        b"layer a points range\nlayer b points range\nadd b 1 0 0 0\n",
-        b"ok\nno command\nno layer\n",
-        Status::Refusals,
-    ),
-    // Numbers: leading zeros, the greatest identifier, one past it, one past a coordinate, a sign.
-    (
-        b"layer a points range\nadd a 0018446744073709551615 1 1 1\nadd a 18446744073709551615 1 1 1\nadd a 18446744073709551616 1 1 1\nadd a 1 2147483648 0 0\nadd a +1 0 0 0\n",
-        b"ok\nok\nno duplicate 18446744073709551615\nno command\nno command\nno command\n",
-        Status::Refusals,
-    ),
-    // Names, orders and the number of fields.
-    (
-        b"layer abcdefghijklmnop points range\ncount abcdefghijklmnop 1 1 1 1\ncount abcdefghijklmnopq 1 1 1 1\ncount a! 1 1 1 1\ncount a 2 1 1 1\ncount a 1 2 1 1\ncount a 1 1 1\ncount a 1 1 1 1 1\n",
-        b"ok\ncount 0\nno command\nno command\nno command\nno command\nno command\nno command\n",
-        Status::Refusals,
-    ),
-    // A carriage return is a byte like any other.
-    (
-        b"layer a points range\r\ncount a 0 0 9 9\r\n#\r\n",
-        b"no command\nno command\n",
-        Status::Refusals,
-    ),
-    (
-        b"\x00\n\xFF\n#\xFF\n",
-        b"no command\nno command\n",
-        Status::Refusals,
-    ),
-    (
-        b"\tlayer\ta  points range \nadd a 1 5 5 1\ncount a 5 5 5 5\ncount a 6 5 9 5\n",
-        b"ok\nok\ncount 1\ncount 0\n",
+        b"layer a points range\nadd a 1 1 1 1\nadd a 2 2 2 1\nadd a 3 3 3 1\nadd a 4 4 4 1\nadd a 5 5 5 1\ndrop a 1\nadd a 6 6 6 1\nadd a 7 7 7 1\nadd a 8 8 8 1\nlist a 0 0 9 9\n",
+        b"ok\nok\nok\nok\nok\nok\nok\nok\nok\nok\nlist 2 3 4 5 6 7 8\n",
         Status::Clean,
+    ),
+    // The first fault of a line is told.
+    (
+        b"layer a points range\ncount a 5 0 4 9\nadd a 1 2147483648 0 0\nadd a x 0 0 0\ncount zz 5 0 4 9\ncount a 1 2 3\nfly a\nsize a!\nnearest a 65 0 0\nlayer q lines range\nlayer q points stab\nlayer q points range range\nlayer q points\nsize q\n",
+        b"ok\nno order\nno range\nno number\nno order\nno fields\nno command\nno name\nno range\nno kind\nno index\nno index\nno fields\nno layer\n",
+        Status::Refusals,
+    ),
+    (b"   \nlayer a points range", b"ok\n", Status::Clean),
+    // Carriage returns, tabs, and no last line feed.
+    (
+        b"layer\ta\tpoints\trange\r\nadd\ta\t1\t0\t0\t2147483647\r\nadd\ta\t2\t2147483647\t2147483647\t2147483647\r\ncount\ta\t0\t0\t2147483647\t2147483647\r\nsum\ta\t0\t0\t2147483647\t2147483647\r",
+        CORNERS_ANSWERED,
+        Status::Clean,
+    ),
+    // What isn't built is no command, whether there is a layer or not; but a fault of the line is told first.
+    (
+        b"layer a points near\nlayer s segments stab\nlayer a points range top\nseg s 1 2 3 4\nnear a 0 0\nnearest a 1 0 0\nabove a 0 1 0\ntop a 0 1\nstab s 1\nstabcount s 1\nrecent a 3\nrecent a 65\nsize a\n",
+        b"no command\nno command\nno command\nno command\nno command\nno command\nno command\nno command\nno command\nno command\nno command\nno range\nno layer\n",
+        Status::Refusals,
     ),
 ];
 
@@ -131,9 +145,9 @@ fn run_with_a_word(alloc: Global, space: usize, piece: usize) -> Result<(Status,
     let script = Vec::from_slice(alloc, b"layer a points range\n")?;
     let mut source = MemSource::new(script, 4096, Vec::new(alloc));
     let mut sink = MemSink::new(vec![in alloc; 0u8; space]?, piece, Vec::new(alloc));
-    let status = run(alloc, &words, &mut source, &mut sink);
+    let ended = run_once::<_, _, Brand>(alloc, &words, &mut source, &mut sink, blank());
     let written = Vec::from_slice(alloc, sink.written())?;
-    Ok((status, written))
+    Ok((ended.status, written))
 }
 
 #[test]
@@ -190,9 +204,9 @@ fn lines_have_256_bytes_at_most(rt: HostRuntime) -> Result<(), Fail> {
     let alloc = rt.alloc();
     for (len, wanted) in [
         (256, b"".as_slice()),
-        (257, b"no command\n".as_slice()),
-        (258, b"no command\n".as_slice()),
-        (1000, b"no command\n".as_slice()),
+        (257, b"no line\n".as_slice()),
+        (258, b"no line\n".as_slice()),
+        (1000, b"no line\n".as_slice()),
     ] {
         let (_, written) = run_script(alloc, &comment(alloc, len)?, WHOLE, WHOLE)?;
         assert_eq!(rt; written.as_slice(), wanted, "{len} bytes");
@@ -210,8 +224,8 @@ const TEN: [(&[u8], &[u8]); 10] = [
     (b"count a 0 0 9 9\n", b"count 2\n"),
     (b"\n", b""),
     (b"count b 0 0 9 9\n", b"no layer\n"),
-    (b"drop a 1\n", b"no command\n"),
-    (b"count a 0 0 5 5", b"count 1\n"),
+    (b"drop a 1\n", b"ok\n"),
+    (b"count a 0 0 9 9", b"count 1\n"),
 ];
 
 const PIECES: [usize; 3] = [1, 7, 4096];
@@ -303,15 +317,69 @@ fn a_failing_sink_keeps_the_front(rt: HostRuntime) -> Result<(), Fail> {
 // 90 bytes are taken: the fourth line is bytes 86 to 118.
 #[test]
 fn a_source_fails_in_the_fourth_line(rt: HostRuntime) -> Result<(), Fail> {
-    let script =
-        b"layer a points range\nadd a 1 0 0 2147483647\nadd a 2 2147483647 2147483647 2147483647\ncount a 0 0 2147483647 2147483647\nsum a 0 0 2147483647 2147483647\n";
     let reads = Plan {
         piece: 30,
         failing: 4,
     };
-    let (status, written) = run_script(rt.alloc(), script, reads, WHOLE)?;
+    let (status, written) = run_script(rt.alloc(), CORNERS, reads, WHOLE)?;
     assert_eq!(rt; status, Status::ReadFault);
     assert_eq!(rt; status.code(), 3);
     assert_eq!(rt; written.as_slice(), b"ok\nok\nok\n".as_slice());
+    Ok(())
+}
+
+// The answers have 32 bytes.
+#[test]
+fn a_sink_fails_at_each_byte(rt: HostRuntime) -> Result<(), Fail> {
+    for failing in 1..=32u64 {
+        let writes = Plan { piece: 1, failing };
+        let (status, written) = run_script(rt.alloc(), CORNERS, WHOLE, writes)?;
+        assert_eq!(rt; status, Status::WriteFault, "call {failing}");
+        assert_eq!(rt;
+            Some(written.as_slice()),
+            CORNERS_ANSWERED.get(..failing as usize - 1)
+        );
+    }
+    Ok(())
+}
+
+/// The session of a run has its layers, and counts refused updates too.
+#[test]
+fn a_run_hands_its_session_back(rt: HostRuntime) -> Result<(), Fail> {
+    let (ended, _) = ended_run(rt.alloc(), IDENTIFIERS, WHOLE, WHOLE)?;
+    assert_eq!(rt; ended.session.lines(), 7);
+    assert_eq!(rt; ended.session.refused(), 3);
+    assert_eq!(rt; ended.session.layers().updates(), 3);
+    Ok(())
+}
+
+/// 262,144 remarks of 256 bytes, their line feeds included.
+fn longest_script(alloc: Global) -> Result<Vec<u8>, AllocError> {
+    let mut line = comment(alloc, 255)?;
+    line.push(b'\n')?;
+    let mut script = Vec::with_capacity(alloc, 67_108_865)?;
+    for _ in 0..262_144u32 {
+        script.extend_from_slice(&line)?;
+    }
+    Ok(script)
+}
+
+#[test]
+fn a_script_of_64_mebibytes_is_read(rt: HostRuntime) -> Result<(), Fail> {
+    let script = longest_script(rt.alloc())?;
+    let (status, written) = run_script(rt.alloc(), &script, WHOLE, WHOLE)?;
+    assert_eq!(rt; status, Status::Clean);
+    assert!(rt; written.is_empty());
+    Ok(())
+}
+
+#[test]
+fn a_longer_script_is_too_long(rt: HostRuntime) -> Result<(), Fail> {
+    let mut script = longest_script(rt.alloc())?;
+    script.push(b'#')?;
+    let (status, written) = run_script(rt.alloc(), &script, WHOLE, WHOLE)?;
+    assert_eq!(rt; status, Status::TooLong);
+    assert_eq!(rt; status.code(), 5);
+    assert!(rt; written.is_empty());
     Ok(())
 }

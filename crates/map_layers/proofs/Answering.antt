@@ -4,14 +4,14 @@ use Rattle.std.specs.Prelude.{nat_le, IfOk}
 use Rattle.std.specs.Option.{is_some}
 use Rattle.global_rebuild.specs.Index.{Indexed}
 use Rattle.std.proofs.lemmas.Bool.{le-leb, lt-leb}
-use Rattle.map_model.specs.Script.Shape as shapes
-use Rattle.map_model.specs.Script.Index as indexes
-use Rattle.map_model.specs.Script.State.{Item, Layer, State, most_items, most_layers, live_count, is_live, layer_named, with_items, with_item, without_item}
-use Rattle.map_model.specs.Script.Answer.{Question, Answer, answer_over, index_of, kind_asked}
-use Rattle.map_model.specs.Script.Command.{MakeLayer, Add, Drop, Ask, lists_ids}
-use Rattle.map_model.specs.Script.Refusal as refusals
-use Rattle.map_model.specs.Script.Reply.{Reply, Made, Updated, Answered, is_refusal}
-use Rattle.map_model.specs.Script.Machine.{Outcome, step, is_taken, replied, refused}
+use Rattle.map_model.specs.Shape as shapes
+use Rattle.map_model.specs.Index as indexes
+use Rattle.map_model.specs.State.{Item, Layer, State, most_items, most_layers, live_count, is_live, layer_named, with_items, with_item, without_item}
+use Rattle.map_model.specs.Answer.{Question, Answer, answer_over, index_of, kind_asked}
+use Rattle.map_model.specs.Command.{MakeLayer, Add, Drop, Ask, lists_ids}
+use Rattle.map_model.specs.Refusal as refusals
+use Rattle.map_model.specs.Reply.{Reply, Made, Updated, Answered, is_refusal}
+use Rattle.map_model.specs.Machine.{Outcome, step, is_taken, replied, refused}
 use Rattle.map_layers.specs.declared.faults.UpdateFault.{UpdateFault}
 use Rattle.map_layers.specs.declared.faults.UpdateFault.TheVariants.{NoLayer, WrongKind, Duplicate, Unknown, Full, NoMemory}
 use Rattle.map_layers.specs.declared.faults.AskFault.{AskFault}

@@ -1,7 +1,7 @@
 -- Layers of the kinds and indexes that are built.
 use Rattle.std.proofs.Common.{◌≡◌, ◌∙◌, ℕ, Bool, true, false, not, ◌&&◌, List, [], refl, ap, sym}
-use Rattle.map_model.specs.Script.Shape.{Kind, Points, Segments}
-use Rattle.map_model.specs.Script.Index.{IndexSet, no_indexes}
+use Rattle.map_model.specs.Shape.{Kind, Points, Segments}
+use Rattle.map_model.specs.Index.{IndexSet, no_indexes}
 use Rattle.std.specs.Option.{is_some}
 use Rattle.map_layers.specs.Layer.{Layered, items_of, indexes_of, layer_of}
 use Rattle.map_layers.specs.Layers.{is_built}

@@ -8,10 +8,10 @@ use Rattle.std.proofs.lemmas.List.Elements.{All-set}
 use Rattle.std.proofs.lemmas.List.Folds.{list_any-append}
 use Rattle.std.proofs.lemmas.Slice.Eq.{bytes_eq-Decides}
 use Rattle.level_slots.proofs.Stacks.{written}
-use Rattle.map_model.specs.Script.State.{Item, layer_named, changed, with_items}
-use Rattle.map_model.specs.Script.Shape.{Points}
-use Rattle.map_model.specs.Script.Index.{no_indexes}
-use Rattle.map_model.specs.Script.Machine.{is_taken}
+use Rattle.map_model.specs.State.{Item, layer_named, changed, with_items}
+use Rattle.map_model.specs.Shape.{Points}
+use Rattle.map_model.specs.Index.{no_indexes}
+use Rattle.map_model.specs.Machine.{is_taken}
 use Rattle.map_layers.specs.Layer.{Layered, items_of, layer_of}
 use Rattle.map_layers.specs.Layers.{has_name, named, place_named, names_of, AllDiffer}
 use Rattle.map_layers.proofs.Answering.{IsRenewed}

@@ -6,10 +6,11 @@ use Rattle.std.proofs.lemmas.Grind.{common_steps}
 use Rattle.std.proofs.lemmas.List.{length-map}
 use Rattle.id_chain.specs.Chain.{Entry, HandlesDiffer, is_linked, item_at}
 use Rattle.id_directory.specs.Directory.{handle_of, without, IdsDiffer}
-use Rattle.map_model.specs.Script.State.{is_live, shape_of, without_item}
-use Rattle.map_model.specs.Script.Shape as model
+use Rattle.map_model.specs.State.{is_live, shape_of, without_item}
+use Rattle.map_model.specs.Shape as model
 use Rattle.map_shapes.specs.declared.point.Point.{Point}
-use Rattle.map_layers.specs.Layer.{item_of, items_of}
+use Rattle.map_shapes.specs.Point.{item_of}
+use Rattle.map_layers.specs.Layer.{items_of}
 
 abbrev id_of : Point → ℕ
 id_of p = p.id

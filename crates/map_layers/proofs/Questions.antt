@@ -4,12 +4,12 @@ use Rattle.std.specs.Prelude.{IfOk}
 use Rattle.std.specs.Option.{option_map}
 use Rattle.query_laws.specs.StepLedger.{Counts}
 use Rattle.global_rebuild.specs.Index.{Indexed}
-use Rattle.map_model.specs.Script.Shape as shapes
-use Rattle.map_model.specs.Script.Index as indexes
-use Rattle.map_model.specs.Script.State.{Layer, layer_named}
-use Rattle.map_model.specs.Script.Answer.{Question, Answer, answer_over, index_of, kind_asked}
-use Rattle.map_model.specs.Script.Command.{Ask, lists_ids}
-use Rattle.map_model.specs.Script.Reply.{Answered}
+use Rattle.map_model.specs.Shape as shapes
+use Rattle.map_model.specs.Index as indexes
+use Rattle.map_model.specs.State.{Layer, layer_named}
+use Rattle.map_model.specs.Answer.{Question, Answer, answer_over, index_of, kind_asked}
+use Rattle.map_model.specs.Command.{Ask, lists_ids}
+use Rattle.map_model.specs.Reply.{Answered}
 use Rattle.map_shapes.specs.declared.asked.Asked.{Asked}
 use Rattle.map_layers.specs.declared.faults.AskFault.{AskFault}
 use Rattle.map_layers.specs.declared.faults.AskFault.TheVariants.{NoLayer}

@@ -3,10 +3,10 @@ use Rattle.std.proofs.Common.{◌≡◌, ℕ, ◌*◌, ◌^◌, ◌≤◌, ◌�
 use Rattle.std.specs.Prelude.{count_by, sum_by, nat_le}
 use Rattle.std.proofs.lemmas.Grind.{common_steps}
 use Rattle.id_chain.specs.Chain.{Entry}
-use Rattle.map_model.specs.Script.Shape as model
-use Rattle.map_model.specs.Script.Found.{insert_by, sorted_by}
-use Rattle.map_model.specs.Script.State.{Item}
-use Rattle.map_model.specs.Script.Answer.{ids_with}
+use Rattle.map_model.specs.Shape as model
+use Rattle.map_model.specs.Found.{insert_by, sorted_by}
+use Rattle.map_model.specs.State.{Item}
+use Rattle.map_model.specs.Answer.{ids_with}
 use Rattle.map_shapes.specs.declared.point.Point.{Point}
 use Rattle.map_shapes.specs.declared.rect.Rect.{Rect}
 use Rattle.map_shapes.specs.Ascending.{insert_sorted, sorted_ids}

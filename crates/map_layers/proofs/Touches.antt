@@ -20,8 +20,8 @@ use Rattle.map_shapes.specs.Ascending.{insert_sorted, sorted_ids}
 use Rattle.map_shapes.specs.Questions.{is_in, ids_in}
 use Rattle.std.specs.Prelude.{IfSome}
 use Rattle.std.proofs.lemmas.Bool.{cases_lt}
-use Rattle.map_model.specs.Script.State.{live_count}
-use Rattle.map_model.specs.Script.Cost.{greatest_level, halvings, bounds_at}
+use Rattle.map_model.specs.State.{live_count}
+use Rattle.map_model.specs.Cost.{greatest_level, halvings, bounds_at}
 use Rattle.map_model.proofs.Levels.{IsLog-halvings}
 use Rattle.map_shapes.specs.declared.asked.Asked.{Asked}
 use Rattle.map_layers.specs.Costs.{HasAsked, IsAsking, touches_in_part, rows_of}

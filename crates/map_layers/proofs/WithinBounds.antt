@@ -7,9 +7,9 @@ use Rattle.level_slots.specs.Cost.{IsWithin, quotas}
 use Rattle.level_slots.proofs.Spending.{IsWithin-more, IsWithin-then, quotas-first, quotas-fewer}
 use Rattle.partial_build.specs.Quota.{quota}
 use Rattle.global_rebuild.specs.Index.{Indexed}
-use Rattle.map_model.specs.Script.Index.{one_if, index_count}
-use Rattle.map_model.specs.Script.State.{Layer}
-use Rattle.map_model.specs.Script.Cost.{greatest_level, bounds_at, turns_up_to, turn_bound, mark_bound}
+use Rattle.map_model.specs.Index.{one_if, index_count}
+use Rattle.map_model.specs.State.{Layer}
+use Rattle.map_model.specs.Cost.{greatest_level, bounds_at, turns_up_to, turn_bound, mark_bound}
 use Rattle.map_model.proofs.Levels.{IsLog-halvings}
 use Rattle.map_shapes.specs.declared.spent.Spent.{Spent}
 use Rattle.map_layers.specs.Costs.{IsInBounds, IsTold}

@@ -6,8 +6,8 @@ use Rattle.level_slots.specs.Slots.{parts_of}
 use Rattle.level_slots.specs.Asking.{HaveAtMost, touches_of}
 use Rattle.level_slots.specs.Cost.{IsWithin}
 use Rattle.global_rebuild.specs.Index.{Indexed}
-use Rattle.map_model.specs.Script.State.{Layer, live_count}
-use Rattle.map_model.specs.Script.Cost.{bounds_at, turn_bound, mark_bound, IsSpent, IsAsked}
+use Rattle.map_model.specs.State.{Layer, live_count}
+use Rattle.map_model.specs.Cost.{bounds_at, turn_bound, mark_bound, IsSpent, IsAsked}
 use Rattle.map_shapes.specs.Cost.{spent_of, asked_of}
 use Rattle.map_shapes.specs.declared.asked.Asked.{Asked}
 use Rattle.map_shapes.specs.declared.spent.Spent.{Spent}

@@ -3,10 +3,11 @@ use Rattle.std.specs.Prelude.{◌≡◌, ℕ, ◌<◌, ◌≤◌, Bool, true, fa
 use Rattle.std.specs.Option.{is_some}
 use Rattle.builder_trait.specs.Parts.{Contents}
 use Rattle.id_chain.specs.Chain.{Entry}
-use Rattle.map_model.specs.Script.Shape as model
-use Rattle.map_model.specs.Script.Index.{IndexSet, no_indexes}
-use Rattle.map_model.specs.Script.State.{Item, Layer, most_items, is_live, with_item, without_item}
+use Rattle.map_model.specs.Shape as model
+use Rattle.map_model.specs.Index.{IndexSet, no_indexes}
+use Rattle.map_model.specs.State.{Item, Layer, most_items, is_live, with_item, without_item}
 use Rattle.map_shapes.specs.declared.point.Point.{Point}
+use Rattle.map_shapes.specs.Point.{item_of}
 use Rattle.global_rebuild.specs.Index.{Indexed}
 use Rattle.map_layers.specs.declared.faults.AskFault.{AskFault}
 use Rattle.map_layers.specs.declared.faults.AskFault.TheVariants as ask
@@ -22,10 +23,6 @@ pub record Layered : Type 0 where
 
 abbrev pub stamp_of : Point → ℕ
 stamp_of p = p.stamp
-
--- a point as the definitions have it: the stamp is no part of it
-abbrev pub item_of : Point → Item
-item_of p = record { id = p.id; shape = model.Point p.x p.y p.w }
 
 abbrev pub items_of : List (Entry Point) → List Item
 items_of es = map (λ e. item_of e.item) es

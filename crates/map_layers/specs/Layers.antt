@@ -1,9 +1,9 @@
 -- What contracts see of the layers of a map.
 use Rattle.std.specs.Prelude.{◌≡◌, ℕ, Bool, ◌&&◌, not, false, List, [], ◌∷◌, Option, bytes_eq, map}
-use Rattle.map_model.specs.Script.Shape.{Kind, Points, Segments}
-use Rattle.map_model.specs.Script.Index.{IndexSet}
+use Rattle.map_model.specs.Shape.{Kind, Points, Segments}
+use Rattle.map_model.specs.Index.{IndexSet}
 use Rattle.std.specs.List.{find, list_any, position_from}
-use Rattle.map_model.specs.Script.State.{State}
+use Rattle.map_model.specs.State.{State}
 use Rattle.map_layers.specs.Layer.{Layered, layer_of}
 
 -- the layers in order of creation, and how many calls of updates there were, refused ones included

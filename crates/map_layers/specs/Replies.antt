@@ -1,11 +1,11 @@
 -- What the calls' results say in the words of the definitions.
 use Rattle.std.specs.Prelude.{◌≡◌, Result, Ok, Err, IsTrue}
-use Rattle.map_model.specs.Script.State.{State}
-use Rattle.map_model.specs.Script.Refusal as refusals
-use Rattle.map_model.specs.Script.Command.{Command}
-use Rattle.map_model.specs.Script.Reply.{Reply, Made, Updated, Refused}
-use Rattle.map_model.specs.Script.Machine.{step}
-use Rattle.map_model.specs.Script.Output.{may_lack_memory}
+use Rattle.map_model.specs.State.{State}
+use Rattle.map_model.specs.Refusal as refusals
+use Rattle.map_model.specs.Command.{Command}
+use Rattle.map_model.specs.Reply.{Reply, Made, Updated, Refused}
+use Rattle.map_model.specs.Machine.{step}
+use Rattle.map_model.specs.Output.{may_lack_memory}
 use Rattle.map_layers.specs.declared.faults.CreateFault.{CreateFault}
 use Rattle.map_layers.specs.declared.faults.CreateFault.TheVariants as create
 use Rattle.map_layers.specs.declared.faults.UpdateFault.{UpdateFault}

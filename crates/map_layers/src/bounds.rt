@@ -1,7 +1,7 @@
 //! What an update and a question of a layer may cost.
 ghost use Rattle.std.specs.Prelude.{◌≡◌, ◌+◌, ◌*◌, ◌^◌, ◌<◌, ◌≤◌};
 ghost use Rattle.query_laws.specs.StepLedger.{lap_of};
-ghost use Rattle.map_model.specs.Script.Cost.{bounds_at, greatest_level};
+ghost use Rattle.map_model.specs.Cost.{bounds_at, greatest_level};
 
 use map_shapes::Spent;
 use query_laws::step_ledger::Steps;

@@ -4,10 +4,10 @@ mod asking;
 ghost use Rattle.std.specs.Prelude.{◌≡◌, ℕ, ◌+◌, ◌*◌, ◌<◌, ◌≤◌, ◌^◌, true, false, None, Some, Ok, Err, IfOk, length};
 ghost use Rattle.std.specs.Option.{option_map};
 ghost use Rattle.query_laws.specs.StepLedger.{lap_begun};
-ghost use Rattle.map_model.specs.Script.State.{layer_named};
-ghost use Rattle.map_model.specs.Script.Shape as model;
-ghost use Rattle.map_model.specs.Script.Command as commands;
-ghost use Rattle.map_model.specs.Script.Reply as replies;
+ghost use Rattle.map_model.specs.State.{layer_named};
+ghost use Rattle.map_model.specs.Shape as model;
+ghost use Rattle.map_model.specs.Command as commands;
+ghost use Rattle.map_model.specs.Reply as replies;
 ghost use Rattle.map_shapes.specs.Kind.{kind_of};
 ghost use Rattle.map_shapes.specs.IndexSet.{index_set_of};
 ghost use Rattle.map_shapes.specs.Shape.{model_shape};
@@ -61,7 +61,17 @@ impl Layers {
         }
     }
 
-    /// Makes an empty layer of a kind and indexes that are built: points with `range`. It takes no memory.
+    /// Whether layers of a kind with these indexes are built: today points with `range` alone.
+    pub fn is_built(kind: Kind, indexes: IndexSet) -> bool
+        ensures { result ≡ is_built (kind_of kind) (index_set_of indexes) }
+    {
+        match kind {
+            Kind::Points => indexes.range && !indexes.near && !indexes.top && !indexes.stab,
+            Kind::Segments => false,
+        }
+    }
+
+    /// Makes an empty layer of a kind and indexes that are built, as `is_built` tells. It takes no memory.
     pub fn create(&mut self, name: &Name, kind: Kind, indexes: IndexSet) -> Result<(), CreateFault>
         requires built { is_built (kind_of kind) (index_set_of indexes) ≡ true }
         ensures answered { IsAnswered (map_of self.old) (commands.MakeLayer name.now (kind_of kind) (index_set_of indexes)) (map_of self.new) (created result) }

@@ -4,14 +4,15 @@ ghost use Rattle.std.specs.Option.{is_some, option_map};
 ghost use Rattle.query_laws.specs.StepLedger.{Spends, lap_begun};
 ghost use Rattle.level_slots.specs.Slots.{parts_of};
 ghost use Rattle.level_slots.specs.Asking.{HaveAtMost, touches_of};
-ghost use Rattle.map_model.specs.Script.Index.{index_count};
-ghost use Rattle.map_model.specs.Script.Shape as model;
-ghost use Rattle.map_model.specs.Script.State as state;
-ghost use Rattle.map_model.specs.Script.Cost.{bounds_at, turn_bound, mark_bound, part_bound};
+ghost use Rattle.map_model.specs.Index.{index_count};
+ghost use Rattle.map_model.specs.Shape as model;
+ghost use Rattle.map_model.specs.State as state;
+ghost use Rattle.map_model.specs.Cost.{bounds_at, turn_bound, mark_bound, part_bound};
 ghost use Rattle.map_shapes.specs.Shape.{model_shape};
 ghost use Rattle.map_layers.specs.Indexing.{IsOf};
 ghost use Rattle.map_layers.specs.Costs.{IsCost, IsTold};
-ghost use Rattle.map_layers.specs.Layer.{item_of, items_of, indexes_of, layer_of, stamp_of, IsAdd, IsRemoval, IsAskRefusal};
+ghost use Rattle.map_shapes.specs.Point.{item_of};
+ghost use Rattle.map_layers.specs.Layer.{items_of, indexes_of, layer_of, stamp_of, IsAdd, IsRemoval, IsAskRefusal};
 
 use crate::bounds::{Bounds, spent};
 use crate::indexing::{delete_in, insert_in, new_in, prepare_in};
@@ -43,7 +44,7 @@ pub struct PointLayer {
 
 impl Model for PointLayer {
     ghost use Rattle.std.specs.Prelude.{◌≡◌, ◌≤◌, None, length};
-    ghost use Rattle.map_model.specs.Script.State.{most_items};
+    ghost use Rattle.map_model.specs.State.{most_items};
     ghost use Rattle.map_layers.specs.Indexing.{IsOf, IsBelow};
     ghost use Rattle.map_layers.specs.Layer.{Layered, stamp_of};
 

@@ -1,22 +1,24 @@
 -- No two layers of a map that was reached have the same name, and no two items of a layer the same identifier.
-use Rattle.std.proofs.Common.{◌≡◌, ◌≢◌, ◌==◌, ℕ, zero, suc, ◌<◌, ◌≤◌, Bool, true, false, if◌then◌else◌, List, [], ◌∷◌, ◌++◌, length, Option, Some, None, Result, Ok, Err, get_or, unwrap_or, arith, refl, sym, ap, ◌∙◌, subst, inl, inr}
-use Rattle.std.specs.Prelude.{All, bytes_eq, nat_eq}
-use Rattle.std.specs.List.{AllPairs, list_any}
-use Rattle.std.proofs.lemmas.Bool.{false_from_ne_true, true≢false, eqb-true}
+use Rattle.std.proofs.Common.{◌≡◌, ◌≢◌, ◌==◌, ℕ, suc, ◌<◌, Bool, true, false, if◌then◌else◌, List, [], ◌∷◌, ◌++◌, length, Option, Some, None, Ok, Err, get_or, unwrap_or, arith, refl, sym, ap, ◌∙◌, subst, inl, inr}
+use Rattle.std.specs.Prelude.{All, bytes_eq, nat_le, not, is_some}
+use Rattle.std.specs.List.{AllPairs}
+use Rattle.std.proofs.lemmas.Bool.{false_from_ne_true, true≢false}
 use Rattle.std.proofs.lemmas.Bool.Decides.{Decides-eqb}
 use Rattle.std.proofs.lemmas.Slice.Eq.{bytes_eq-Decides}
-use Rattle.std.proofs.lemmas.List.Kept.{AllPairs-cons}
-use Rattle.std.proofs.lemmas.List.Elements.{All-cons, All-nil}
+use Rattle.std.proofs.lemmas.List.Kept.{AllPairs-cons, AllPairs-filter}
+use Rattle.std.proofs.lemmas.List.Elements.{All-cons, All-push}
 use Rattle.std.proofs.lemmas.List.Quantifiers.{all_pairs_push}
 use Rattle.std.proofs.lemmas.List.Folds.{list_any_at}
-use Rattle.map_model.specs.Shapes.{Rect}
-use Rattle.map_model.specs.State.{Item, Layer, State, HasDistinctKeys, empty_map, is_live, layer_named, with_item, with_item_in}
-use Rattle.map_model.specs.Refusal.{Refusal, Duplicate}
-use Rattle.map_model.specs.Command.{Command, MakeLayer, Add, Count}
-use Rattle.map_model.specs.Reply.{Updated}
-use Rattle.map_model.specs.Machine.{step, refused, make_layer, add_to, count_of}
-use Rattle.map_model.specs.Grammar.{parse}
-use Rattle.map_model.specs.Output.{Answer, Answers, answer, answer_to, Output}
+use Rattle.map_model.specs.Shape.{Shape, Kind, kind_of}
+use Rattle.map_model.specs.Index.{IndexSet, has}
+use Rattle.map_model.specs.State.{Item, Layer, State, HasDistinctKeys, empty_map, most_layers, most_items, live_count, is_live, shape_of, layer_named, changed, with_items, with_item, without_item}
+use Rattle.map_model.specs.Answer.{Question, index_of, kind_asked}
+use Rattle.map_model.specs.Command.{Command, MakeLayer, Add, Drop, Ask, Get, Size, Recent}
+use Rattle.map_model.specs.Refusal.{Taken, NoRoom, Duplicate, Unknown, Full, Index}
+use Rattle.map_model.specs.Refusal as refusals
+use Rattle.map_model.specs.Machine.{Outcome, step, refused, is_same_kind, is_taken, make_layer, add_to, drop_from, ask_of, got, get_from, size_of, recent_of}
+use Rattle.map_model.specs.Grammar.{Parsed, parse}
+use Rattle.map_model.specs.Output.{Given, AnswersTo, Output}
 
 -- ---- the first layer and the others
 
@@ -42,80 +44,137 @@ HasDistinctKeys-cons layer layers names ids rest = record {
 pub HasDistinctKeys-empty : HasDistinctKeys empty_map
 HasDistinctKeys-empty = record { names = λ i j d before inside. absurd (omega arith); ids = λ k d inside. absurd (omega arith) }
 
--- ---- an item more
+-- ---- the items of a layer changed
 
 -- the names stay
-names_kept : (name : List ℕ) (item : Item) (P : List ℕ → Type 0) (layers : State) → All (λ l. P l.name) layers → All (λ l. P l.name) (with_item_in name item layers)
-names_kept name item P [] h = λ k d inside. absurd (omega arith)
-names_kept name item P (layer ∷ layers) h =
-    All-cons (λ (l : Layer). P l.name) _ (with_item_in name item layers)
-    (elim (bytes_eq layer.name name) as (λ b. P (if b then with_item item layer else layer).name) [ true ↦ h 0 layer (omega arith) | false ↦ h 0 layer (omega arith) ])
-    (names_kept name item P layers (λ k d inside. h (suc k) d (omega arith)))
+names_kept : (name : List ℕ) (change : List Item → List Item) (P : List ℕ → Type 0) (layers : State) → All (λ l. P l.name) layers → All (λ l. P l.name) (with_items name change layers)
+names_kept name change P [] h = λ k d inside. absurd (omega arith)
+names_kept name change P (layer ∷ layers) h =
+    All-cons (λ (l : Layer). P l.name) _ (with_items name change layers)
+    (elim (bytes_eq layer.name name) as (λ b. P (if b then changed change layer else layer).name) [ true ↦ h 0 layer (omega arith) | false ↦ h 0 layer (omega arith) ])
+    (names_kept name change P layers (λ k d inside. h (suc k) d (omega arith)))
 
 -- layers of other names stay
-others_kept : (name : List ℕ) (item : Item) (layers : State) → All (λ l. name ≢ l.name) layers → with_item_in name item layers ≡ layers
-others_kept name item [] h = refl
-others_kept name item (layer ∷ layers) h =
+others_kept : (name : List ℕ) (change : List Item → List Item) (layers : State) → All (λ l. name ≢ l.name) layers → with_items name change layers ≡ layers
+others_kept name change [] h = refl
+others_kept name change (layer ∷ layers) h =
     let other : bytes_eq layer.name name ≡ false = false_from_ne_true _ (λ same. h 0 layer (omega arith) (sym ((bytes_eq-Decides layer.name name).0 same))) in
-    (λ i. (if other i then with_item item layer else layer) ∷ others_kept name item layers (λ k d inside. h (suc k) d (omega arith)) i)
+    (λ i. (if other i then changed change layer else layer) ∷ others_kept name change layers (λ k d inside. h (suc k) d (omega arith)) i)
+
+changed_first : (name : List ℕ) (change : List Item → List Item) (layer : Layer) (layers : State) → layer.name ≡ name → AllPairs (λ a b. a.id ≢ b.id) (change layer.items) → HasDistinctKeys (layer ∷ layers)
+    → HasDistinctKeys (changed change layer ∷ with_items name change layers)
+changed_first name change layer layers is ids h =
+    let others : All (λ l. name ≢ l.name) layers = λ k d inside. subst (λ n. n ≢ (get_or layers k d).name) is (names_apart layer layers h k d inside) in
+    subst (λ ls. HasDistinctKeys (changed change layer ∷ ls)) (sym (others_kept name change layers others))
+    (HasDistinctKeys-cons (changed change layer) layers (names_apart layer layers h) ids (HasDistinctKeys-rest layer layers h))
+
+-- a change that keeps the identifiers of a layer apart
+pub HasDistinctKeys-with_items : (name : List ℕ) (change : List Item → List Item) (layers : State)
+    → ((layer : Layer) → layer_named name layers ≡ Some layer → AllPairs (λ a b. a.id ≢ b.id) layer.items → AllPairs (λ a b. a.id ≢ b.id) (change layer.items))
+    → HasDistinctKeys layers → HasDistinctKeys (with_items name change layers)
+HasDistinctKeys-with_items name change [] keeps h = h
+HasDistinctKeys-with_items name change (layer ∷ layers) keeps h =
+    elim (bytes_eq layer.name name) as (λ b. bytes_eq layer.name name ≡ b
+    → ((l : Layer) → (if b then Some layer else layer_named name layers) ≡ Some l → AllPairs (λ x y. x.id ≢ y.id) l.items → AllPairs (λ x y. x.id ≢ y.id) (change l.items))
+    → HasDistinctKeys ((if b then changed change layer else layer) ∷ with_items name change layers)) [
+      | true ↦ λ same keeps'. changed_first name change layer layers ((bytes_eq-Decides layer.name name).0 same) (keeps' layer refl (ids_apart layer layers h)) h
+      | false ↦ λ other keeps'. HasDistinctKeys-cons layer (with_items name change layers) (names_kept name change (λ n. layer.name ≢ n) layers (names_apart layer layers h)) (ids_apart layer layers h)
+          (HasDistinctKeys-with_items name change layers keeps' (HasDistinctKeys-rest layer layers h))
+    ] refl keeps
+
+-- ---- a layer more
+
+-- a name that isn't taken is that of no layer
+not_taken : (name : List ℕ) (state : State) → is_taken name state ≡ false → All (λ l. l.name ≢ name) state
+not_taken name [] h = λ k d inside. absurd (omega arith)
+not_taken name (layer ∷ layers) h =
+    elim (bytes_eq layer.name name) as (λ b. bytes_eq layer.name name ≡ b → is_some (if b then Some layer else layer_named name layers) ≡ false → All (λ l. l.name ≢ name) (layer ∷ layers)) [
+      | true ↦ λ same free. absurd (true≢false free)
+      | false ↦ λ other free. All-cons (λ (l : Layer). l.name ≢ name) layer layers (λ is. true≢false (sym ((bytes_eq-Decides layer.name name).1 is) ∙ other)) (not_taken name layers free)
+    ] refl h
+
+HasDistinctKeys-push : (state : State) (layer : Layer) → All (λ l. l.name ≢ layer.name) state → AllPairs (λ a b. a.id ≢ b.id) layer.items → HasDistinctKeys state → HasDistinctKeys (state ++ layer ∷ [])
+HasDistinctKeys-push state layer others ids h = record {
+  names = all_pairs_push (λ a b. a.name ≢ b.name) state layer h.names others;
+  ids = All-push (λ (l : Layer). AllPairs (λ a b. a.id ≢ b.id) l.items) state layer h.ids ids;
+}
+
+-- ---- a command, and the lines of a script
+
+-- an outcome whose map has distinct keys
+abbrev Keeps : Outcome → Type 0
+Keeps o = HasDistinctKeys o.state
+
+either_keeps : (b : Bool) (first second : Outcome) → (b ≡ true → Keeps first) → (b ≡ false → Keeps second) → Keeps (if b then first else second)
+either_keeps true first second p q = p refl
+either_keeps false first second p q = q refl
+
+HasDistinctKeys-make_layer : (state : State) (name : List ℕ) (kind : Kind) (indexes : IndexSet) → HasDistinctKeys state → Keeps (make_layer state name kind indexes)
+HasDistinctKeys-make_layer state name kind indexes h =
+    either_keeps (is_taken name state) (refused state Taken) _ (λ taken. h) (λ free.
+    either_keeps (nat_le most_layers (length state)) (refused state NoRoom) _ (λ full. h) (λ room.
+    HasDistinctKeys-push state (record { name = name; kind = kind; indexes = indexes; items = [] }) (not_taken name state free) (λ i j d before inside. absurd (omega arith)) h))
 
 -- an identifier that isn't live is that of no item
 not_live : (id : ℕ) (items : List Item) → is_live id items ≡ false → (k : ℕ) (d : Item) → k < length items → (get_or items k d).id ≢ id
 not_live id items h k d inside same =
     true≢false (sym (list_any_at (λ item. item.id == id) items k d inside (let e : ((get_or items k d).id == id) ≡ true = (Decides-eqb _ _).1 same in e)) ∙ h)
 
-put_in_first : (name : List ℕ) (item : Item) (layer : Layer) (layers : State) → layer.name ≡ name → is_live item.id layer.items ≡ false → HasDistinctKeys (layer ∷ layers)
-    → HasDistinctKeys (with_item item layer ∷ with_item_in name item layers)
-put_in_first name item layer layers is fresh h =
-    let others : All (λ l. name ≢ l.name) layers = λ k d inside. subst (λ n. n ≢ (get_or layers k d).name) is (names_apart layer layers h k d inside) in
-    subst (λ ls. HasDistinctKeys (with_item item layer ∷ ls)) (sym (others_kept name item layers others))
-    (HasDistinctKeys-cons (with_item item layer) layers (names_apart layer layers h)
-    (all_pairs_push (λ a b. a.id ≢ b.id) layer.items item (ids_apart layer layers h) (not_live item.id layer.items fresh))
-    (HasDistinctKeys-rest layer layers h))
+HasDistinctKeys-add_to : (state : State) (name : List ℕ) (id : ℕ) (shape : Shape) (found : Option Layer) → layer_named name state ≡ found → HasDistinctKeys state → Keeps (add_to state name id shape found)
+HasDistinctKeys-add_to state name id shape None is h = h
+HasDistinctKeys-add_to state name id shape (Some layer) is h =
+    let item : Item = record { id = id; shape = shape } in
+    either_keeps (not (is_same_kind layer.kind (kind_of shape))) (refused state refusals.Kind) _ (λ other. h) (λ same.
+    either_keeps (is_live id layer.items) (refused state (Duplicate id)) _ (λ live. h) (λ fresh.
+    either_keeps (nat_le most_items (live_count layer)) (refused state Full) _ (λ full. h) (λ room.
+    HasDistinctKeys-with_items name (with_item item) state (λ l named ids.
+    let same_layer : layer ≡ l = ap (λ found. unwrap_or found layer) (sym is ∙ named) in
+    all_pairs_push (λ a b. a.id ≢ b.id) l.items item ids (not_live id l.items (subst (λ (x : Layer). is_live id x.items ≡ false) same_layer fresh))) h)))
 
--- an item with an identifier that isn't live yet comes into the layer of a name
-pub HasDistinctKeys-with_item_in : (name : List ℕ) (item : Item) (into : Layer) (layers : State) → layer_named name layers ≡ Some into → is_live item.id into.items ≡ false → HasDistinctKeys layers
-    → HasDistinctKeys (with_item_in name item layers)
-HasDistinctKeys-with_item_in name item into [] found fresh h = h
-HasDistinctKeys-with_item_in name item into (layer ∷ layers) found fresh h =
-    elim (bytes_eq layer.name name) as (λ b. bytes_eq layer.name name ≡ b → (if b then Some layer else layer_named name layers) ≡ Some into → HasDistinctKeys ((if b then with_item item layer else layer) ∷ with_item_in name item layers)) [
-      | true ↦ λ same is. put_in_first name item layer layers ((bytes_eq-Decides layer.name name).0 same) (subst (λ l. is_live item.id l.items ≡ false) (ap (λ found. unwrap_or found layer) (sym is)) fresh) h
-      | false ↦ λ other is. HasDistinctKeys-cons layer (with_item_in name item layers) (names_kept name item (λ n. layer.name ≢ n) layers (names_apart layer layers h)) (ids_apart layer layers h)
-          (HasDistinctKeys-with_item_in name item into layers is fresh (HasDistinctKeys-rest layer layers h))
-    ] refl found
+HasDistinctKeys-drop_from : (state : State) (name : List ℕ) (id : ℕ) (found : Option Layer) → HasDistinctKeys state → Keeps (drop_from state name id found)
+HasDistinctKeys-drop_from state name id None h = h
+HasDistinctKeys-drop_from state name id (Some layer) h =
+    either_keeps (is_live id layer.items) _ (refused state (Unknown id))
+    (λ live. HasDistinctKeys-with_items name (without_item id) state (λ l named ids. AllPairs-filter (λ a b. a.id ≢ b.id) (λ item. not (item.id == id)) l.items ids) h) (λ gone. h)
 
--- ---- a command, and the lines of a script
+HasDistinctKeys-ask_of : (state : State) (question : Question) (found : Option Layer) → HasDistinctKeys state → Keeps (ask_of state question found)
+HasDistinctKeys-ask_of state question None h = h
+HasDistinctKeys-ask_of state question (Some layer) h =
+    either_keeps (not (is_same_kind layer.kind (kind_asked question))) (refused state refusals.Kind) _ (λ other. h) (λ same.
+    either_keeps (not (has layer.indexes (index_of question))) (refused state Index) _ (λ lacks. h) (λ has'. h))
 
-HasDistinctKeys-add_to : (state : State) (name : List ℕ) (item : Item) (found : Option Layer) → layer_named name state ≡ found → HasDistinctKeys state → HasDistinctKeys (add_to state name item found).state
-HasDistinctKeys-add_to state name item None is h = h
-HasDistinctKeys-add_to state name item (Some layer) is h =
-    elim (is_live item.id layer.items) as (λ b. is_live item.id layer.items ≡ b → HasDistinctKeys (if b then refused state (Duplicate item.id) else record { state = with_item_in name item state; reply = Updated }).state) [
-      | true ↦ λ live. h
-      | false ↦ λ fresh. HasDistinctKeys-with_item_in name item layer state is fresh h
-    ] refl
+HasDistinctKeys-got : (state : State) (id : ℕ) (shape : Option Shape) → HasDistinctKeys state → Keeps (got state id shape)
+HasDistinctKeys-got state id None h = h
+HasDistinctKeys-got state id (Some shape) h = h
 
-HasDistinctKeys-count_of : (state : State) (rect : Rect) (found : Option Layer) → HasDistinctKeys state → HasDistinctKeys (count_of state rect found).state
-HasDistinctKeys-count_of state rect None h = h
-HasDistinctKeys-count_of state rect (Some layer) h = h
+HasDistinctKeys-get_from : (state : State) (id : ℕ) (found : Option Layer) → HasDistinctKeys state → Keeps (get_from state id found)
+HasDistinctKeys-get_from state id None h = h
+HasDistinctKeys-get_from state id (Some layer) h = HasDistinctKeys-got state id (shape_of id layer.items) h
 
-HasDistinctKeys-make_layer : (state : State) (name : List ℕ) → HasDistinctKeys state → HasDistinctKeys (make_layer state name).state
-HasDistinctKeys-make_layer [] name h = HasDistinctKeys-cons (record { name = name; items = [] }) [] (All-nil _) (λ i j d before inside. absurd (omega arith)) h
-HasDistinctKeys-make_layer (layer ∷ layers) name h = h
+HasDistinctKeys-size_of : (state : State) (found : Option Layer) → HasDistinctKeys state → Keeps (size_of state found)
+HasDistinctKeys-size_of state None h = h
+HasDistinctKeys-size_of state (Some layer) h = h
 
-pub HasDistinctKeys-step : (state : State) (command : Command) → HasDistinctKeys state → HasDistinctKeys (step state command).state
-HasDistinctKeys-step state (MakeLayer name) h = HasDistinctKeys-make_layer state name h
-HasDistinctKeys-step state (Add name id shape) h = HasDistinctKeys-add_to state name (record { id = id; shape = shape }) (layer_named name state) refl h
-HasDistinctKeys-step state (Count name rect) h = HasDistinctKeys-count_of state rect (layer_named name state) h
+HasDistinctKeys-recent_of : (state : State) (k : ℕ) (found : Option Layer) → HasDistinctKeys state → Keeps (recent_of state k found)
+HasDistinctKeys-recent_of state k None h = h
+HasDistinctKeys-recent_of state k (Some layer) h = h
 
-HasDistinctKeys-answer_to : (state : State) (parsed : Result (Option Command) Refusal) → HasDistinctKeys state → HasDistinctKeys (answer_to state parsed).state
-HasDistinctKeys-answer_to state (Ok None) h = h
-HasDistinctKeys-answer_to state (Ok (Some command)) h = HasDistinctKeys-step state command h
-HasDistinctKeys-answer_to state (Err cause) h = h
+pub HasDistinctKeys-step : (state : State) (command : Command) → HasDistinctKeys state → Keeps (step state command)
+HasDistinctKeys-step state (MakeLayer name kind indexes) h = HasDistinctKeys-make_layer state name kind indexes h
+HasDistinctKeys-step state (Add name id shape) h = HasDistinctKeys-add_to state name id shape (layer_named name state) refl h
+HasDistinctKeys-step state (Drop name id) h = HasDistinctKeys-drop_from state name id (layer_named name state) h
+HasDistinctKeys-step state (Ask name question) h = HasDistinctKeys-ask_of state question (layer_named name state) h
+HasDistinctKeys-step state (Get name id) h = HasDistinctKeys-get_from state id (layer_named name state) h
+HasDistinctKeys-step state (Size name) h = HasDistinctKeys-size_of state (layer_named name state) h
+HasDistinctKeys-step state (Recent name k) h = HasDistinctKeys-recent_of state k (layer_named name state) h
 
-HasDistinctKeys-answer : (state : State) (line : List ℕ) (given : Answer) → Answers state line given → HasDistinctKeys state → HasDistinctKeys given.state
-HasDistinctKeys-answer state line given (inl is) h = subst (λ (g : Answer). HasDistinctKeys g.state) (sym is) (HasDistinctKeys-answer_to state (parse line) h)
-HasDistinctKeys-answer state line given (inr lacks) h = subst (λ (g : Answer). HasDistinctKeys g.state) (sym lacks.1) h
+HasDistinctKeys-answer : (state : State) (parsed : Parsed) (given : Given) → AnswersTo state parsed given → HasDistinctKeys state → HasDistinctKeys given.state
+HasDistinctKeys-answer state (Ok None) given is h = subst (λ (g : Given). HasDistinctKeys g.state) (sym is) h
+HasDistinctKeys-answer state (Err fault) given is h = subst (λ (g : Given). HasDistinctKeys g.state) (sym is) h
+HasDistinctKeys-answer state (Ok (Some command)) given (inl e) h = subst (λ (g : Given). HasDistinctKeys g.state) (sym e.is_given) (HasDistinctKeys-step state command h)
+HasDistinctKeys-answer state (Ok (Some command)) given (inr lacks) h = subst (λ (g : Given). HasDistinctKeys g.state) (sym lacks.1) h
 
-pub HasDistinctKeys-output : (start end : State) (script : List (List ℕ)) (written : List ℕ) → Output start script written end → HasDistinctKeys start → HasDistinctKeys end
-HasDistinctKeys-output start end [] written o h = subst HasDistinctKeys (sym o.1) h
-HasDistinctKeys-output start end (line ∷ script) written o h = HasDistinctKeys-output o.0.state end script o.2 o.4 (HasDistinctKeys-answer start line o.0 o.1 h)
+pub HasDistinctKeys-output : (ledger : Bool) (start end : State) (script : List (List ℕ)) (written : List ℕ) → Output ledger start script written end → HasDistinctKeys start → HasDistinctKeys end
+HasDistinctKeys-output ledger start end [] written o h = subst HasDistinctKeys (sym o.1) h
+HasDistinctKeys-output ledger start end (line ∷ script) written o h =
+    HasDistinctKeys-output ledger o.0.state end script o.2 o.4 (HasDistinctKeys-answer start (parse line) o.0 o.1 h)

@@ -5,16 +5,16 @@ use Rattle.std.specs.Str.Parse.{digits_value}
 use Rattle.std.proofs.lemmas.Bool.{and_parts, false≢true, true≢false, cases_Bool, leb-true, eqb-true}
 use Rattle.std.proofs.lemmas.Slice.Eq.{bytes_eq-Decides}
 use Rattle.std.proofs.Math.Bool.{or-true}
-use Rattle.map_model.specs.Grammar.{words, is_name, longest_line, greatest_id, greatest_coordinate}
-use Rattle.map_model.specs.Script.Shape.{Kind, Points, Segments}
-use Rattle.map_model.specs.Script.Index.{fits}
-use Rattle.map_model.specs.Script.LineFault.{LineFault}
-use Rattle.map_model.specs.Script.LineFault as faults
-use Rattle.map_model.specs.Script.Command.{Command}
-use Rattle.map_model.specs.Script.Form.{Field, Id, Coordinate, Amount, limits_of, Form, form, is_ordered, verb_of, greatest_amount}
-use Rattle.map_model.specs.Script.Form as verbs
-use Rattle.map_model.specs.Script.Grammar.{without_return, is_printable, is_digits, is_within, is_in_range, all_fields, has_words, Values, named, place, rect_of, with_value, with_values, command_of, takes_word, is_distinct, index_set, Parsed, parse_indexes, parse_kind, parse_fields, parse_verb, parse_words, parse}
-use Rattle.map_model.specs.Script.Line.{IsCommand, IsRect}
+use Rattle.map_model.specs.Words.{words, is_name, longest_line, greatest_id, greatest_coordinate}
+use Rattle.map_model.specs.Shape.{Kind, Points, Segments}
+use Rattle.map_model.specs.Index.{fits}
+use Rattle.map_model.specs.LineFault.{LineFault}
+use Rattle.map_model.specs.LineFault as faults
+use Rattle.map_model.specs.Command.{Command}
+use Rattle.map_model.specs.Form.{Field, Id, Coordinate, Amount, limits_of, Form, form, is_ordered, verb_of, greatest_amount}
+use Rattle.map_model.specs.Form as verbs
+use Rattle.map_model.specs.Grammar.{without_return, is_printable, is_digits, is_within, is_in_range, all_fields, has_words, Values, named, place, rect_of, with_value, with_values, command_of, takes_word, is_distinct, index_set, Parsed, parse_indexes, parse_kind, parse_fields, parse_verb, parse_words, parse}
+use Rattle.map_model.specs.Line.{IsCommand, IsRect}
 
 -- behind a step that finds no fault
 past : (b : Bool) (fault : LineFault) (rest : Parsed) (command : Command) → cond b (Err fault) rest ≡ Ok (Some command) → (b ≡ false) × (rest ≡ Ok (Some command))

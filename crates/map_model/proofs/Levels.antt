@@ -1,7 +1,7 @@
 -- The greatest level of a layer is a binary logarithm.
 use Rattle.std.proofs.Common.{ℕ, zero, suc, ◌*◌, ◌/◌, ◌^◌, ◌<◌, ◌≤◌, arith, inl, inr, pow-suc}
 use Rattle.std.proofs.lemmas.Bool.{cases_lt, lt-ltb, le-ltb}
-use Rattle.map_model.specs.Script.Cost.{halvings}
+use Rattle.map_model.specs.Cost.{halvings}
 
 -- h is the greatest power of two at most m
 abbrev pub IsLog : ℕ → ℕ → Type 0

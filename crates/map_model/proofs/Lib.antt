@@ -1,9 +1,8 @@
 pub mod DistinctKeys
 pub mod TextLemmas
-pub mod OutputLemmas
 pub mod WordLemmas
-pub mod ScriptReplies
-pub mod ScriptOutputs
+pub mod ReplyLines
+pub mod Outputs
 pub mod Levels
 pub mod WordLists
 pub mod RoundTrip

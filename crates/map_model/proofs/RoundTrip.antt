@@ -7,17 +7,17 @@ use Rattle.std.proofs.lemmas.Bool.{and_parts, and_from, false≢true, le-leb, le
 use Rattle.std.proofs.lemmas.Bool.Decides.{nat_tests}
 use Rattle.std.proofs.lemmas.Fmt.{digits_decimal, digits_value-decimal, length-decimal-le, decimal_nonempty}
 use Rattle.std.proofs.lemmas.Str.Parse.{IsNumeralModel, numerals_by_value, tells_all_ascii_digits}
-use Rattle.map_model.specs.Grammar.{is_filled, words, is_name, is_name_byte, greatest_id, greatest_coordinate, longest_line}
-use Rattle.map_model.specs.Shapes.{Rect}
-use Rattle.map_model.specs.Script.Shape.{Kind, Points, Segments, Point, Segment}
-use Rattle.map_model.specs.Script.Index.{IndexSet, fits}
-use Rattle.map_model.specs.Script.Answer as questions
-use Rattle.map_model.specs.Script.Command.{Command, MakeLayer, Add, Drop, Ask, Get, Size, Recent}
-use Rattle.map_model.specs.Script.Form.{Field, Id, Coordinate, Amount, limits_of, Form, form, is_ordered, verbs, verb_of, greatest_amount}
-use Rattle.map_model.specs.Script.Form as forms
-use Rattle.map_model.specs.Script.LineFault as faults
-use Rattle.map_model.specs.Script.Grammar.{without_return, is_printable, is_digits, is_within, is_in_range, all_fields, has_words, Values, named, with_values, command_of, parse_indexes, parse_fields, parse_verb, parse_words, parse_text, parse}
-use Rattle.map_model.specs.Script.Line.{kind_word, index_words, word_if, rect_words, spaced_words, command_line, IsCoordinate, IsAmount, IsRect, IsQuestion, IsCommand}
+use Rattle.map_model.specs.Words.{is_filled, words, is_name, is_name_byte, greatest_id, greatest_coordinate, longest_line}
+use Rattle.map_model.specs.Shape.{Rect}
+use Rattle.map_model.specs.Shape.{Kind, Points, Segments, Point, Segment}
+use Rattle.map_model.specs.Index.{IndexSet, fits}
+use Rattle.map_model.specs.Answer as questions
+use Rattle.map_model.specs.Command.{Command, MakeLayer, Add, Drop, Ask, Get, Size, Recent}
+use Rattle.map_model.specs.Form.{Field, Id, Coordinate, Amount, limits_of, Form, form, is_ordered, verbs, verb_of, greatest_amount}
+use Rattle.map_model.specs.Form as forms
+use Rattle.map_model.specs.LineFault as faults
+use Rattle.map_model.specs.Grammar.{without_return, is_printable, is_digits, is_within, is_in_range, all_fields, has_words, Values, named, with_values, command_of, parse_indexes, parse_fields, parse_verb, parse_words, parse_text, parse}
+use Rattle.map_model.specs.Line.{kind_word, index_words, word_if, rect_words, spaced_words, command_line, IsCoordinate, IsAmount, IsRect, IsQuestion, IsCommand}
 use Rattle.map_model.proofs.WordLists.{is_plain, name_plain, digit_plain, list_all-weaker, IsPlainWord, ArePlainWords, words-spaced, spaced_printable, length-spaced, last_of_spaced}
 
 own : IsNumeralModel (λ ds. all_ascii_digits ds ≡ true) (digits_value 10)

@@ -1,13 +1,10 @@
--- Lines of a text, and the lines that replies are.
-use Rattle.std.proofs.Common.{◌≡◌, ℕ, zero, suc, ◌+◌, ◌/◌, ◌%◌, ◌<◌, Bool, true, false, cond, not, ◌&&◌, nat_eq, List, [], ◌∷◌, ◌++◌, codes, decimal, Option, Some, None, count_by, arith, refl, sym, ap, ◌∙◌, append_assoc, mod-lt, inl, inr}
-use Rattle.std.specs.List.{onto_first, starts_with}
+-- Lines of a text.
+use Rattle.std.proofs.Common.{◌≡◌, ℕ, zero, suc, ◌/◌, ◌%◌, ◌<◌, true, false, cond, not, ◌&&◌, nat_eq, List, [], ◌∷◌, ◌++◌, decimal, arith, refl, sym, ap, ◌∙◌, mod-lt, inl, inr}
+use Rattle.std.specs.List.{onto_first}
 use Rattle.std.specs.Fmt.{digits, digits_onto, digit_glyph}
 use Rattle.std.proofs.lemmas.Bool.{cases_Bool, and_parts, not-true, cond_both}
 use Rattle.std.proofs.lemmas.Bool.Decides.{nat_tests}
-use Rattle.std.proofs.lemmas.List.Sums.{sum_by-cons}
-use Rattle.map_model.specs.Refusal.{Refusal, NoCommand, NoLayer, Duplicate, NoMemory, refusal_text}
-use Rattle.map_model.specs.Reply.{Reply, Made, Updated, Counted, Refused, is_refusal, refusal_count, reply_text, reply_line, written_for}
-use Rattle.map_model.specs.Text.{lines, whole_lines, onto_first_if_any, one_line, refusals}
+use Rattle.map_model.specs.Text.{lines, whole_lines, onto_first_if_any, one_line}
 
 -- A text that begins with a whole line has that line first.
 pub lines-line : (text rest : List ℕ) → one_line text ≡ true → lines (text ++ 10 ∷ rest) ≡ text ∷ lines rest
@@ -65,7 +62,7 @@ lines-append (byte ∷ text) rest =
           ∙ sym (ap (λ b. cond b ([] ∷ lines (text ++ 10 ∷ [])) (onto_first byte (lines (text ++ 10 ∷ []))) ++ lines rest) no')
     ]
 
--- ---- replies
+-- ---- numbers
 
 glyph_ordinary : (n : ℕ) → not (nat_eq (digit_glyph false (n % 10)) 10) ≡ true
 glyph_ordinary n =
@@ -81,39 +78,6 @@ digits_onto_one_line (suc k) n acc h =
 pub decimal_one_line : (n : ℕ) → one_line (decimal n) ≡ true
 unfolding digits
 decimal_one_line n = digits_onto_one_line 64 n [] refl
-
-refusal_one_line : (cause : Refusal) → one_line (refusal_text cause) ≡ true
-refusal_one_line NoCommand = refl
-refusal_one_line NoLayer = refl
-refusal_one_line (Duplicate id) = decimal_one_line id
-refusal_one_line NoMemory = refl
-
-pub reply_one_line : (reply : Reply) → one_line (reply_text reply) ≡ true
-reply_one_line Made = refl
-reply_one_line Updated = refl
-reply_one_line (Counted n) = decimal_one_line n
-reply_one_line (Refused cause) = refusal_one_line cause
-
-pub lines-reply : (reply : Reply) (rest : List ℕ) → lines (reply_line reply ++ rest) ≡ reply_text reply ∷ lines rest
-lines-reply reply rest = ap lines (append_assoc (reply_text reply) (10 ∷ []) rest) ∙ lines-line (reply_text reply) rest (reply_one_line reply)
-
-begins_no : (reply : Reply) → starts_with nat_eq (reply_text reply) (codes "no ") ≡ is_refusal reply
-begins_no Made = refl
-begins_no Updated = refl
-begins_no (Counted n) = refl
-begins_no (Refused NoCommand) = refl
-begins_no (Refused NoLayer) = refl
-begins_no (Refused (Duplicate id)) = refl
-begins_no (Refused NoMemory) = refl
-
--- What was written begins with `no ` once for each refusal.
-pub refusals-append : (reply : Option Reply) (rest : List ℕ) → refusals (written_for reply ++ rest) ≡ refusal_count reply + refusals rest
-refusals-append None rest = omega arith
-refusals-append (Some reply) rest =
-    let test : List ℕ → Bool = λ line. starts_with nat_eq line (codes "no ") in
-    ap (count_by test) (lines-reply reply rest)
-    ∙ sum_by-cons (λ line. cond (test line) 1 0) (reply_text reply) (lines rest)
-    ∙ ap (λ b. cond b 1 0 + count_by test (lines rest)) (begins_no reply)
 
 -- The whole lines of a text are the first lines of the text with more after it.
 pub lines_begin_whole : (text more : List ℕ) → (tail : List (List ℕ)) × (lines (text ++ more) ≡ whole_lines text ++ tail)

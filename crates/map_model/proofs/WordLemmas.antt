@@ -2,7 +2,7 @@
 use Rattle.std.proofs.Common.{◌≡◌, ℕ, suc, ◌+◌, ◌≤◌, ◌<◌, Bool, false, cond, not, List, [], ◌∷◌, length, take, drop, get_or, filter, arith, refl, sym, ap, ◌∙◌, subst, inl, inr, one-add}
 use Rattle.std.specs.List.{slice_split, onto_first, prefix_len}
 use Rattle.std.proofs.lemmas.Bool.{cases_Bool}
-use Rattle.map_model.specs.Grammar.{is_blank, is_word_byte, is_filled, words}
+use Rattle.map_model.specs.Words.{is_blank, is_word_byte, is_filled, words}
 
 -- blanks at the front say nothing
 pub words-drop_blanks : (text : List ℕ) → words (drop (prefix_len is_blank text) text) ≡ words text

@@ -6,9 +6,9 @@ use Rattle.std.proofs.lemmas.Bool.Decides.{nat_tests}
 use Rattle.std.proofs.lemmas.List.Elements.{All-cons}
 use Rattle.std.proofs.lemmas.List.Folds.{list_all-append}
 use Rattle.std.proofs.lemmas.List.Splits.{slice_split_none, slice_split_at}
-use Rattle.map_model.specs.Grammar.{is_blank, is_filled, words, is_name_byte}
-use Rattle.map_model.specs.Script.Grammar.{is_printable}
-use Rattle.map_model.specs.Script.Line.{spaced_words}
+use Rattle.map_model.specs.Words.{is_blank, is_filled, words, is_name_byte}
+use Rattle.map_model.specs.Grammar.{is_printable}
+use Rattle.map_model.specs.Line.{spaced_words}
 
 -- a byte from `!` to `~`
 abbrev pub is_plain : ℕ → Bool

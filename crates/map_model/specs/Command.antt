@@ -1,17 +1,47 @@
 -- What a line may ask for.
 use Rattle.std.specs.Prelude.{ℕ, List, Bool, true, false}
-use Rattle.map_model.specs.Shapes.{Shape, Rect}
+use Rattle.map_model.specs.Shape.{Shape, Kind}
+use Rattle.map_model.specs.Index.{IndexSet}
+use Rattle.map_model.specs.Answer as questions
 
 pub data Command : Type 0 where
-  -- `layer NAME points range`
-  MakeLayer : (name : List ℕ) → Command
-  -- `add NAME ID X Y W`
+  MakeLayer : (name : List ℕ) (kind : Kind) (indexes : IndexSet) → Command
+  -- `add` of a point and `seg` of a segment
   Add : (name : List ℕ) (id : ℕ) (shape : Shape) → Command
-  -- `count NAME X1 Y1 X2 Y2`
-  Count : (name : List ℕ) (rect : Rect) → Command
+  Drop : (name : List ℕ) (id : ℕ) → Command
+  Ask : (name : List ℕ) (question : questions.Question) → Command
+  Get : (name : List ℕ) (id : ℕ) → Command
+  Size : (name : List ℕ) → Command
+  Recent : (name : List ℕ) (k : ℕ) → Command
+
+-- the layer that a command names
+abbrev pub name_of : Command → List ℕ
+name_of (MakeLayer name kind indexes) = name
+name_of (Add name id shape) = name
+name_of (Drop name id) = name
+name_of (Ask name question) = name
+name_of (Get name id) = name
+name_of (Size name) = name
+name_of (Recent name k) = name
+
+-- a question that memory may refuse is one for a list of any length
+abbrev pub lists_ids : questions.Question → Bool
+lists_ids (questions.CountIn rect) = false
+lists_ids (questions.SumIn rect) = false
+lists_ids (questions.ListIn rect) = true
+lists_ids (questions.Near x y) = false
+lists_ids (questions.Nearest k x y) = false
+lists_ids (questions.Above x1 x2 y) = true
+lists_ids (questions.Top x1 x2) = false
+lists_ids (questions.Stab x) = true
+lists_ids (questions.StabCount x) = false
 
 -- the commands that memory may refuse
 abbrev pub takes_memory : Command → Bool
-takes_memory (MakeLayer name) = false
+takes_memory (MakeLayer name kind indexes) = false
 takes_memory (Add name id shape) = true
-takes_memory (Count name rect) = false
+takes_memory (Drop name id) = true
+takes_memory (Ask name question) = lists_ids question
+takes_memory (Get name id) = false
+takes_memory (Size name) = false
+takes_memory (Recent name k) = false

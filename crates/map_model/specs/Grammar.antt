@@ -1,104 +1,170 @@
--- What a line of bytes without its line feed says: nothing, a command, or no command at all.
-use Rattle.std.specs.Prelude.{◌==◌, ℕ, ◌-◌, ◌^◌, Bool, true, false, ◌&&◌, ◌||◌, not, List, [], ◌∷◌, length, Option, Some, None, Result, Ok, Err, nat_le, nat_lt, bytes_eq, codes, filter, option_and_then, if◌then◌else◌}
-use Rattle.std.specs.List.{list_all, slice_split, starts_with}
-use Rattle.std.specs.Char.{is_ascii_alphanumeric}
+-- What a line of bytes without its line feed says: nothing, a command, or the first fault that holds, step by step.
+use Rattle.std.specs.Prelude.{◌==◌, ℕ, ◌+◌, ◌-◌, Bool, true, ◌&&◌, ◌||◌, not, List, [], ◌∷◌, ◌++◌, length, take, drop, Option, Some, None, Result, Ok, Err, nat_le, nat_lt, slice_index, bytes_eq, codes, if◌then◌else◌}
+use Rattle.std.specs.List.{list_all, list_any, starts_with}
 use Rattle.std.specs.Str.{all_ascii_digits}
 use Rattle.std.specs.Str.Parse.{digits_value}
-use Rattle.map_model.specs.Shapes.{Point}
-use Rattle.map_model.specs.Refusal.{Refusal, NoCommand}
-use Rattle.map_model.specs.Command.{Command, MakeLayer, Add, Count}
+use Rattle.map_model.specs.Shape.{Rect}
+use Rattle.map_model.specs.Words.{words, is_filled, is_name, longest_line}
+use Rattle.map_model.specs.Shape.{Kind, Points, Segments, Point, Segment}
+use Rattle.map_model.specs.Index.{IndexSet, no_indexes}
+use Rattle.map_model.specs.Answer as questions
+use Rattle.map_model.specs.Command.{Command, MakeLayer, Add, Drop, Ask, Get, Size, Recent}
+use Rattle.map_model.specs.LineFault.{LineFault}
+use Rattle.map_model.specs.LineFault as faults
+use Rattle.map_model.specs.Form.{Field, Id, Coordinate, Amount, limits_of, Form, form, is_ordered, verb_of}
+use Rattle.map_model.specs.Form as verbs
 
--- a space or a tab
-abbrev pub is_blank : ℕ → Bool
-is_blank byte = (byte == 32) || (byte == 9)
+-- ---- bytes
 
-abbrev pub is_word_byte : ℕ → Bool
-is_word_byte byte = not (is_blank byte)
+-- the line without one CR at its end
+abbrev pub without_return : List ℕ → List ℕ
+without_return line = if slice_index line (length line - 1) == 13 then take (length line - 1) line else line
 
-abbrev pub is_filled : List ℕ → Bool
-is_filled [] = false
-is_filled (byte ∷ bytes) = true
+-- a tab, or a byte from the space to the tilde
+abbrev pub is_printable : ℕ → Bool
+is_printable byte = (byte == 9) || (nat_le 32 byte && nat_le byte 126)
 
--- the longest runs of bytes other than blanks
-abbrev pub words : List ℕ → List (List ℕ)
-words line = filter is_filled (slice_split is_blank line)
+-- ---- fields
 
--- a letter, a digit, `_` or `-`
-abbrev pub is_name_byte : ℕ → Bool
-is_name_byte byte = is_ascii_alphanumeric byte || (byte == 95) || (byte == 45)
+-- one or more ASCII digits
+abbrev pub is_digits : Field → List ℕ → Bool
+is_digits field word = is_filled word && all_ascii_digits word
 
--- 1 to 16 letters, digits, `_` and `-`
-abbrev pub is_name : List ℕ → Bool
-is_name word = nat_le 1 (length word) && nat_le (length word) 16 && list_all is_name_byte word
+-- a number within the limits of its field
+abbrev pub is_within : Field → ℕ → Bool
+is_within field n = nat_le (limits_of field).least n && nat_le n (limits_of field).greatest
 
--- one or more digits, whose number is at most the limit
-abbrev pub is_number : ℕ → List ℕ → Bool
-is_number limit word = is_filled word && all_ascii_digits word && nat_le (digits_value 10 word) limit
+abbrev pub is_in_range : Field → List ℕ → Bool
+is_in_range field word = is_within field (digits_value 10 word)
 
-abbrev pub greatest_coordinate : ℕ
-greatest_coordinate = 2 ^ 31 - 1
+-- a test passes for each field and the word that stands in it
+abbrev pub all_fields : (Field → List ℕ → Bool) → List Field → List (List ℕ) → Bool
+all_fields test [] words = true
+all_fields test (field ∷ fields) [] = true
+all_fields test (field ∷ fields) (word ∷ words) = test field word && all_fields test fields words
 
-abbrev pub greatest_id : ℕ
-greatest_id = 2 ^ 64 - 1
+-- one word a field, and then, where they follow, a kind and one or more indexes
+abbrev pub has_words : Form → List (List ℕ) → Bool
+has_words f words = if f.has_indexes then nat_le (length f.fields + 2) (length words) else length words == length f.fields
 
-infixl 10 ◌>>=◌
-abbrev pub ◌>>=◌ : {A B : Type 0} → Option A → (A → Option B) → Option B
-field >>= next = option_and_then next field
+-- ---- what the fields say
 
-abbrev pub name_field : List ℕ → Option (List ℕ)
-name_field word = if is_name word then Some word else None
+pub record Values : Type 0 where
+  pub name : List ℕ
+  pub id : ℕ
+  -- coordinates and weights, in the order of the line
+  pub places : List ℕ
+  pub amount : ℕ
+  pub kind : Kind
+  pub indexes : IndexSet
 
-abbrev pub number_field : ℕ → List ℕ → Option ℕ
-number_field limit word = if is_number limit word then Some (digits_value 10 word) else None
+-- a name and nothing else
+abbrev pub named : List ℕ → Values
+named name = record { name = name; id = 0; places = []; amount = 0; kind = Points; indexes = no_indexes }
 
-abbrev pub coordinate_field : List ℕ → Option ℕ
-coordinate_field word = number_field greatest_coordinate word
+-- the values, and a number in its field
+abbrev pub with_value : Field → ℕ → Values → Values
+with_value Id n v = record v { id = n }
+with_value Coordinate n v = record v { places = v.places ++ n ∷ [] }
+with_value Amount n v = record v { amount = n }
 
--- `layer NAME points range`, after its first word
-unfoldable pub layer_form : List (List ℕ) → Option Command
-layer_form (name ∷ kind ∷ index ∷ []) =
-    if bytes_eq kind (codes "points") && bytes_eq index (codes "range") then option_and_then (λ n. Some (MakeLayer n)) (name_field name) else None
-layer_form fields = None
+-- the values, and those of the words in these fields
+abbrev pub with_values : List Field → List (List ℕ) → Values → Values
+with_values [] words v = v
+with_values (field ∷ fields) [] v = v
+with_values (field ∷ fields) (word ∷ words) v = with_values fields words (with_value field (digits_value 10 word) v)
 
--- `add NAME ID X Y W`, after its first word
-unfoldable pub add_form : List (List ℕ) → Option Command
-add_form (name ∷ id ∷ x ∷ y ∷ w ∷ []) = do
-  name ← name_field name
-  id ← number_field greatest_id id
-  x ← coordinate_field x
-  y ← coordinate_field y
-  w ← coordinate_field w
-  Some (Add name id (Point x y w))
-add_form fields = None
+-- the place of a number in the order of the line
+abbrev pub place : Values → ℕ → ℕ
+place v k = slice_index v.places k
 
--- `count NAME X1 Y1 X2 Y2`, after its first word: each lower end is at most its upper end
-unfoldable pub count_form : List (List ℕ) → Option Command
-count_form (name ∷ x1 ∷ y1 ∷ x2 ∷ y2 ∷ []) = do
-  name ← name_field name
-  x1 ← coordinate_field x1
-  y1 ← coordinate_field y1
-  x2 ← coordinate_field x2
-  y2 ← coordinate_field y2
-  if nat_le x1 x2 && nat_le y1 y2 then Some (Count name (record { x1 = x1; y1 = y1; x2 = x2; y2 = y2 })) else None
-count_form fields = None
+abbrev pub rect_of : Values → Rect
+rect_of v = record { x1 = place v 0; y1 = place v 1; x2 = place v 2; y2 = place v 3 }
 
-abbrev pub form : List ℕ → List (List ℕ) → Option Command
-form word fields =
-    if bytes_eq word (codes "layer") then layer_form fields
-    else (if bytes_eq word (codes "add") then add_form fields
-    else (if bytes_eq word (codes "count") then count_form fields else None))
+-- the command of a verb with these values
+unfoldable pub command_of : verbs.Verb → Values → Command
+command_of verbs.Layer v = MakeLayer v.name v.kind v.indexes
+command_of verbs.Add v = Add v.name v.id (Point (place v 0) (place v 1) (place v 2))
+command_of verbs.Seg v = Add v.name v.id (Segment (place v 0) (place v 1) (place v 2))
+command_of verbs.Drop v = Drop v.name v.id
+command_of verbs.Count v = Ask v.name (questions.CountIn (rect_of v))
+command_of verbs.Sum v = Ask v.name (questions.SumIn (rect_of v))
+command_of verbs.ListIds v = Ask v.name (questions.ListIn (rect_of v))
+command_of verbs.Near v = Ask v.name (questions.Near (place v 0) (place v 1))
+command_of verbs.Nearest v = Ask v.name (questions.Nearest v.amount (place v 0) (place v 1))
+command_of verbs.Above v = Ask v.name (questions.Above (place v 0) (place v 1) (place v 2))
+command_of verbs.Top v = Ask v.name (questions.Top (place v 0) (place v 1))
+command_of verbs.Stab v = Ask v.name (questions.Stab (place v 0))
+command_of verbs.StabCount v = Ask v.name (questions.StabCount (place v 0))
+command_of verbs.Get v = Get v.name v.id
+command_of verbs.Size v = Size v.name
+command_of verbs.Recent v = Recent v.name v.amount
 
-abbrev pub command_or_fault : Option Command → Result (Option Command) Refusal
-command_or_fault None = Err NoCommand
-command_or_fault (Some command) = Ok (Some command)
+-- ---- kinds and indexes
 
--- a line with no word, or whose first word begins with `#`, says nothing
-abbrev pub parse_words : List (List ℕ) → Result (Option Command) Refusal
-parse_words [] = Ok None
-parse_words (word ∷ fields) = if starts_with (λ a b. a == b) word (35 ∷ []) then Ok None else command_or_fault (form word fields)
+-- points take `range`, `near` and `top`, segments take `stab`
+abbrev pub takes_word : Kind → List ℕ → Bool
+takes_word Points word = bytes_eq word (codes "range") || bytes_eq word (codes "near") || bytes_eq word (codes "top")
+takes_word Segments word = bytes_eq word (codes "stab")
 
-abbrev pub longest_line : ℕ
-longest_line = 256
+abbrev pub is_distinct : List (List ℕ) → Bool
+is_distinct [] = true
+is_distinct (word ∷ words) = not (list_any (bytes_eq word) words) && is_distinct words
 
-abbrev pub parse : List ℕ → Result (Option Command) Refusal
-parse line = if nat_lt longest_line (length line) then Err NoCommand else parse_words (words line)
+abbrev pub index_set : List (List ℕ) → IndexSet
+index_set words = record {
+  range = list_any (λ word. bytes_eq word (codes "range")) words;
+  near = list_any (λ word. bytes_eq word (codes "near")) words;
+  top = list_any (λ word. bytes_eq word (codes "top")) words;
+  stab = list_any (λ word. bytes_eq word (codes "stab")) words;
+}
+
+abbrev pub Parsed : Type 0
+Parsed = Result (Option Command) LineFault
+
+-- each index is one that the kind takes, and none stands twice
+abbrev pub parse_indexes : verbs.Verb → Values → Kind → List (List ℕ) → Parsed
+parse_indexes verb v kind words =
+    if list_all (takes_word kind) words && is_distinct words then Ok (Some (command_of verb (record v { kind = kind; indexes = index_set words })))
+    else Err faults.Index
+
+abbrev pub parse_kind : verbs.Verb → Values → List (List ℕ) → Parsed
+parse_kind verb v [] = Err faults.Fields
+parse_kind verb v (word ∷ words) =
+    if bytes_eq word (codes "points") then parse_indexes verb v Points words
+    else (if bytes_eq word (codes "segments") then parse_indexes verb v Segments words else Err faults.Kind)
+
+-- ---- lines
+
+-- the name and the words after it, in the form of a verb: the first fault that holds
+abbrev pub parse_fields : verbs.Verb → Form → List ℕ → List (List ℕ) → Parsed
+parse_fields verb f name words =
+    if not (has_words f words) then Err faults.Fields
+    else (if not (is_name name) then Err faults.Name
+    else (if not (all_fields is_digits f.fields words) then Err faults.Number
+    else (if not (all_fields is_in_range f.fields words) then Err faults.Range
+    else (if not (is_ordered f.order (with_values f.fields words (named name)).places) then Err faults.Order
+    else (if f.has_indexes then parse_kind verb (with_values f.fields words (named name)) (drop (length f.fields) words)
+    else Ok (Some (command_of verb (with_values f.fields words (named name)))))))))
+
+abbrev pub parse_form : verbs.Verb → Form → List (List ℕ) → Parsed
+parse_form verb f [] = Err faults.Fields
+parse_form verb f (name ∷ words) = parse_fields verb f name words
+
+abbrev pub parse_verb : Option verbs.Verb → List (List ℕ) → Parsed
+parse_verb None words = Err faults.Command
+parse_verb (Some verb) words = parse_form verb (form verb) words
+
+-- a line with no word, or whose first word begins with `#`, says nothing, whatever other bytes it has
+abbrev pub parse_words : List ℕ → List (List ℕ) → Parsed
+parse_words line [] = Ok None
+parse_words line (word ∷ words) =
+    if starts_with (λ a b. a == b) word (35 ∷ []) then Ok None
+    else (if not (list_all is_printable line) then Err faults.Line
+    else parse_verb (verb_of word) words)
+
+abbrev pub parse_text : List ℕ → Parsed
+parse_text line = if nat_lt longest_line (length line) then Err faults.Line else parse_words line (words line)
+
+abbrev pub parse : List ℕ → Parsed
+parse line = parse_text (without_return line)

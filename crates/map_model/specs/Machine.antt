@@ -1,36 +1,83 @@
--- The machine that scans a map: one command, its reply and the map after it. The first refusal that holds is
+-- The machine that scans a map of layers: one command, its reply and the map after it. The first refusal that holds is
 -- the reply, and the map then stays as it is.
-use Rattle.std.specs.Prelude.{ℕ, List, [], ◌∷◌, Option, Some, None, if◌then◌else◌}
-use Rattle.map_model.specs.Shapes.{Rect}
-use Rattle.map_model.specs.State.{Item, Layer, State, is_live, count_in, layer_named, with_item_in}
-use Rattle.map_model.specs.Refusal.{Refusal, NoCommand, NoLayer, Duplicate}
-use Rattle.map_model.specs.Command.{Command, MakeLayer, Add, Count}
-use Rattle.map_model.specs.Reply.{Reply, Made, Updated, Counted, Refused}
+use Rattle.std.specs.Prelude.{ℕ, Bool, true, false, not, List, [], ◌∷◌, ◌++◌, length, nat_le, Option, Some, None, is_some, if◌then◌else◌}
+use Rattle.map_model.specs.Shape.{Kind, Points, Segments, Shape, kind_of}
+use Rattle.map_model.specs.Index.{IndexSet, has}
+use Rattle.map_model.specs.State.{Layer, State, most_layers, most_items, live_count, is_live, shape_of, layer_named, with_items, with_item, without_item}
+use Rattle.map_model.specs.Answer.{Question, answer_over, index_of, kind_asked, latest}
+use Rattle.map_model.specs.Command.{Command, MakeLayer, Add, Drop, Ask, Get, Size, Recent}
+use Rattle.map_model.specs.Refusal.{Refusal, Taken, NoRoom, NoLayer, Index, Duplicate, Unknown, Full}
+use Rattle.map_model.specs.Refusal as refusals
+use Rattle.map_model.specs.Reply.{Reply, Made, Updated, Answered, Got, Sized, Latest, Refused}
 
 -- what a command leaves and what it is answered
 pub record Outcome : Type 0 where
   pub state : State
   pub reply : Reply
 
+abbrev pub replied : State → Reply → Outcome
+replied state reply = record { state = state; reply = reply }
+
 abbrev pub refused : State → Refusal → Outcome
-refused state cause = record { state = state; reply = Refused cause }
+refused state cause = replied state (Refused cause)
 
--- Today a map takes one layer: a second one is no command.
-abbrev pub make_layer : State → List ℕ → Outcome
-make_layer [] name = record { state = record { name = name; items = [] } ∷ []; reply = Made }
-make_layer (layer ∷ layers) name = refused (layer ∷ layers) NoCommand
+abbrev pub is_same_kind : Kind → Kind → Bool
+is_same_kind Points Points = true
+is_same_kind Points Segments = false
+is_same_kind Segments Points = false
+is_same_kind Segments Segments = true
 
-abbrev pub add_to : State → List ℕ → Item → Option Layer → Outcome
-add_to state name item None = refused state NoLayer
-add_to state name item (Some layer) =
-    if is_live item.id layer.items then refused state (Duplicate item.id)
-    else record { state = with_item_in name item state; reply = Updated }
+abbrev pub is_taken : List ℕ → State → Bool
+is_taken name state = is_some (layer_named name state)
 
-abbrev pub count_of : State → Rect → Option Layer → Outcome
-count_of state rect None = refused state NoLayer
-count_of state rect (Some layer) = record { state = state; reply = Counted (count_in rect layer.items) }
+abbrev pub make_layer : State → List ℕ → Kind → IndexSet → Outcome
+make_layer state name kind indexes =
+    if is_taken name state then refused state Taken
+    else (if nat_le most_layers (length state) then refused state NoRoom
+    else replied (state ++ record { name = name; kind = kind; indexes = indexes; items = [] } ∷ []) Made)
+
+abbrev pub add_to : State → List ℕ → ℕ → Shape → Option Layer → Outcome
+add_to state name id shape None = refused state NoLayer
+add_to state name id shape (Some layer) =
+    if not (is_same_kind layer.kind (kind_of shape)) then refused state refusals.Kind
+    else (if is_live id layer.items then refused state (Duplicate id)
+    else (if nat_le most_items (live_count layer) then refused state Full
+    else replied (with_items name (with_item (record { id = id; shape = shape })) state) Updated))
+
+abbrev pub drop_from : State → List ℕ → ℕ → Option Layer → Outcome
+drop_from state name id None = refused state NoLayer
+drop_from state name id (Some layer) =
+    if is_live id layer.items then replied (with_items name (without_item id) state) Updated
+    else refused state (Unknown id)
+
+abbrev pub ask_of : State → Question → Option Layer → Outcome
+ask_of state question None = refused state NoLayer
+ask_of state question (Some layer) =
+    if not (is_same_kind layer.kind (kind_asked question)) then refused state refusals.Kind
+    else (if not (has layer.indexes (index_of question)) then refused state Index
+    else replied state (Answered (answer_over layer.items question)))
+
+abbrev pub got : State → ℕ → Option Shape → Outcome
+got state id None = refused state (Unknown id)
+got state id (Some shape) = replied state (Got shape)
+
+abbrev pub get_from : State → ℕ → Option Layer → Outcome
+get_from state id None = refused state NoLayer
+get_from state id (Some layer) = got state id (shape_of id layer.items)
+
+abbrev pub size_of : State → Option Layer → Outcome
+size_of state None = refused state NoLayer
+size_of state (Some layer) = replied state (Sized (live_count layer))
+
+abbrev pub recent_of : State → ℕ → Option Layer → Outcome
+recent_of state k None = refused state NoLayer
+recent_of state k (Some layer) = replied state (Latest (latest k layer.items))
 
 abbrev pub step : State → Command → Outcome
-step state (MakeLayer name) = make_layer state name
-step state (Add name id shape) = add_to state name (record { id = id; shape = shape }) (layer_named name state)
-step state (Count name rect) = count_of state rect (layer_named name state)
+step state (MakeLayer name kind indexes) = make_layer state name kind indexes
+step state (Add name id shape) = add_to state name id shape (layer_named name state)
+step state (Drop name id) = drop_from state name id (layer_named name state)
+step state (Ask name question) = ask_of state question (layer_named name state)
+step state (Get name id) = get_from state id (layer_named name state)
+step state (Size name) = size_of state (layer_named name state)
+step state (Recent name k) = recent_of state k (layer_named name state)

@@ -1,73 +1,143 @@
--- What may be written for lines, and the map that they lead to.
-use Rattle.std.specs.Prelude.{◌≡◌, ℕ, Bool, true, false, ◌&&◌, not, ◌⊎◌, List, [], ◌∷◌, ◌++◌, length, take, Option, Some, None, Result, Ok, Err, IsTrue, ◌<◌, slice_index_or}
-use Rattle.map_model.specs.State.{State}
-use Rattle.map_model.specs.Refusal.{Refusal, NoMemory}
-use Rattle.map_model.specs.Command.{Command, takes_memory}
-use Rattle.map_model.specs.Reply.{Reply, Refused, is_refusal, written_for}
+-- What may be written for lines over a map of layers, and the map that they lead to.
+use Rattle.std.specs.Prelude.{if◌then◌else◌, ◌≡◌, ℕ, ◌<◌, Bool, true, false, ◌&&◌, not, ◌⊎◌, IsTrue, List, [], ◌∷◌, ◌++◌, length, take, Option, Some, None, Ok, Err, slice_index_or}
+use Rattle.map_model.specs.State.{Layer, State, layer_named}
+use Rattle.map_model.specs.Refusal.{NoMemory, refusal_of_fault}
+use Rattle.map_model.specs.Command.{Command, MakeLayer, Add, Drop, Ask, Get, Size, Recent, name_of, takes_memory}
+use Rattle.map_model.specs.Cost.{Cost, Untold, Updating, Asking, IsSpent, IsAsked}
+use Rattle.map_model.specs.Reply.{Reply, Made, Updated, Answered, Got, Sized, Latest, Refused, is_refusal, reply_line}
 use Rattle.map_model.specs.Machine.{step}
-use Rattle.map_model.specs.Grammar.{parse}
+use Rattle.map_model.specs.Grammar.{Parsed, parse}
 
--- a line's reply, where it has one, and the map after it
-pub record Answer : Type 0 where
-  pub reply : Option Reply
+-- ---- costs
+
+abbrev pub adds : Command → Bool
+adds (MakeLayer name kind indexes) = false
+adds (Add name id shape) = true
+adds (Drop name id) = false
+adds (Ask name question) = false
+adds (Get name id) = false
+adds (Size name) = false
+adds (Recent name k) = false
+
+abbrev pub IsSpentIn : Option Layer → Bool → Cost → Type 0
+IsSpentIn (Some layer) adding (Updating spent) = IsSpent layer adding spent
+IsSpentIn _ adding _ = ⊥
+
+abbrev pub IsAskedIn : Option Layer → Cost → Type 0
+IsAskedIn (Some layer) (Asking asked) = IsAsked layer asked
+IsAskedIn _ _ = ⊥
+
+-- What a reply may say that it cost, the layer being the one before the command: an accepted update what it spent, an
+-- answer what it asked, and any other reply nothing.
+abbrev pub IsCost : Option Layer → Bool → Reply → Cost → Type 0
+IsCost layer adding Made cost = cost ≡ Untold
+IsCost layer adding Updated cost = IsSpentIn layer adding cost
+IsCost layer adding (Answered answer) cost = IsAskedIn layer cost
+IsCost layer adding (Got shape) cost = cost ≡ Untold
+IsCost layer adding (Sized n) cost = cost ≡ Untold
+IsCost layer adding (Latest ids) cost = cost ≡ Untold
+IsCost layer adding (Refused cause) cost = cost ≡ Untold
+
+-- ---- one line
+
+-- what a line is answered, and the map after it: nothing, or a reply with what it cost
+pub record Told : Type 0 where
+  pub reply : Reply
+  pub cost : Cost
+
+pub record Given : Type 0 where
+  pub told : Option Told
   pub state : State
 
-abbrev pub answer_to : State → Result (Option Command) Refusal → Answer
-answer_to state (Ok None) = record { reply = None; state = state }
-answer_to state (Ok (Some command)) = record { reply = Some (step state command).reply; state = (step state command).state }
-answer_to state (Err cause) = record { reply = Some (Refused cause); state = state }
+abbrev pub nothing : State → Given
+nothing state = record { told = None; state = state }
 
--- the machine's answer to a line, memory being found
-abbrev pub answer : State → List ℕ → Answer
-answer state line = answer_to state (parse line)
+abbrev pub refused : State → Reply → Given
+refused state reply = record { told = Some (record { reply = reply; cost = Untold }); state = state }
 
--- memory may refuse a command that takes some and that nothing else refuses
-abbrev pub may_lack_memory_at : State → Result (Option Command) Refusal → Bool
-may_lack_memory_at state (Ok None) = false
-may_lack_memory_at state (Ok (Some command)) = takes_memory command && not (is_refusal (step state command).reply)
-may_lack_memory_at state (Err cause) = false
+-- a command is answered by the machine, at some cost that is allowed
+pub record Executes (state : State) (command : Command) (given : Given) : Type 0 where
+  pub cost : Cost
+  pub is_cost : IsCost (layer_named (name_of command) state) (adds command) (step state command).reply cost
+  pub is_given : given ≡ record { told = Some (record { reply = (step state command).reply; cost = cost }); state = (step state command).state }
 
-abbrev pub may_lack_memory : State → List ℕ → Bool
-may_lack_memory state line = may_lack_memory_at state (parse line)
+-- memory may be lacking for a command that takes some and that nothing else refuses
+abbrev pub may_lack_memory : State → Command → Bool
+may_lack_memory state command = takes_memory command && not (is_refusal (step state command).reply)
 
-abbrev pub no_memory : State → Answer
-no_memory state = record { reply = Some (Refused NoMemory); state = state }
+abbrev pub AnswersTo : State → Parsed → Given → Type 0
+AnswersTo state (Ok None) given = given ≡ nothing state
+AnswersTo state (Err fault) given = given ≡ refused state (Refused (refusal_of_fault fault))
+AnswersTo state (Ok (Some command)) given =
+    Executes state command given ⊎ (IsTrue (may_lack_memory state command) × (given ≡ refused state (Refused NoMemory)))
 
--- what a line may be answered: the machine's answer, or `no memory` where memory may be lacking
-abbrev pub Answers : State → List ℕ → Answer → Type 0
-Answers state line given = (given ≡ answer state line) ⊎ (IsTrue (may_lack_memory state line) × (given ≡ no_memory state))
+-- what a line may be answered, and the map after it
+abbrev pub Answers : State → List ℕ → Given → Type 0
+Answers state line given = AnswersTo state (parse line) given
 
--- From a map, these lines may be answered by these bytes, and lead to that map.
-abbrev pub Output : State → List (List ℕ) → List ℕ → State → Type 0
-Output start [] written end = (written ≡ []) × (end ≡ start)
-Output start (line ∷ lines) written end =
-    (given : Answer) × Answers start line given × (rest : List ℕ) × (written ≡ written_for given.reply ++ rest) × Output given.state lines rest end
+abbrev pub written_for : Bool → Option Told → List ℕ
+written_for ledger None = []
+written_for ledger (Some told) = reply_line ledger told.reply told.cost
+
+-- one, where a line is refused
+abbrev pub refusal_count : Option Told → ℕ
+refusal_count None = 0
+refusal_count (Some told) = if is_refusal told.reply then 1 else 0
+
+-- ---- lines
+
+-- From a map, these lines may be answered by these bytes, with or without the ledger, and lead to that map.
+abbrev pub Output : Bool → State → List (List ℕ) → List ℕ → State → Type 0
+Output ledger start [] written end = (written ≡ []) × (end ≡ start)
+Output ledger start (line ∷ lines) written end =
+    (given : Given) × Answers start line given × (rest : List ℕ) × (written ≡ written_for ledger given.told ++ rest) × Output ledger given.state lines rest end
 
 -- Writing stopped inside the answer to a line: the lines before it are answered in full, it was executed, and a
--- proper prefix of its answer is written.
-pub record Interrupted (start : State) (lines : List (List ℕ)) (written : List ℕ) (end : State) : Type 0 where
+-- part of its answer, not all of it, is written.
+pub record Interrupted (ledger : Bool) (start : State) (lines : List (List ℕ)) (written : List ℕ) (end : State) : Type 0 where
   pub answered : ℕ
   pub has_next : answered < length lines
   pub full : List ℕ
   pub before : State
-  pub answers_before : Output start (take answered lines) full before
-  pub given : Answer
+  pub answers_before : Output ledger start (take answered lines) full before
+  pub given : Given
   pub answers_next : Answers before (slice_index_or lines answered []) given
   pub executed : end ≡ given.state
-  pub taken : ℕ
-  pub is_proper : taken < length (written_for given.reply)
-  pub is_written : written ≡ full ++ take taken (written_for given.reply)
+  pub part : ℕ
+  pub is_part : part < length (written_for ledger given.told)
+  pub is_written : written ≡ full ++ take part (written_for ledger given.told)
 
--- the machine's own run over lines, memory always being found: what it writes, and the map at the end
+-- ---- the machine's own run, memory always being found, without the ledger
+
+abbrev pub machine_reply : State → Parsed → Option Reply
+machine_reply state (Ok None) = None
+machine_reply state (Ok (Some command)) = Some (step state command).reply
+machine_reply state (Err fault) = Some (Refused (refusal_of_fault fault))
+
+abbrev pub machine_state : State → Parsed → State
+machine_state state (Ok None) = state
+machine_state state (Ok (Some command)) = (step state command).state
+machine_state state (Err fault) = state
+
+abbrev pub line_for : Option Reply → List ℕ
+line_for None = []
+line_for (Some reply) = reply_line false reply Untold
+
 abbrev pub machine_text : State → List (List ℕ) → List ℕ
 machine_text state [] = []
-machine_text state (line ∷ lines) = written_for (answer state line).reply ++ machine_text (answer state line).state lines
+machine_text state (line ∷ lines) = line_for (machine_reply state (parse line)) ++ machine_text (machine_state state (parse line)) lines
 
 abbrev pub machine_end : State → List (List ℕ) → State
 machine_end state [] = state
-machine_end state (line ∷ lines) = machine_end (answer state line).state lines
+machine_end state (line ∷ lines) = machine_end (machine_state state (parse line)) lines
+
+-- memory may be lacking at a line
+abbrev pub asks_memory : State → Parsed → Bool
+asks_memory state (Ok None) = false
+asks_memory state (Ok (Some command)) = may_lack_memory state command
+asks_memory state (Err fault) = false
 
 -- no line of the machine's run is one that memory may refuse
 abbrev pub never_lacks_memory : State → List (List ℕ) → Bool
 never_lacks_memory state [] = true
-never_lacks_memory state (line ∷ lines) = not (may_lack_memory state line) && never_lacks_memory (answer state line).state lines
+never_lacks_memory state (line ∷ lines) = not (asks_memory state (parse line)) && never_lacks_memory (machine_state state (parse line)) lines

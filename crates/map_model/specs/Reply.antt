@@ -1,35 +1,73 @@
 -- What a command is answered, and the line that says so.
-use Rattle.std.specs.Prelude.{ℕ, List, [], ◌∷◌, ◌++◌, Bool, true, false, Option, Some, None, codes, decimal, if◌then◌else◌}
+use Rattle.std.specs.Prelude.{ℕ, List, [], ◌∷◌, ◌++◌, Bool, true, false, Option, Some, None, codes, decimal, flat_map, if◌then◌else◌}
+use Rattle.map_model.specs.Shape.{Shape, Point, Segment}
+use Rattle.map_model.specs.Found.{Found, Peak}
+use Rattle.map_model.specs.Answer.{Answer, Counted, Summed, Listed, NearestOne, NearestOnes, ListedAbove, Highest, Stabbed, StabCounted}
 use Rattle.map_model.specs.Refusal.{Refusal, refusal_text}
+use Rattle.map_model.specs.Cost.{Cost, cost_text}
 
 pub data Reply : Type 0 where
   Made : Reply
   Updated : Reply
-  Counted : (n : ℕ) → Reply
+  Answered : (answer : Answer) → Reply
+  Got : (shape : Shape) → Reply
+  Sized : (n : ℕ) → Reply
+  Latest : (ids : List ℕ) → Reply
   Refused : (cause : Refusal) → Reply
 
 abbrev pub is_refusal : Reply → Bool
 is_refusal Made = false
 is_refusal Updated = false
-is_refusal (Counted n) = false
+is_refusal (Answered answer) = false
+is_refusal (Got shape) = false
+is_refusal (Sized n) = false
+is_refusal (Latest ids) = false
 is_refusal (Refused cause) = true
+
+-- a space and a number
+abbrev pub spaced : ℕ → List ℕ
+spaced n = 32 ∷ decimal n
+
+-- the numbers, each after a space, or ` none` where there is none
+abbrev pub numbers_or_none : List ℕ → List ℕ
+numbers_or_none [] = codes " none"
+numbers_or_none (n ∷ ns) = flat_map spaced (n ∷ ns)
+
+abbrev pub found_numbers : Found → List ℕ
+found_numbers found = found.id ∷ found.dist ∷ []
+
+abbrev pub found_or_none : Option Found → List ℕ
+found_or_none None = codes " none"
+found_or_none (Some found) = flat_map spaced (found_numbers found)
+
+abbrev pub peak_or_none : Option Peak → List ℕ
+peak_or_none None = codes " none"
+peak_or_none (Some peak) = spaced peak.id ++ spaced peak.y
+
+abbrev pub shape_numbers : Shape → List ℕ
+shape_numbers (Point x y w) = x ∷ y ∷ w ∷ []
+shape_numbers (Segment lo hi y) = lo ∷ hi ∷ y ∷ []
+
+abbrev pub answer_text : Answer → List ℕ
+answer_text (Counted n) = codes "count" ++ spaced n
+answer_text (Summed n) = codes "sum" ++ spaced n
+answer_text (Listed ids) = codes "list" ++ numbers_or_none ids
+answer_text (NearestOne found) = codes "near" ++ found_or_none found
+answer_text (NearestOnes found) = codes "nearest" ++ numbers_or_none (flat_map found_numbers found)
+answer_text (ListedAbove ids) = codes "above" ++ numbers_or_none ids
+answer_text (Highest peak) = codes "top" ++ peak_or_none peak
+answer_text (Stabbed ids) = codes "stab" ++ numbers_or_none ids
+answer_text (StabCounted n) = codes "stabcount" ++ spaced n
 
 abbrev pub reply_text : Reply → List ℕ
 reply_text Made = codes "ok"
 reply_text Updated = codes "ok"
-reply_text (Counted n) = codes "count " ++ decimal n
+reply_text (Answered answer) = answer_text answer
+reply_text (Got shape) = codes "get" ++ flat_map spaced (shape_numbers shape)
+reply_text (Sized n) = codes "size" ++ spaced n
+reply_text (Latest ids) = codes "recent" ++ numbers_or_none ids
 reply_text (Refused cause) = refusal_text cause
 
--- one, where a reply is a refusal
-abbrev pub refusal_count : Option Reply → ℕ
-refusal_count None = 0
-refusal_count (Some reply) = if is_refusal reply then 1 else 0
-
--- the text, and a line feed
-abbrev pub reply_line : Reply → List ℕ
-reply_line reply = reply_text reply ++ 10 ∷ []
-
--- a line that is nothing has no reply, and nothing is written for it
-abbrev pub written_for : Option Reply → List ℕ
-written_for None = []
-written_for (Some reply) = reply_line reply
+-- the text, with the ledger what it cost, and a line feed
+abbrev pub reply_line : Bool → Reply → Cost → List ℕ
+reply_line ledger reply cost = reply_text reply ++ (if ledger then cost_text cost else []) ++ 10 ∷ []

@@ -1,16 +1,19 @@
--- What a map holds: layers in order of creation, and of each its items in order of add.
-use Rattle.std.specs.Prelude.{◌==◌, ◌≢◌, ℕ, All, Bool, List, [], ◌∷◌, ◌++◌, Option, Some, None, bytes_eq, count_by, map, if◌then◌else◌}
+-- What a map of layers holds.
+use Rattle.std.specs.Prelude.{◌==◌, ◌≢◌, ℕ, All, Bool, not, List, [], ◌∷◌, ◌++◌, length, Option, Some, None, bytes_eq, map, filter, if◌then◌else◌}
 use Rattle.std.specs.List.{list_any, AllPairs}
-use Rattle.map_model.specs.Shapes.{Shape, Rect, is_inside}
+use Rattle.map_model.specs.Shape.{Kind, Shape}
+use Rattle.map_model.specs.Index.{IndexSet}
 
 -- a live identifier with its shape
 pub record Item : Type 0 where
   pub id : ℕ
   pub shape : Shape
 
--- a name, and the live items in order of add
+-- a name, a kind, the indexes, and the live items in order of add
 pub record Layer : Type 0 where
   pub name : List ℕ
+  pub kind : Kind
+  pub indexes : IndexSet
   pub items : List Item
 
 -- the layers in order of creation
@@ -25,22 +28,38 @@ pub record HasDistinctKeys (state : State) : Type 0 where
   pub names : AllPairs (λ a b. a.name ≢ b.name) state
   pub ids : All (λ layer. AllPairs (λ a b. a.id ≢ b.id) layer.items) state
 
+abbrev pub most_layers : ℕ
+most_layers = 8
+
+abbrev pub most_items : ℕ
+most_items = 65536
+
+abbrev pub live_count : Layer → ℕ
+live_count layer = length layer.items
+
 abbrev pub is_live : ℕ → List Item → Bool
 is_live id items = list_any (λ item. item.id == id) items
 
--- the answer to `count`: how many items lie in the rectangle
-abbrev pub count_in : Rect → List Item → ℕ
-count_in rect items = count_by (λ item. is_inside rect item.shape) items
+-- the shape of an identifier
+abbrev pub shape_of : ℕ → List Item → Option Shape
+shape_of id [] = None
+shape_of id (item ∷ items) = if item.id == id then Some item.shape else shape_of id items
 
 -- the layer of a name
 abbrev pub layer_named : List ℕ → State → Option Layer
 layer_named name [] = None
 layer_named name (layer ∷ layers) = if bytes_eq layer.name name then Some layer else layer_named name layers
 
--- the layer with an item at its end
-abbrev pub with_item : Item → Layer → Layer
-with_item item layer = record layer { items = layer.items ++ item ∷ [] }
+-- the layer with a change of its items
+abbrev pub changed : (List Item → List Item) → Layer → Layer
+changed change layer = record layer { items = change layer.items }
 
--- the map with an item at the end of the layer of a name
-abbrev pub with_item_in : List ℕ → Item → State → State
-with_item_in name item layers = map (λ layer. if bytes_eq layer.name name then with_item item layer else layer) layers
+-- the map with a change of the items of the layer of a name
+abbrev pub with_items : List ℕ → (List Item → List Item) → State → State
+with_items name change layers = map (λ layer. if bytes_eq layer.name name then changed change layer else layer) layers
+
+abbrev pub with_item : Item → List Item → List Item
+with_item item items = items ++ item ∷ []
+
+abbrev pub without_item : ℕ → List Item → List Item
+without_item id items = filter (λ item. not (item.id == id)) items

@@ -1,2 +1,4 @@
-pub mod Numbers
+pub mod OutputsWithin
 pub mod Lines
+pub mod Built
+pub mod Steps

@@ -1,18 +1,23 @@
 -- Answering a text line by line.
-use Rattle.std.proofs.Common.{◌≡◌, ◌==◌, ℕ, suc, ◌+◌, ◌-◌, ◌<◌, ◌≤◌, true, not, nat_eq, List, [], ◌∷◌, ◌++◌, length, take, drop, get_or, Option, arith, refl, sym, ap, ◌∙◌, subst, append_assoc, append-nil, add_assoc, add-zero, length-append, length-take-le, take-append-drop}
-use Rattle.std.proofs.lemmas.List.{drop_more, take_rest, get_or-take}
+use Rattle.std.proofs.Common.{◌≡◌, ◌==◌, ℕ, suc, ◌+◌, ◌-◌, ◌<◌, ◌≤◌, true, not, nat_eq, Bool, List, [], ◌∷◌, ◌++◌, length, take, drop, get_or, map, arith, refl, sym, ap, ◌∙◌, subst, append_assoc, append-nil, add-zero, length-append, length-take-le, take-append-drop, take_at, le_of_lt, if◌then◌else◌}
+use Rattle.std.specs.Prelude.{count_by}
+use Rattle.std.proofs.lemmas.List.{drop_more, take_rest, get_or-take, map-append, take-map, get_or-map, length-map, get_or_at, take-append-le, get_or_append_left}
+use Rattle.std.proofs.lemmas.List.Sums.{sum_by-append, sum_by-cons}
 use Rattle.std.proofs.lemmas.Bool.{eqb-true, and_from, not_from_false, false_from_ne_true}
 use Rattle.std.specs.Io.KnownBytes.{Appends}
 use Rattle.std.proofs.KnownBytes.{Appends-nil, Appends-trans}
 use Rattle.map_io.specs.ProperPrefix.{AppendsProperPrefix}
-use Rattle.map_model.specs.Reply.{written_for, refusal_count}
 use Rattle.map_model.specs.State.{State}
-use Rattle.map_model.specs.Text.{lines, whole_lines, one_line, refusals}
-use Rattle.map_model.specs.Output.{Answer, Output, Interrupted}
+use Rattle.map_model.specs.Text.{lines, whole_lines, one_line}
+use Rattle.map_model.specs.Grammar.{parse}
+use Rattle.map_model.specs.Output.{Given, Answers, Output, Interrupted, written_for}
 use Rattle.map_model.proofs.TextLemmas.{lines-line, whole_lines-line, lines-rest, whole_lines-rest, lines_begin_whole}
-use Rattle.map_model.proofs.OutputLemmas.{Output-push, refusals-push, Interrupted-from, Interrupted-append}
-use Rattle.map_session.specs.Session.{SessionState, Executes}
-use Rattle.map_session.specs.Answering.{Progress, IsAnswered, IsStopped}
+use Rattle.map_model.proofs.Outputs.{refusals-push}
+use Rattle.map_session.specs.Built.{as_built}
+use Rattle.map_session.specs.Work.{no_work, both, work_said}
+use Rattle.map_session.specs.Session.{map_in, ExecutesLine}
+use Rattle.map_session.specs.Answering.{OutputWithin, Moment, is_update_line, IsAnswered, IsStopped, Progress}
+use Rattle.map_session.proofs.OutputsWithin.{within_is_output, OutputWithin-push}
 
 -- ---- the first line of a text
 
@@ -33,102 +38,165 @@ split_at_feed text end fits h =
     sym (take-append-drop end text)
     ∙ ap (λ (rest : List ℕ). take end text ++ rest) (drop_more text end 0 fits ∙ (λ i. eqb-true (get_or text end 0) 10 h i ∷ sym (take_rest text (end + 1)) i))
 
--- ---- progress
+-- ---- lines answered
 
-pub no_progress : (start : SessionState) (written : Option (List ℕ)) (text : List ℕ) → Progress start written text text start written
-no_progress start written text = record {
-  answered = [];
+no_lines : (start : Moment) → IsAnswered start [] start
+no_lines start = record {
   bytes = [];
-  all = refl;
-  whole = refl;
-  output = (refl, refl);
-  appended = Appends-nil written;
-  refused = sym (add-zero start.refused);
-  counted = omega arith;
+  work = no_work;
+  output = (refl, refl, refl);
+  appended = Appends-nil start.written;
+  turns = omega arith;
+  marks = omega arith;
+  ledger = refl;
+  lines = sym (add-zero start.session.lines);
+  refused = sym (add-zero start.session.refused);
+  updates = sym (add-zero start.session.layers.updates);
 }
 
--- what an executed line adds to an output
-one_more : (start now now' : SessionState) (script : List (List ℕ)) (line bytes : List ℕ) (given : Answer) → Output start.map script bytes now.map → Executes now now' line given → Output start.map (script ++ line ∷ []) (bytes ++ written_for given.reply) now'.map
-one_more start now now' script line bytes given p e =
-    subst (λ (s : State). Output start.map (script ++ line ∷ []) (bytes ++ written_for given.reply) s) (sym e.map) (Output-push start.map now.map script line bytes given p e.answers)
+-- one line more
+pub one_more : (start now new : Moment) (script : List (List ℕ)) (line : List ℕ) (given : Given) → IsAnswered start script now → ExecutesLine now.session now.counts line given new.session new.counts
+    → Appends now.written new.written (written_for now.session.ledger given.told) → IsAnswered start (script ++ line ∷ []) new
+one_more start now new script line given p e a =
+    let ledger = start.session.ledger in
+    let told = written_for ledger given.told in
+    let built = map as_built script in
+    let pushed : OutputWithin ledger (map_in start.session) (built ++ as_built line ∷ []) (p.bytes ++ told) given.state (both p.work (work_said (map_in now.session) (parse (as_built line)))) =
+    OutputWithin-push ledger (map_in start.session) (map_in now.session) built (as_built line) p.bytes p.work given p.output e.answers in
+    let updates : count_by is_update_line (script ++ line ∷ []) ≡ count_by is_update_line script + count_by is_update_line (line ∷ []) = sum_by-append _ script (line ∷ []) in
+    record {
+      bytes = p.bytes ++ told;
+      work = both p.work (work_said (map_in now.session) (parse (as_built line)));
+      output = subst (λ (ls : List (List ℕ)). OutputWithin ledger (map_in start.session) ls (p.bytes ++ told) (map_in new.session) (both p.work (work_said (map_in now.session) (parse (as_built line)))))
+          (sym (map-append as_built script (line ∷ [])))
+          (subst (λ (s : State). OutputWithin ledger (map_in start.session) (built ++ as_built line ∷ []) (p.bytes ++ told) s (both p.work (work_said (map_in now.session) (parse (as_built line))))) (sym e.map) pushed);
+      appended = Appends-trans start.written now.written new.written p.bytes told p.appended (subst (λ (b : Bool). Appends now.written new.written (written_for b given.told)) p.ledger a);
+      turns = omega (arith, p.turns, e.counted.few_turns);
+      marks = omega (arith, p.marks, e.counted.few_marks);
+      ledger = e.ledger ∙ p.ledger;
+      lines = omega (arith, p.lines, e.lines, length-append script (line ∷ []));
+      refused = omega (
+        arith,
+        p.refused,
+        e.refused,
+        refusals-push ledger (map_in start.session) (map_in now.session) built p.bytes given.told
+            (within_is_output ledger (map_in start.session) (map_in now.session) built p.bytes p.work p.output),
+      );
+      updates = omega (arith, p.updates, e.updates, updates, sum_by-cons (λ (l : List ℕ). if is_update_line l then 1 else 0) line []);
+    }
 
-more_refused : (start now now' : SessionState) (script : List (List ℕ)) (line bytes : List ℕ) (given : Answer) → Output start.map script bytes now.map → now.refused ≡ start.refused + refusals bytes → Executes now now' line given → now'.refused ≡ start.refused + refusals (bytes ++ written_for given.reply)
-more_refused start now now' script line bytes given p r e =
-    e.refused ∙ ap (λ n. n + refusal_count given.reply) r ∙ add_assoc start.refused (refusals bytes) (refusal_count given.reply)
-    ∙ ap (λ n. start.refused + n) (sym (refusals-push start.map now.map script bytes given.reply p))
+-- ---- progress
 
-pub more_progress : (start now now' : SessionState) (written w w' : Option (List ℕ)) (text rest line after : List ℕ) (given : Answer) → Progress start written text rest now w → rest ≡ line ++ 10 ∷ after → one_line line ≡ true → Executes now now' line given → Appends w w' (written_for given.reply) → Progress start written text after now' w'
-more_progress start now now' written w w' text rest line after given p split ended e a = record {
+pub no_progress : (start : Moment) (text : List ℕ) → Progress start text text start
+no_progress start text = record { answered = []; all = refl; whole = refl; answers = no_lines start; fewer = omega arith }
+
+pub more_progress : (start now new : Moment) (text rest line after : List ℕ) (given : Given) → Progress start text rest now → rest ≡ line ++ 10 ∷ after → one_line line ≡ true
+    → ExecutesLine now.session now.counts line given new.session new.counts → Appends now.written new.written (written_for now.session.ledger given.told) → Progress start text after new
+more_progress start now new text rest line after given p split ended e a = record {
   answered = p.answered ++ line ∷ [];
-  bytes = p.bytes ++ written_for given.reply;
   all = p.all ∙ ap (λ (ls : List (List ℕ)). p.answered ++ ls) (ap lines split ∙ lines-line line after ended) ∙ sym (append_assoc p.answered (line ∷ []) (lines after));
   whole = p.whole ∙ ap (λ (ls : List (List ℕ)). p.answered ++ ls) (ap whole_lines split ∙ whole_lines-line line after ended) ∙ sym (append_assoc p.answered (line ∷ []) (whole_lines after));
-  output = one_more start now now' p.answered line p.bytes given p.output e;
-  appended = Appends-trans written w w' p.bytes (written_for given.reply) p.appended a;
-  refused = more_refused start now now' p.answered line p.bytes given p.output p.refused e;
-  counted = omega (arith, p.counted, e.lines, ap length split, length-append line (10 ∷ after));
+  answers = one_more start now new p.answered line given p.answers e a;
+  fewer = omega (arith, p.fewer, ap length split, length-append line (10 ∷ after), length-append p.answered (line ∷ []));
 }
 
 -- ---- the end
 
-pub whole_answered : (start now : SessionState) (written w : Option (List ℕ)) (text rest : List ℕ) → Progress start written text rest now w → one_line rest ≡ true → IsAnswered start written (whole_lines text) now w
-whole_answered start now written w text rest p unended = record {
-  bytes = p.bytes;
-  output = subst (λ (ls : List (List ℕ)). Output start.map ls p.bytes now.map) (sym (p.whole ∙ ap (λ (ls : List (List ℕ)). p.answered ++ ls) (whole_lines-rest rest unended) ∙ append-nil p.answered)) p.output;
-  appended = p.appended;
-  refused = p.refused;
-}
+pub whole_answered : (start now : Moment) (text rest : List ℕ) → Progress start text rest now → one_line rest ≡ true → IsAnswered start (whole_lines text) now
+whole_answered start now text rest p unended =
+    subst (λ (ls : List (List ℕ)). IsAnswered start ls now)
+    (sym (p.whole ∙ ap (λ (ls : List (List ℕ)). p.answered ++ ls) (whole_lines-rest rest unended) ∙ append-nil p.answered)) p.answers
 
-pub all_answered : (start now : SessionState) (written w : Option (List ℕ)) (text rest : List ℕ) → Progress start written text rest now w → rest ≡ [] → IsAnswered start written (lines text) now w
-all_answered start now written w text rest p none = record {
-  bytes = p.bytes;
-  output = subst (λ (ls : List (List ℕ)). Output start.map ls p.bytes now.map) (sym (p.all ∙ ap (λ (r : List ℕ). p.answered ++ lines r) none ∙ append-nil p.answered)) p.output;
-  appended = p.appended;
-  refused = p.refused;
-}
+pub all_answered : (start now : Moment) (text rest : List ℕ) → Progress start text rest now → rest ≡ [] → IsAnswered start (lines text) now
+all_answered start now text rest p none =
+    subst (λ (ls : List (List ℕ)). IsAnswered start ls now) (sym (p.all ∙ ap (λ (r : List ℕ). p.answered ++ lines r) none ∙ append-nil p.answered)) p.answers
 
 -- a text with no line feed that isn't empty is one line
 pub one_last : (rest : List ℕ) → one_line rest ≡ true → 0 < length rest → lines rest ≡ rest ∷ []
 one_last [] unended some = absurd (omega arith)
 one_last (byte ∷ rest) unended some = lines-rest byte rest unended
 
-pub last_answered : (start now now' : SessionState) (written w w' : Option (List ℕ)) (text rest : List ℕ) (given : Answer) → Progress start written text rest now w → one_line rest ≡ true → 0 < length rest → Executes now now' rest given → Appends w w' (written_for given.reply) → IsAnswered start written (lines text) now' w'
-last_answered start now now' written w w' text rest given p unended some e a = record {
-  bytes = p.bytes ++ written_for given.reply;
-  output = subst (λ (ls : List (List ℕ)). Output start.map ls (p.bytes ++ written_for given.reply) now'.map) (sym (p.all ∙ ap (λ (ls : List (List ℕ)). p.answered ++ ls) (one_last rest unended some))) (one_more start now now' p.answered rest p.bytes given p.output e);
-  appended = Appends-trans written w w' p.bytes (written_for given.reply) p.appended a;
-  refused = more_refused start now now' p.answered rest p.bytes given p.output p.refused e;
-}
+pub last_answered : (start now new : Moment) (text rest : List ℕ) (given : Given) → Progress start text rest now → one_line rest ≡ true → 0 < length rest
+    → ExecutesLine now.session now.counts rest given new.session new.counts → Appends now.written new.written (written_for now.session.ledger given.told) → IsAnswered start (lines text) new
+last_answered start now new text rest given p unended some e a =
+    subst (λ (ls : List (List ℕ)). IsAnswered start ls new) (sym (p.all ∙ ap (λ (ls : List (List ℕ)). p.answered ++ ls) (one_last rest unended some)))
+    (one_more start now new p.answered rest given p.answers e a)
 
 -- ---- a fault
 
-stopped : (start now now' : SessionState) (written w w' : Option (List ℕ)) (answered more script : List (List ℕ)) (line bytes : List ℕ) (given : Answer) → script ≡ answered ++ line ∷ more → Output start.map answered bytes now.map → Appends written w bytes → Executes now now' line given → AppendsProperPrefix w w' (written_for given.reply) → IsStopped start written script now' w'
-stopped start now now' written w w' answered more script line bytes given split p appended e prefix = record {
-  bytes = bytes ++ take prefix.0 (written_for given.reply);
-  interrupted = subst (λ (s : State). Interrupted start.map script (bytes ++ take prefix.0 (written_for given.reply)) s) (sym e.map) (Interrupted-from start.map now.map answered more script line bytes given prefix.0 split p e.answers prefix.1);
-  appended = Appends-trans written w w' bytes (take prefix.0 (written_for given.reply)) appended prefix.2;
+stopped : (start now new : Moment) (answered more script : List (List ℕ)) (line : List ℕ) (given : Given) → script ≡ answered ++ line ∷ more → IsAnswered start answered now
+    → ExecutesLine now.session now.counts line given new.session new.counts → AppendsProperPrefix now.written new.written (written_for now.session.ledger given.told) → IsStopped start script new
+stopped start now new answered more script line given split p e prefix = record {
+  answered = length answered;
+  has_next = subst (λ (ls : List (List ℕ)). length answered < length ls) (sym split) (omega (arith, length-append answered (line ∷ more)));
+  before = now;
+  answers_before = subst (λ (ls : List (List ℕ)). IsAnswered start ls now) (sym (ap (take (length answered)) split ∙ take_at answered (line ∷ more) (length answered) refl)) p;
+  given = given;
+  executed = subst (λ (l : List ℕ). ExecutesLine now.session now.counts l given new.session new.counts)
+      (sym (ap (λ (ls : List (List ℕ)). get_or ls (length answered) []) split ∙ get_or_at answered line more [] (length answered) refl)) e;
+  prefix = prefix;
 }
 
 -- writing stopped in a line that a line feed ends
-pub stopped_whole : (start now now' : SessionState) (written w w' : Option (List ℕ)) (text rest line after : List ℕ) (given : Answer) → Progress start written text rest now w → rest ≡ line ++ 10 ∷ after → one_line line ≡ true → Executes now now' line given → AppendsProperPrefix w w' (written_for given.reply) → IsStopped start written (whole_lines text) now' w'
-stopped_whole start now now' written w w' text rest line after given p split ended e prefix =
-    stopped start now now' written w w' p.answered (whole_lines after) (whole_lines text) line p.bytes given
-    (p.whole ∙ ap (λ (ls : List (List ℕ)). p.answered ++ ls) (ap whole_lines split ∙ whole_lines-line line after ended)) p.output p.appended e prefix
+pub stopped_whole : (start now new : Moment) (text rest line after : List ℕ) (given : Given) → Progress start text rest now → rest ≡ line ++ 10 ∷ after → one_line line ≡ true
+    → ExecutesLine now.session now.counts line given new.session new.counts → AppendsProperPrefix now.written new.written (written_for now.session.ledger given.told) → IsStopped start (whole_lines text) new
+stopped_whole start now new text rest line after given p split ended e prefix =
+    stopped start now new p.answered (whole_lines after) (whole_lines text) line given
+    (p.whole ∙ ap (λ (ls : List (List ℕ)). p.answered ++ ls) (ap whole_lines split ∙ whole_lines-line line after ended)) p.answers e prefix
 
 -- writing stopped in the last line, which no line feed ends
-pub stopped_last : (start now now' : SessionState) (written w w' : Option (List ℕ)) (text rest : List ℕ) (given : Answer) → Progress start written text rest now w → one_line rest ≡ true → 0 < length rest → Executes now now' rest given → AppendsProperPrefix w w' (written_for given.reply) → IsStopped start written (lines text) now' w'
-stopped_last start now now' written w w' text rest given p unended some e prefix =
-    stopped start now now' written w w' p.answered [] (lines text) rest p.bytes given
-    (p.all ∙ ap (λ (ls : List (List ℕ)). p.answered ++ ls) (one_last rest unended some)) p.output p.appended e prefix
+pub stopped_last : (start now new : Moment) (text rest : List ℕ) (given : Given) → Progress start text rest now → one_line rest ≡ true → 0 < length rest
+    → ExecutesLine now.session now.counts rest given new.session new.counts → AppendsProperPrefix now.written new.written (written_for now.session.ledger given.told) → IsStopped start (lines text) new
+stopped_last start now new text rest given p unended some e prefix =
+    stopped start now new p.answered [] (lines text) rest given
+    (p.all ∙ ap (λ (ls : List (List ℕ)). p.answered ++ ls) (one_last rest unended some)) p.answers e prefix
+
+-- more lines behind those that writing stopped in
+pub IsStopped-append : (start now : Moment) (script more : List (List ℕ)) → IsStopped start script now → IsStopped start (script ++ more) now
+IsStopped-append start now script more s = record {
+  answered = s.answered;
+  has_next = omega (arith, s.has_next, length-append script more);
+  before = s.before;
+  answers_before = subst (λ (ls : List (List ℕ)). IsAnswered start ls s.before) (sym (take-append-le s.answered script more (le_of_lt s.has_next))) s.answers_before;
+  given = s.given;
+  executed = subst (λ (l : List ℕ). ExecutesLine s.before.session s.before.counts l s.given now.session now.counts) (sym (get_or_append_left script more [] s.answered s.has_next)) s.executed;
+  prefix = s.prefix;
+}
 
 -- more text after the whole lines that writing stopped in
-pub stopped_in_more : (start now : SessionState) (written w : Option (List ℕ)) (text more : List ℕ) → IsStopped start written (whole_lines text) now w → IsStopped start written (lines (text ++ more)) now w
-stopped_in_more start now written w text more s =
-    let r = lines_begin_whole text more in record {
-      bytes = s.bytes;
-      interrupted = subst (λ (ls : List (List ℕ)). Interrupted start.map ls s.bytes now.map) (sym r.1) (Interrupted-append start.map now.map (whole_lines text) r.0 s.bytes s.interrupted);
-      appended = s.appended;
-    }
+pub stopped_in_more : (start now : Moment) (text more : List ℕ) → IsStopped start (whole_lines text) now → IsStopped start (lines (text ++ more)) now
+stopped_in_more start now text more s =
+    let r = lines_begin_whole text more in
+    subst (λ (ls : List (List ℕ)). IsStopped start ls now) (sym r.1) (IsStopped-append start now (whole_lines text) r.0 s)
 
-pub stopped_in_text : (start now : SessionState) (written w : Option (List ℕ)) (text : List ℕ) → IsStopped start written (whole_lines text) now w → IsStopped start written (lines text) now w
-stopped_in_text start now written w text s = subst (λ (t : List ℕ). IsStopped start written (lines t) now w) (append-nil text) (stopped_in_more start now written w text [] s)
+pub stopped_in_text : (start now : Moment) (text : List ℕ) → IsStopped start (whole_lines text) now → IsStopped start (lines text) now
+stopped_in_text start now text s = subst (λ (t : List ℕ). IsStopped start (lines t) now) (append-nil text) (stopped_in_more start now text [] s)
+
+-- ---- in the words of the definitions
+
+-- what was written by a session that was stopped
+pub stopped_is_interrupted : (start now : Moment) (script : List (List ℕ)) → IsStopped start script now
+    → (bytes : List ℕ) × Appends start.written now.written bytes × Interrupted start.session.ledger (map_in start.session) (map as_built script) bytes (map_in now.session)
+stopped_is_interrupted start now script s =
+    let p = s.answers_before in
+    let built = map as_built script in
+    let line = get_or script s.answered [] in
+    let told = written_for start.session.ledger s.given.told in
+    let prefix : AppendsProperPrefix s.before.written now.written told = subst (λ (b : Bool). AppendsProperPrefix s.before.written now.written (written_for b s.given.told)) p.ledger s.prefix in (
+      p.bytes ++ take prefix.0 told,
+      Appends-trans start.written s.before.written now.written p.bytes (take prefix.0 told) p.appended prefix.2,
+      record {
+        answered = s.answered;
+        has_next = omega (arith, s.has_next, length-map script as_built);
+        full = p.bytes;
+        before = map_in s.before.session;
+        answers_before = subst (λ (ls : List (List ℕ)). Output start.session.ledger (map_in start.session) ls p.bytes (map_in s.before.session)) (sym (take-map as_built s.answered script))
+            (within_is_output start.session.ledger (map_in start.session) (map_in s.before.session) (map as_built (take s.answered script)) p.bytes p.work p.output);
+        given = s.given;
+        answers_next = subst (λ (l : List ℕ). Answers (map_in s.before.session) l s.given) (sym (get_or-map as_built script s.answered [] [] s.has_next)) s.executed.answers;
+        executed = s.executed.map;
+        part = prefix.0;
+        is_part = prefix.1;
+        is_written = refl;
+      },
+    )

@@ -1,39 +1,63 @@
 -- Lines of a text that a session answered.
-use Rattle.std.specs.Prelude.{◌≡◌, ℕ, ◌+◌, ◌≤◌, ◌++◌, List, length, Option}
+use Rattle.std.specs.Prelude.{◌≡◌, ℕ, ◌+◌, ◌<◌, ◌≤◌, ◌++◌, Bool, List, [], ◌∷◌, length, take, map, Option, count_by, slice_index_or}
 use Rattle.std.specs.Io.KnownBytes.{Appends}
+use Rattle.query_laws.specs.StepLedger.{Counts}
+use Rattle.map_io.specs.ProperPrefix.{AppendsProperPrefix}
 use Rattle.map_model.specs.Text.{lines, whole_lines, refusals}
-use Rattle.map_model.specs.State.{State, empty_map}
-use Rattle.map_model.specs.Output.{Output, Interrupted}
-use Rattle.map_session.specs.Session.{SessionState}
+use Rattle.map_model.specs.State.{State}
+use Rattle.map_model.specs.Grammar.{parse}
+use Rattle.map_model.specs.Output.{Given, Answers, written_for}
+use Rattle.map_session.specs.Built.{as_built}
+use Rattle.map_session.specs.Work.{Work, no_work, both, work_said, is_update_said}
+use Rattle.map_session.specs.Session.{SessionState, map_in, ExecutesLine}
+
+-- From a map, these lines may be answered by these bytes and lead to that map, and their updates may take so much together.
+abbrev pub OutputWithin : Bool → State → List (List ℕ) → List ℕ → State → Work → Type 0
+OutputWithin ledger start [] written end work = (written ≡ []) × (end ≡ start) × (work ≡ no_work)
+OutputWithin ledger start (line ∷ lines) written end work =
+    (given : Given) × Answers start line given × (rest : List ℕ) × (later : Work) × (written ≡ written_for ledger given.told ++ rest)
+    × (work ≡ both (work_said start (parse line)) later) × OutputWithin ledger given.state lines rest end later
+
+-- a session, what was written, where that is told, and what was counted
+pub record Moment : Type 0 where
+  pub session : SessionState
+  pub written : Option (List ℕ)
+  pub counts : Counts
+
+abbrev pub moment : SessionState → Option (List ℕ) → Counts → Moment
+moment session written counts = record { session = session; written = written; counts = counts }
+
+abbrev pub is_update_line : List ℕ → Bool
+is_update_line line = is_update_said (parse (as_built line))
+
+-- From one moment to another these lines were answered in full, each as it is built.
+pub record IsAnswered (start : Moment) (script : List (List ℕ)) (now : Moment) : Type 0 where
+  pub bytes : List ℕ
+  pub work : Work
+  pub output : OutputWithin start.session.ledger (map_in start.session) (map as_built script) bytes (map_in now.session) work
+  pub appended : Appends start.written now.written bytes
+  pub turns : now.counts.turns ≤ start.counts.turns + work.turns
+  pub marks : now.counts.marks ≤ start.counts.marks + work.marks
+  pub ledger : now.session.ledger ≡ start.session.ledger
+  pub lines : now.session.lines ≡ start.session.lines + length script
+  pub refused : now.session.refused ≡ start.session.refused + refusals bytes
+  pub updates : now.session.layers.updates ≡ start.session.layers.updates + count_by is_update_line script
+
+-- Writing stopped inside the answer to one of these lines: those before it were answered, it was executed, and a proper prefix of its
+-- answer is written.
+pub record IsStopped (start : Moment) (script : List (List ℕ)) (now : Moment) : Type 0 where
+  pub answered : ℕ
+  pub has_next : answered < length script
+  pub before : Moment
+  pub answers_before : IsAnswered start (take answered script) before
+  pub given : Given
+  pub executed : ExecutesLine before.session before.counts (slice_index_or script answered []) given now.session now.counts
+  pub prefix : AppendsProperPrefix before.written now.written (written_for before.session.ledger given.told)
 
 -- Lines at the front of a text were answered, and the rest of the text is left.
-pub record Progress (start : SessionState) (written : Option (List ℕ)) (text rest : List ℕ) (now : SessionState) (written' : Option (List ℕ)) : Type 0 where
+pub record Progress (start : Moment) (text rest : List ℕ) (now : Moment) : Type 0 where
   pub answered : List (List ℕ)
-  pub bytes : List ℕ
   pub all : lines text ≡ answered ++ lines rest
   pub whole : whole_lines text ≡ answered ++ whole_lines rest
-  pub output : Output start.map answered bytes now.map
-  pub appended : Appends written written' bytes
-  pub refused : now.refused ≡ start.refused + refusals bytes
-  pub counted : now.lines + length rest ≤ start.lines + length text
-
--- These lines were answered in full.
-pub record IsAnswered (start : SessionState) (written : Option (List ℕ)) (script : List (List ℕ)) (now : SessionState) (written' : Option (List ℕ)) : Type 0 where
-  pub bytes : List ℕ
-  pub output : Output start.map script bytes now.map
-  pub appended : Appends written written' bytes
-  pub refused : now.refused ≡ start.refused + refusals bytes
-
--- Writing stopped inside the answer to one of these lines.
-pub record IsStopped (start : SessionState) (written : Option (List ℕ)) (script : List (List ℕ)) (now : SessionState) (written' : Option (List ℕ)) : Type 0 where
-  pub bytes : List ℕ
-  pub interrupted : Interrupted start.map script bytes now.map
-  pub appended : Appends written written' bytes
-
--- these bytes may be written for these lines, from the empty map on
-abbrev pub IsOutput : List (List ℕ) → List ℕ → Type 0
-IsOutput script written = (end : State) × Output empty_map script written end
-
--- writing stopped inside the answer to one of these lines, from the empty map on
-abbrev pub IsInterrupted : List (List ℕ) → List ℕ → Type 0
-IsInterrupted script written = (end : State) × Interrupted empty_map script written end
+  pub answers : IsAnswered start answered now
+  pub fewer : length answered + length rest ≤ length text

@@ -1,4 +1,5 @@
-pub mod Script
+pub mod Built
+pub mod Work
 pub mod Replies
 pub mod Session
 pub mod Answering

@@ -1,19 +1,14 @@
--- What a reply is in the words of the definitions.
-use Rattle.map_model.specs.Refusal as refusals
-use Rattle.map_model.specs.Reply as replies
-use Rattle.map_session.specs.declared.reply.Refusal.{Refusal}
-use Rattle.map_session.specs.declared.reply.Refusal.TheVariants as causes
-use Rattle.map_session.specs.declared.reply.Reply.{Reply}
-use Rattle.map_session.specs.declared.reply.Reply.TheVariants.{Made, Updated, Count, Refused}
+-- What the results of the layers' calls cost, as it is told.
+use Rattle.std.specs.Prelude.{Result, Ok, Err}
+use Rattle.map_model.specs.Cost.{Cost, Untold, Updating, Asking}
+use Rattle.map_shapes.specs.declared.asked.Asked.{Asked}
+use Rattle.map_shapes.specs.declared.spent.Spent.{Spent}
+use Rattle.map_shapes.specs.Cost.{spent_of, asked_of}
 
-abbrev pub refusal_of : Refusal → refusals.Refusal
-refusal_of causes.Command = refusals.NoCommand
-refusal_of causes.NoLayer = refusals.NoLayer
-refusal_of (causes.Duplicate id) = refusals.Duplicate id
-refusal_of causes.NoMemory = refusals.NoMemory
+abbrev pub update_cost : {F : Type 0} → Result Spent F → Cost
+update_cost (Ok spent) = Updating (spent_of spent)
+update_cost (Err fault) = Untold
 
-abbrev pub reply_of : Reply → replies.Reply
-reply_of Made = replies.Made
-reply_of Updated = replies.Updated
-reply_of (Count n) = replies.Counted n
-reply_of (Refused cause) = replies.Refused (refusal_of cause)
+abbrev pub question_cost : {T F : Type 0} → Result (T × Asked) F → Cost
+question_cost (Ok given) = Asking (asked_of given.1)
+question_cost (Err fault) = Untold

@@ -1,42 +1,59 @@
--- What a session is, and what a line does to it.
-use Rattle.std.specs.Prelude.{◌≡◌, ℕ, ◌+◌, ◌&&◌, not, ◌⊎◌, List, Option, Some, None, IsTrue, if◌then◌else◌}
-use Rattle.map_model.specs.State.{State, empty_map}
-use Rattle.map_model.specs.Refusal.{NoMemory}
-use Rattle.map_model.specs.Command.{Command, takes_memory}
-use Rattle.map_model.specs.Reply as replies
-use Rattle.map_model.specs.Machine.{step}
-use Rattle.map_model.specs.Output.{Answer, Answers}
+-- What a session is, and what a command and a line do to it.
+use Rattle.std.specs.Prelude.{◌≡◌, ℕ, ◌+◌, Bool, List, Option, Some, None, if◌then◌else◌, option_map}
+use Rattle.query_laws.specs.StepLedger.{Counts}
+use Rattle.map_model.specs.State.{State}
+use Rattle.map_model.specs.Index.{one_if}
+use Rattle.map_model.specs.Cost.{Cost, Untold}
+use Rattle.map_model.specs.Reply.{is_refusal}
+use Rattle.map_model.specs.Grammar.{Parsed, parse}
+use Rattle.map_model.specs.Output.{Told, Given, AnswersTo, refusal_count}
+use Rattle.answer_text.specs.declared.reply.Reply.{Reply}
+use Rattle.answer_text.specs.Reply.{reply_of, cost_of}
+use Rattle.map_layers.specs.Layers.{LayersState, no_layers, map_of}
 use Rattle.map_session.specs.declared.session.Done.{Done}
 use Rattle.map_session.specs.declared.session.Done.TheVariants.{Silent, Answered, Refused}
-use Rattle.map_session.specs.declared.reply.Reply.{Reply}
-use Rattle.map_session.specs.Replies.{reply_of}
+use Rattle.map_session.specs.Built.{as_built}
+use Rattle.map_session.specs.Work.{work_said, is_update_said, IsCounted}
 
--- the map that a session has made, and how many lines it took and refused
+-- the layers, whether replies tell what they cost, and how many commands and lines there were, and were refused
 pub record SessionState : Type 0 where
-  pub map : State
+  pub layers : LayersState
+  pub ledger : Bool
   pub lines : ℕ
   pub refused : ℕ
 
-abbrev pub new_session : SessionState
-new_session = record { map = empty_map; lines = 0; refused = 0 }
+abbrev pub new_session : Bool → SessionState
+new_session ledger = record { layers = no_layers; ledger = ledger; lines = 0; refused = 0 }
 
--- A command's reply and the map after it are the machine's, or memory was lacking.
-abbrev pub MayGive : State → Command → State → replies.Reply → Type 0
-MayGive old command new reply =
-    (step old command ≡ record { state = new; reply = reply })
-    ⊎ (IsTrue (takes_memory command && not (replies.is_refusal (step old command).reply)) × (new ≡ old) × (reply ≡ replies.Refused NoMemory))
+-- the map as the definitions have it
+abbrev pub map_in : SessionState → State
+map_in s = map_of s.layers
 
-abbrev pub answered : Option Reply → Option replies.Reply
-answered None = None
-answered (Some reply) = Some (reply_of reply)
+-- a reply with what it cost, as the definitions have them
+abbrev pub told_by : Reply → Told
+told_by reply = record { reply = reply_of reply; cost = cost_of reply }
 
--- A line was executed, with this answer.
-pub record Executes (old new : SessionState) (line : List ℕ) (given : Answer) : Type 0 where
-  pub answers : Answers old.map line given
-  pub map : new.map ≡ given.state
+abbrev pub given_by : Option Reply → State → Given
+given_by reply state = record { told = option_map told_by reply; state = state }
+
+abbrev pub cost_told : Option Told → Cost
+cost_told None = Untold
+cost_told (Some told) = told.cost
+
+-- What was said is executed, with this answer, and so much is counted for it.
+pub record Executes (old : SessionState) (before : Counts) (said : Parsed) (given : Given) (new : SessionState) (after : Counts) : Type 0 where
+  pub answers : AnswersTo (map_in old) said given
+  pub map : map_in new ≡ given.state
+  pub counted : IsCounted (work_said (map_in old) said) (cost_told given.told) before after
+  pub ledger : new.ledger ≡ old.ledger
   pub lines : new.lines ≡ old.lines + 1
-  pub refused : new.refused ≡ old.refused + replies.refusal_count given.reply
+  pub refused : new.refused ≡ old.refused + refusal_count given.told
+  pub updates : new.layers.updates ≡ old.layers.updates + one_if (is_update_said said)
 
-abbrev pub done_of : Option replies.Reply → Done
+-- the same of what a line says
+abbrev pub ExecutesLine : SessionState → Counts → List ℕ → Given → SessionState → Counts → Type 0
+ExecutesLine old before line given new after = Executes old before (parse (as_built line)) given new after
+
+abbrev pub done_of : Option Told → Done
 done_of None = Silent
-done_of (Some reply) = if replies.is_refusal reply then Refused else Answered
+done_of (Some told) = if is_refusal told.reply then Refused else Answered

@@ -2,66 +2,71 @@
 ghost use Rattle.std.specs.Prelude.{◌≡◌, ◌+◌, ◌<◌, ◌≤◌, ◌^◌, ◌++◌, ◌∷◌, true, length, MatchOption, MatchResult, OnOk, OnErr, IfOk};
 ghost use Rattle.map_io.specs.Faults.{Rose};
 ghost use Rattle.map_model.specs.Text.{lines, whole_lines, one_line};
-ghost use Rattle.map_session.specs.Answering.{Progress, IsAnswered, IsStopped};
+ghost use Rattle.map_session.specs.Answering.{moment, Progress, IsAnswered, IsStopped};
 
 use crate::Session;
 use map_io::{Sink, WriteFault};
 use memchr::memchr;
+use query_laws::step_ledger::Steps;
+use std::sync::ledger::Ledger;
 
 /// Answers every line of a text, a last one without a line feed too.
-pub fn answer_lines<K: Sink>(
+pub fn answer_lines<K: Sink, L: Ledger>(
     session: &mut Session,
     text: &[u8],
     sink: &mut K,
+    steps: &mut Steps<L>,
 ) -> Result<(), WriteFault>
     requires { session.old.lines + length text.now < 2 ^ 40 }
-    ensures answered { OnOk result (IsAnswered session.old (K.written sink.old) (lines text.now) session.new (K.written sink.new)) }
-    ensures stopped { OnErr result (IsStopped session.old (K.written sink.old) (lines text.now) session.new (K.written sink.new)) }
+    ensures answered { OnOk result (IsAnswered (moment session.old (K.written sink.old) steps.old) (lines text.now) (moment session.new (K.written sink.new) steps.new)) }
+    ensures stopped { OnErr result (IsStopped (moment session.old (K.written sink.old) steps.old) (lines text.now) (moment session.new (K.written sink.new) steps.new)) }
     ensures kept { K.faults sink.old ≤ K.faults sink.new }
     ensures failed { OnErr result (Rose (K.faults sink.old) (K.faults sink.new)) }
     ensures succeeded { OnOk result (K.faults sink.new ≡ K.faults sink.old) }
 {
-    let rest = answer_ended_lines(session, text, sink)?;
+    let rest = answer_ended_lines(session, text, sink, steps)?;
     if !rest.is_empty() {
-        session.line(rest, sink)?;
+        session.line(rest, sink, steps)?;
     }
     Ok(())
 }
 
 /// Answers the lines of a text that a line feed ended.
-pub fn answer_whole_lines<K: Sink>(
+pub fn answer_whole_lines<K: Sink, L: Ledger>(
     session: &mut Session,
     text: &[u8],
     sink: &mut K,
+    steps: &mut Steps<L>,
 ) -> Result<(), WriteFault>
     requires { session.old.lines + length text.now < 2 ^ 40 }
-    ensures answered { OnOk result (IsAnswered session.old (K.written sink.old) (whole_lines text.now) session.new (K.written sink.new)) }
-    ensures stopped { OnErr result (IsStopped session.old (K.written sink.old) (whole_lines text.now) session.new (K.written sink.new)) }
+    ensures answered { OnOk result (IsAnswered (moment session.old (K.written sink.old) steps.old) (whole_lines text.now) (moment session.new (K.written sink.new) steps.new)) }
+    ensures stopped { OnErr result (IsStopped (moment session.old (K.written sink.old) steps.old) (whole_lines text.now) (moment session.new (K.written sink.new) steps.new)) }
     ensures kept { K.faults sink.old ≤ K.faults sink.new }
     ensures failed { OnErr result (Rose (K.faults sink.old) (K.faults sink.new)) }
     ensures succeeded { OnOk result (K.faults sink.new ≡ K.faults sink.old) }
 {
-    answer_ended_lines(session, text, sink)?;
+    answer_ended_lines(session, text, sink, steps)?;
     Ok(())
 }
 
 /// Answers the lines of a text that a line feed ended, and gives what comes after the last of them.
-fn answer_ended_lines<'a, K: Sink>(
+fn answer_ended_lines<'a, K: Sink, L: Ledger>(
     session: &mut Session,
     text: &'a [u8],
     sink: &mut K,
+    steps: &mut Steps<L>,
 ) -> Result<&'a [u8], WriteFault>
     requires { session.old.lines + length text.now < 2 ^ 40 }
-    ensures progress { IfOk result (λ rest. Progress session.old (K.written sink.old) text.now rest.now session.new (K.written sink.new)) }
+    ensures progress { IfOk result (λ rest. Progress (moment session.old (K.written sink.old) steps.old) text.now rest.now (moment session.new (K.written sink.new) steps.new)) }
     ensures unended { IfOk result (λ rest. one_line rest.now ≡ true) }
-    ensures stopped { OnErr result (IsStopped session.old (K.written sink.old) (whole_lines text.now) session.new (K.written sink.new)) }
+    ensures stopped { OnErr result (IsStopped (moment session.old (K.written sink.old) steps.old) (whole_lines text.now) (moment session.new (K.written sink.new) steps.new)) }
     ensures kept { K.faults sink.old ≤ K.faults sink.new }
     ensures failed { OnErr result (Rose (K.faults sink.old) (K.faults sink.new)) }
     ensures succeeded { OnOk result (K.faults sink.new ≡ K.faults sink.old) }
 {
     let mut rest = text;
     while let Some((line, after)) = split_line(rest) {
-        session.line(line, sink)?;
+        session.line(line, sink, steps)?;
         rest = after;
     }
     Ok(rest)

@@ -1,11 +1,14 @@
-//! A session: one line of a script after another, on a map of its own.
-use crate::execute::execute;
-use crate::reply::{Refusal, Reply};
-use crate::script::{NoCommand, parse};
-use map_io::{Sink, WriteFault, write_all};
-use scanned_map::ScannedMap;
+//! A session: one command or line of a script after another, on layers of its own.
+use crate::executing::execute;
+use crate::replying::faulty;
+use answer_text::{Reply, write_reply};
+use map_io::{Sink, WriteFault};
+use map_layers::Layers;
+use query_laws::step_ledger::Steps;
+use script_lang::{Command, parse};
 use std::alloc::Global;
 use std::marker::Model;
+use std::sync::ledger::Ledger;
 
 /// What became of a line whose answer was written.
 #[derive(Clone, Copy, Debug, PartialEq, Eq)]
@@ -18,10 +21,13 @@ pub enum Done {
     Refused,
 }
 
-/// A map, and how many lines made it.
+/// The layers of a map, and how many commands and lines made them.
+///
+/// It holds no other copy of the shapes.
 #[derive(Drop)]
 pub struct Session {
-    map: ScannedMap,
+    layers: Layers,
+    ledger: bool,
     lines: u64,
     refused: u64,
 }
@@ -32,44 +38,78 @@ impl Model for Session {
 
     ghost Value = { SessionState };
 
-    ghost view = { λ s. record { map = s.map; lines = s.lines; refused = s.refused } };
+    ghost view = { λ s. record { layers = s.layers; ledger = s.ledger; lines = s.lines; refused = s.refused } };
 
-    ghost invariant = { λ s. s.refused ≤ s.lines };
+    ghost invariant = { λ s. (s.refused ≤ s.lines) × (s.layers.updates ≤ s.lines) };
 }
 
 impl Session {
-    ghost use Rattle.std.specs.Prelude.{◌≡◌, ◌↔◌, ◌+◌, ◌<◌, ◌≤◌, ◌^◌, IfOk, OnOk, OnErr, Ok, None};
+    ghost use Rattle.std.specs.Prelude.{◌≡◌, ◌↔◌, ◌+◌, ◌<◌, ◌≤◌, ◌^◌, IfOk, OnOk, OnErr, Ok, None, Some};
     ghost use Rattle.std.specs.Io.KnownBytes.{Appends};
     ghost use Rattle.map_io.specs.Faults.{Rose};
     ghost use Rattle.map_io.specs.ProperPrefix.{AppendsProperPrefix};
+    ghost use Rattle.map_model.specs.Index.{one_if};
+    ghost use Rattle.map_model.specs.Line.{IsCommand};
     ghost use Rattle.map_model.specs.Grammar.{parse};
-    ghost use Rattle.map_model.specs.Reply.{written_for};
-    ghost use Rattle.map_model.specs.Output.{Answer};
-    ghost use Rattle.map_session.specs.Session.{new_session, answered, Executes, done_of};
+    ghost use Rattle.map_model.specs.Reply.{is_refusal};
+    ghost use Rattle.map_model.specs.Output.{Given, AnswersTo, written_for, refusal_count};
+    ghost use Rattle.script_lang.specs.Command.{command_of};
+    ghost use Rattle.answer_text.specs.Reply.{reply_of, cost_of};
+    ghost use Rattle.map_session.specs.Built.{built, as_built};
+    ghost use Rattle.map_session.specs.Work.{work_said, is_update_said, IsCounted};
+    ghost use Rattle.map_session.specs.Session.{new_session, map_in, given_by, Executes, ExecutesLine, done_of};
 
-    /// A session with an empty map. It takes no memory.
-    pub fn new(alloc: Global) -> Session
-        ensures { result ≡ new_session }
+    /// A session without layers, whose written replies tell what they cost, or don't. It takes no memory; updates take theirs
+    /// from `alloc`.
+    pub fn new(alloc: Global, ledger: bool) -> Session
+        ensures { result ≡ new_session ledger }
     {
         Session {
-            map: ScannedMap::new(alloc),
+            layers: Layers::new(alloc),
+            ledger,
             lines: 0,
             refused: 0,
         }
     }
 
-    /// The lines so far.
+    /// The commands and lines so far.
     pub fn lines(&self) -> u64
         ensures { result ≡ self.now.lines }
     {
         self.lines
     }
 
-    /// The refused lines so far.
+    /// Those of them that were refused.
     pub fn refused(&self) -> u64
         ensures { result ≡ self.now.refused }
     {
         self.refused
+    }
+
+    /// The layers.
+    pub fn layers(&self) -> &Layers
+        ensures { result.now ≡ self.now.layers }
+    {
+        &self.layers
+    }
+
+    /// Executes a command that a line can say. One that isn't built yet is refused as no command, and changes nothing.
+    ///
+    /// An update costs at most the bounds of its layer, whether memory is refused or not; a question takes no turn and no mark.
+    pub fn command<L: Ledger>(&mut self, command: &Command, steps: &mut Steps<L>) -> Reply
+        requires few { self.old.lines < 2 ^ 40 }
+        requires lawful { IsCommand (command_of command.now) }
+        ensures answered { AnswersTo (map_in self.old) (built (Ok (Some (command_of command.now)))) (given_by (Some result) (map_in self.new)) }
+        ensures counted { IsCounted (work_said (map_in self.old) (built (Ok (Some (command_of command.now))))) (cost_of result) steps.old steps.new }
+        ensures updates { self.new.layers.updates ≡ self.old.layers.updates + one_if (is_update_said (built (Ok (Some (command_of command.now))))) }
+        ensures lines { self.new.lines ≡ self.old.lines + 1 }
+        ensures refused { self.new.refused ≡ self.old.refused + one_if (is_refusal (reply_of result)) }
+        ensures ledger { self.new.ledger ≡ self.old.ledger }
+    {
+        let reply = execute(&mut self.layers, command, steps);
+        self.lines += 1;
+        self.refused += u64::from(reply.refused());
+        reply
     }
 
     /// Executes a line that comes without its line feed, and writes its answer.
@@ -77,15 +117,18 @@ impl Session {
     /// `WriteFault` comes only where the sink failed in this call. The line was executed then, and counts, and the session
     /// can be used again. Of a sink that tells its bytes, a proper prefix of the answer was written; one that doesn't, as
     /// `StdSink`, may have written all of it before its flush failed.
-    ///
-    /// Looks at every point of the layer that the line names.
-    pub fn line<K: Sink>(&mut self, line: &[u8], sink: &mut K) -> Result<Done, WriteFault>
+    pub fn line<K: Sink, L: Ledger>(
+        &mut self,
+        line: &[u8],
+        sink: &mut K,
+        steps: &mut Steps<L>,
+    ) -> Result<Done, WriteFault>
         requires { self.old.lines < 2 ^ 40 }
 
-        ensures done { IfOk result (λ done. (given : Answer) × Executes self.old self.new line.now given
-            × (done ≡ done_of given.reply) × Appends (K.written sink.old) (K.written sink.new) (written_for given.reply)) }
-        ensures fault { OnErr result ((given : Answer) × Executes self.old self.new line.now given
-            × AppendsProperPrefix (K.written sink.old) (K.written sink.new) (written_for given.reply)) }
+        ensures done { IfOk result (λ done. (given : Given) × ExecutesLine self.old steps.old line.now given self.new steps.new
+            × (done ≡ done_of given.told) × Appends (K.written sink.old) (K.written sink.new) (written_for self.old.ledger given.told)) }
+        ensures fault { OnErr result ((given : Given) × ExecutesLine self.old steps.old line.now given self.new steps.new
+            × AppendsProperPrefix (K.written sink.old) (K.written sink.new) (written_for self.old.ledger given.told)) }
 
         ensures counted { self.new.lines ≡ self.old.lines + 1 }
 
@@ -96,11 +139,11 @@ impl Session {
         ensures failed { OnErr result (Rose (K.faults sink.old) (K.faults sink.new)) }
         ensures succeeded { OnOk result (K.faults sink.new ≡ K.faults sink.old) }
     {
-        let Some(reply) = self.answer(line) else {
+        let Some(reply) = self.answer(line, steps) else {
             return Ok(Done::Silent);
         };
-        write_all(sink, reply.line().as_slice())?;
-        if reply.is_refusal() {
+        write_reply(&reply, self.ledger, sink)?;
+        if reply.refused() {
             Ok(Done::Refused)
         } else {
             Ok(Done::Answered)
@@ -108,21 +151,22 @@ impl Session {
     }
 
     /// Executes a line, and gives its reply: `None` where the line says nothing.
-    fn answer(&mut self, line: &[u8]) -> Option<Reply>
+    fn answer<L: Ledger>(&mut self, line: &[u8], steps: &mut Steps<L>) -> Option<Reply>
         requires { self.old.lines < 2 ^ 40 }
-        ensures { Executes self.old self.new line.now (record { reply = answered result; state = self.new.map }) }
+        ensures executed { ExecutesLine self.old steps.old line.now (given_by result (map_in self.new)) self.new steps.new }
+        ensures silent { (result ≡ None) ↔ (parse line.now ≡ Ok None) }
     {
-        let reply = match parse(line) {
-            Ok(None) => None,
-            Ok(Some(command)) => Some(execute(&mut self.map, command)),
-            Err(NoCommand) => Some(Reply::Refused {
-                cause: Refusal::Command,
-            }),
-        };
-        self.lines += 1;
-        if let Some(Reply::Refused { .. }) = reply {
-            self.refused += 1;
+        match parse(line) {
+            Ok(Some(command)) => Some(self.command(&command, steps)),
+            Ok(None) => {
+                self.lines += 1;
+                None
+            }
+            Err(fault) => {
+                self.lines += 1;
+                self.refused += 1;
+                Some(faulty(fault))
+            }
         }
-        reply
     }
 }

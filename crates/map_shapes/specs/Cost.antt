@@ -1,5 +1,5 @@
 -- What a command cost as the definitions have it.
-use Rattle.map_model.specs.Script.Cost as model
+use Rattle.map_model.specs.Cost as model
 use Rattle.map_shapes.specs.declared.spent.Spent.{Spent}
 use Rattle.map_shapes.specs.declared.asked.Asked.{Asked}
 

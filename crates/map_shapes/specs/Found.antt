@@ -1,5 +1,5 @@
 -- Found points as the definitions have them.
-use Rattle.map_model.specs.Script.Found as model
+use Rattle.map_model.specs.Found as model
 use Rattle.map_shapes.specs.declared.found.Found.{Found}
 use Rattle.map_shapes.specs.declared.peak.Peak.{Peak}
 

@@ -1,5 +1,5 @@
 -- A set of indexes as the definitions have it.
-use Rattle.map_model.specs.Script.Index as model
+use Rattle.map_model.specs.Index as model
 use Rattle.map_shapes.specs.declared.index_set.IndexSet.{IndexSet}
 
 abbrev pub index_set_of : IndexSet → model.IndexSet

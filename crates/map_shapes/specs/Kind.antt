@@ -1,5 +1,5 @@
 -- A kind as the definitions have it.
-use Rattle.map_model.specs.Script.Shape as model
+use Rattle.map_model.specs.Shape as model
 use Rattle.map_shapes.specs.declared.kind.Kind.{Kind}
 use Rattle.map_shapes.specs.declared.kind.Kind.TheVariants.{Points, Segments}
 

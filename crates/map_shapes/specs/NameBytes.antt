@@ -1,7 +1,7 @@
 -- A name in its fixed array.
 use Rattle.std.specs.Prelude.{◌≡◌, ℕ, ◌-◌, ◌≤◌, List, ◌++◌, length, take, drop, replicate, true}
 use Rattle.std.proofs.Common.{arith, ap, sym, ◌∙◌, length-take-le, take-append-drop}
-use Rattle.map_model.specs.Grammar.{is_name}
+use Rattle.map_model.specs.Words.{is_name}
 
 -- A name's bytes stand at the front of the array, and zeros behind them.
 pub record IsNameIn (bytes : List ℕ) (len : ℕ) : Type 0 where

@@ -1,5 +1,5 @@
 -- A point as the definitions have it.
-use Rattle.map_model.specs.Shapes as model
+use Rattle.map_model.specs.Shape as model
 use Rattle.map_model.specs.State.{Item}
 use Rattle.map_shapes.specs.declared.point.Point.{Point}
 

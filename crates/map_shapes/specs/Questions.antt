@@ -1,6 +1,6 @@
 -- What the questions about points ask.
 use Rattle.std.specs.Prelude.{ℕ, ◌-◌, ◌^◌, Bool, List, min, map, filter, count_by}
-use Rattle.map_model.specs.Shapes.{is_inside}
+use Rattle.map_model.specs.Shape.{is_inside}
 use Rattle.query_laws.specs.Sums.{capped_sum}
 use Rattle.map_shapes.specs.declared.point.Point.{Point}
 use Rattle.map_shapes.specs.declared.rect.Rect.{Rect}

@@ -1,5 +1,5 @@
 -- A rectangle as the definitions have it.
-use Rattle.map_model.specs.Shapes as model
+use Rattle.map_model.specs.Shape as model
 use Rattle.map_shapes.specs.declared.rect.Rect.{Rect}
 
 abbrev pub rect_of : Rect → model.Rect

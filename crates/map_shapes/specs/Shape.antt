@@ -1,5 +1,5 @@
 -- A shape as the definitions have it.
-use Rattle.map_model.specs.Script.Shape as model
+use Rattle.map_model.specs.Shape as model
 use Rattle.map_shapes.specs.declared.shape.Shape.{Shape}
 use Rattle.map_shapes.specs.declared.shape.Shape.TheVariants.{Point, Segment}
 

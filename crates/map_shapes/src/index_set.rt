@@ -1,6 +1,6 @@
 // The indexes of a layer.
 ghost use Rattle.std.specs.Prelude.{◌≡◌};
-ghost use Rattle.map_model.specs.Script.Index.{fits, no_indexes};
+ghost use Rattle.map_model.specs.Index.{fits, no_indexes};
 ghost use Rattle.map_shapes.specs.Kind.{kind_of};
 ghost use Rattle.map_shapes.specs.IndexSet.{index_set_of};
 

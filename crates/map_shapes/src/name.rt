@@ -1,7 +1,7 @@
 // The name of a layer.
 ghost use Rattle.std.specs.Prelude.{◌≡◌, ◌≤◌, IsTrue, length};
 ghost use Rattle.std.specs.List.{list_all};
-ghost use Rattle.map_model.specs.Grammar.{is_name, is_name_byte};
+ghost use Rattle.map_model.specs.Words.{is_name, is_name_byte};
 
 use std::marker::Model;
 
@@ -51,7 +51,7 @@ impl Eq for Name {
 
 impl Name {
     ghost use Rattle.std.specs.Prelude.{◌≡◌};
-    ghost use Rattle.map_model.specs.Grammar.{name_field};
+    ghost use Rattle.map_model.specs.Words.{name_field};
 
     /// The longest name, in bytes.
     pub const LONGEST: usize = 16;

@@ -19,7 +19,7 @@ pub struct Point {
 
 impl Point {
     ghost use Rattle.std.specs.Prelude.{◌≡◌};
-    ghost use Rattle.map_model.specs.Shapes.{is_inside};
+    ghost use Rattle.map_model.specs.Shape.{is_inside};
     ghost use Rattle.map_shapes.specs.Point.{shape_of};
     ghost use Rattle.map_shapes.specs.Rect.{rect_of};
 

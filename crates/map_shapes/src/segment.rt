@@ -17,7 +17,7 @@ pub struct Segment {
 
 impl Segment {
     ghost use Rattle.std.specs.Prelude.{◌≡◌};
-    ghost use Rattle.map_model.specs.Script.Shape.{is_stabbed};
+    ghost use Rattle.map_model.specs.Shape.{is_stabbed};
     ghost use Rattle.map_shapes.specs.Segment.{shape_of_segment};
 
     /// Whether it lies over `x`, its ends included.

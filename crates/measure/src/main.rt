@@ -74,7 +74,7 @@ fn run<R: Print + Clock + Files + AllocGlobal + Clone + Drop, L: Ledger>(
             size,
             is_timed,
         } => measure_text(&watch(rt, is_timed), seed, size.number),
-        Job::Script { path, is_timed } => measure_script(&watch(rt, is_timed), path),
+        Job::Script { path, is_timed } => measure_script(&watch(rt, is_timed), path, &mut steps),
         Job::Check {
             seed,
             size,
@@ -97,7 +97,7 @@ fn check<R: Print + Clock + Files + AllocGlobal + Clone + Drop, L: Ledger>(
     check_indexes(rt, seed, steps)?;
     measure_text(&watch(rt, false), seed, size.number)?;
     match examples {
-        Some(folder) => check_examples(rt, folder),
+        Some(folder) => check_examples(rt, folder, steps),
         None => Ok(()),
     }
 }

@@ -8,7 +8,7 @@ use Rattle.std.specs.Result.{OkIff, result_ok}
 use Rattle.std.proofs.lemmas.Bool.{and_parts, and_from, leb-true, le-leb, false_from_ne_true}
 use Rattle.std.proofs.lemmas.Str.Parse.{IsNumeralModel, numerals_by_value, tells_all_ascii_digits}
 use Rattle.std.proofs.lemmas.Fmt.{IsAscii-from_digits}
-use Rattle.map_model.specs.Grammar.{is_filled, is_number, number_field}
+use Rattle.map_model.specs.Words.{is_filled, is_number, number_field}
 
 pub digits_tests_agree : (word : List ℕ) → list_all is_ascii_digit word ≡ all_ascii_digits word
 digits_tests_agree [] = refl

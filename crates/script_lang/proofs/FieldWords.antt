@@ -2,7 +2,7 @@
 use Rattle.std.proofs.Common.{◌≡◌, ℕ, ◌+◌, ◌<◌, false, cond, not, List, [], ◌∷◌, length, drop, get_or, None, arith, refl, sym, ap, ◌∙◌, subst}
 use Rattle.std.specs.List.{prefix_len}
 use Rattle.std.proofs.lemmas.List.{drop_more}
-use Rattle.map_model.specs.Grammar.{is_blank, is_word_byte}
+use Rattle.map_model.specs.Words.{is_blank, is_word_byte}
 use Rattle.script_lang.specs.declared.form.Field.{Field}
 use Rattle.script_lang.specs.declared.form.Field.TheVariants.{Id}
 use Rattle.script_lang.specs.declared.numbers.Numbers.{Numbers}

@@ -6,10 +6,10 @@ use Rattle.std.proofs.lemmas.Bool.{cases_Bool, le-ltb, lt-ltb}
 use Rattle.std.proofs.lemmas.Bool.Decides.{nat_tests}
 use Rattle.std.proofs.lemmas.Bool.Decides.{same_from_decides}
 use Rattle.std.proofs.lemmas.Slice.Eq.{bytes_eq-Decides}
-use Rattle.map_model.specs.Script.Index as model
-use Rattle.map_model.specs.Script.Index.{Index, Range, Near, Top, Stab}
-use Rattle.map_model.specs.Script.Shape as shapes
-use Rattle.map_model.specs.Script.Grammar.{takes_word, is_distinct, index_set}
+use Rattle.map_model.specs.Index as model
+use Rattle.map_model.specs.Index.{Index, Range, Near, Top, Stab}
+use Rattle.map_model.specs.Shape as shapes
+use Rattle.map_model.specs.Grammar.{takes_word, is_distinct, index_set}
 use Rattle.map_shapes.specs.declared.kind.Kind.{Kind}
 use Rattle.map_shapes.specs.declared.kind.Kind.TheVariants.{Points, Segments}
 use Rattle.map_shapes.specs.declared.index_set.IndexSet.{IndexSet}

@@ -1,8 +1,8 @@
 -- Words with a space between each two, one more at a time.
 use Rattle.std.proofs.Common.{◌≡◌, ℕ, ◌+◌, ◌<◌, Bool, true, false, cond, List, [], ◌∷◌, ◌++◌, codes, decimal, length, map, take, get_or, refl, sym, ap, ◌∙◌, append_assoc, append-nil}
 use Rattle.std.proofs.lemmas.List.{take_more, map-append}
-use Rattle.map_model.specs.Script.Index.{IndexSet}
-use Rattle.map_model.specs.Script.Line.{spaced_words, word_if, index_words}
+use Rattle.map_model.specs.Index.{IndexSet}
+use Rattle.map_model.specs.Line.{spaced_words, word_if, index_words}
 
 pub spaced_more : (word : List ℕ) (words : List (List ℕ)) (next : List ℕ) → spaced_words (word ∷ (words ++ next ∷ [])) ≡ spaced_words (word ∷ words) ++ 32 ∷ next
 spaced_more word [] next = refl

@@ -2,7 +2,7 @@
 use Rattle.std.proofs.Common.{◌≡◌, ℕ, cond, List, [], ◌∷◌, Option, Some, None, map, Bor, bytes_eq, refl, sym, ap, ◌∙◌, subst, inl, inr, IfSome, option_map}
 use Rattle.std.specs.List.{find}
 use Rattle.std.proofs.lemmas.Bool.{cases_Bool}
-use Rattle.map_model.specs.Script.Form as model
+use Rattle.map_model.specs.Form as model
 use Rattle.script_lang.specs.declared.form.Form.{Form}
 use Rattle.script_lang.specs.Form.{verb_of, IsRow, verb_of_row, has_word, AreRows}
 

@@ -7,13 +7,13 @@ use Rattle.std.specs.List.{list_all, starts_with}
 use Rattle.std.specs.Str.Parse.{digits_value}
 use Rattle.std.proofs.lemmas.Bool.{cases_Bool, cases_lt, eqb-true, false≢true}
 use Rattle.std.proofs.lemmas.Bool.Decides.{nat_tests}
-use Rattle.map_model.specs.Grammar.{is_name, name_field}
-use Rattle.map_model.specs.Grammar as grammar
-use Rattle.map_model.specs.Script.Shape as shapes
-use Rattle.map_model.specs.Script.Index.{IndexSet, no_indexes, index_count}
-use Rattle.map_model.specs.Script.LineFault as faults
-use Rattle.map_model.specs.Script.Form as model
-use Rattle.map_model.specs.Script.Grammar.{Values, Parsed, named, is_printable, without_return, is_digits, is_in_range, all_fields, has_words, with_value, with_values, command_of, takes_word, is_distinct, index_set, parse_indexes, parse_kind, parse_fields, parse_form, parse_verb, parse_words, parse_text, parse}
+use Rattle.map_model.specs.Words.{is_name, name_field}
+use Rattle.map_model.specs.Words as grammar
+use Rattle.map_model.specs.Shape as shapes
+use Rattle.map_model.specs.Index.{IndexSet, no_indexes, index_count}
+use Rattle.map_model.specs.LineFault as faults
+use Rattle.map_model.specs.Form as model
+use Rattle.map_model.specs.Grammar.{Values, Parsed, named, is_printable, without_return, is_digits, is_in_range, all_fields, has_words, with_value, with_values, command_of, takes_word, is_distinct, index_set, parse_indexes, parse_kind, parse_fields, parse_form, parse_verb, parse_words, parse_text, parse}
 use Rattle.map_shapes.specs.declared.kind.Kind.{Kind}
 use Rattle.map_shapes.specs.declared.kind.Kind.TheVariants.{Points, Segments}
 use Rattle.map_shapes.specs.Kind.{kind_of}

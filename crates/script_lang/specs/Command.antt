@@ -1,9 +1,9 @@
 -- A command as the definitions have it.
 use Rattle.std.specs.Prelude.{ℕ, List, Option, Some, Result, Ok, Err, option_map}
-use Rattle.map_model.specs.Script.Shape as shapes
-use Rattle.map_model.specs.Script.Answer as questions
-use Rattle.map_model.specs.Script.Command as model
-use Rattle.map_model.specs.Script.Grammar.{Values, Parsed}
+use Rattle.map_model.specs.Shape as shapes
+use Rattle.map_model.specs.Answer as questions
+use Rattle.map_model.specs.Command as model
+use Rattle.map_model.specs.Grammar.{Values, Parsed}
 use Rattle.map_shapes.specs.declared.kind.Kind.{Kind}
 use Rattle.map_shapes.specs.declared.index_set.IndexSet.{IndexSet}
 use Rattle.map_shapes.specs.Kind.{kind_of}

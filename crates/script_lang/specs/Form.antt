@@ -1,6 +1,6 @@
 -- Forms as the definitions have them.
 use Rattle.std.specs.Prelude.{◌≡◌, ℕ, Bool, true, false, ⊤, List, [], ◌∷◌, map, bytes_eq}
-use Rattle.map_model.specs.Script.Form as model
+use Rattle.map_model.specs.Form as model
 use Rattle.script_lang.specs.declared.form.Field.{Field}
 use Rattle.script_lang.specs.declared.form.Field.TheVariants as fields
 use Rattle.script_lang.specs.declared.numbers.Limits.{Limits}

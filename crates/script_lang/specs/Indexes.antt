@@ -1,8 +1,8 @@
 -- The kind and the indexes that words say.
 use Rattle.std.specs.Prelude.{ℕ, true, false, List, [], ◌∷◌, Option, Some, None, Result, Ok, Err, bytes_eq, codes, if◌then◌else◌}
-use Rattle.map_model.specs.Script.Index as model
-use Rattle.map_model.specs.Script.Shape as shapes
-use Rattle.map_model.specs.Script.LineFault as faults
+use Rattle.map_model.specs.Index as model
+use Rattle.map_model.specs.Shape as shapes
+use Rattle.map_model.specs.LineFault as faults
 use Rattle.map_shapes.specs.declared.kind.Kind.{Kind}
 use Rattle.map_shapes.specs.declared.kind.Kind.TheVariants.{Points, Segments}
 use Rattle.map_shapes.specs.declared.index_set.IndexSet.{IndexSet}

@@ -1,5 +1,5 @@
 -- A fault as the definitions have it.
-use Rattle.map_model.specs.Script.LineFault as model
+use Rattle.map_model.specs.LineFault as model
 use Rattle.script_lang.specs.declared.line_fault.LineFault.{LineFault}
 use Rattle.script_lang.specs.declared.line_fault.LineFault.TheVariants.{Line, Command, Fields, Name, Number, Range, Order, Kind, Index}
 

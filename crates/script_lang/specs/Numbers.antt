@@ -2,7 +2,7 @@
 use Rattle.std.specs.Prelude.{ℕ, ◌<◌, ◌≤◌, ◌&&◌, true, false, ⊤, List, [], ◌∷◌, ◌++◌, length, Option, Some, None, Result, Ok, Err, nat_le, if◌then◌else◌}
 use Rattle.std.specs.Str.{all_ascii_digits}
 use Rattle.std.specs.Str.Parse.{digits_value}
-use Rattle.map_model.specs.Grammar.{is_filled}
+use Rattle.map_model.specs.Words.{is_filled}
 use Rattle.script_lang.specs.declared.form.Field.{Field}
 use Rattle.script_lang.specs.declared.form.Field.TheVariants.{Id, Coordinate, Amount}
 use Rattle.script_lang.specs.declared.numbers.Numbers.{Numbers}

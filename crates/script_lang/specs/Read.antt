@@ -1,11 +1,11 @@
 -- What is left to look at once the words of a line are read along their form.
 use Rattle.std.specs.Prelude.{ℕ, ◌+◌, ◌==◌, Bool, not, List, length, Option, Some, None, Result, Ok, Err, nat_le, nat_lt, if◌then◌else◌}
-use Rattle.map_model.specs.Grammar.{words, name_field}
-use Rattle.map_model.specs.Script.Index.{IndexSet, no_indexes, index_count}
-use Rattle.map_model.specs.Script.Shape.{Kind, Points}
-use Rattle.map_model.specs.Script.LineFault as faults
-use Rattle.map_model.specs.Script.Form as model
-use Rattle.map_model.specs.Script.Grammar.{Values, Parsed, command_of}
+use Rattle.map_model.specs.Words.{words, name_field}
+use Rattle.map_model.specs.Index.{IndexSet, no_indexes, index_count}
+use Rattle.map_model.specs.Shape.{Kind, Points}
+use Rattle.map_model.specs.LineFault as faults
+use Rattle.map_model.specs.Form as model
+use Rattle.map_model.specs.Grammar.{Values, Parsed, command_of}
 use Rattle.script_lang.specs.declared.line_fault.LineFault.{LineFault}
 use Rattle.script_lang.specs.declared.numbers.Numbers.{Numbers}
 use Rattle.script_lang.specs.declared.reading.Read.{Read}

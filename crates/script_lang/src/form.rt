@@ -1,7 +1,7 @@
 // The forms of a line: one table.
 ghost use Rattle.std.specs.Prelude.{◌≡◌, IfSome, option_map, map};
 ghost use Rattle.std.specs.List.{find};
-ghost use Rattle.map_model.specs.Script.Form as model;
+ghost use Rattle.map_model.specs.Form as model;
 ghost use Rattle.script_lang.specs.Form.{verb_of, limits_of_field, IsRow, verb_of_row, has_word, AreRows};
 
 use crate::Limits;
@@ -176,7 +176,7 @@ pub fn find_form(word: &[u8]) -> Option<&'static Form>
     find_row(rows(), word)
 }
 
-#[tactic(auto, unfolding(map_model::specs::Script::Form::form, map_model::specs::Script::Form::verbs))]
+#[tactic(auto, unfolding(map_model::specs::Form::form, map_model::specs::Form::verbs))]
 fn rows() -> &'static [Form]
     ensures rows { AreRows result.now }
     ensures verbs { map verb_of_row result.now ≡ model.verbs }

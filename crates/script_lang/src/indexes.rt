@@ -1,7 +1,7 @@
 // The kind and the indexes of a layer.
 ghost use Rattle.std.specs.Prelude.{◌≡◌, ◌≤◌};
-ghost use Rattle.map_model.specs.Grammar.{words};
-ghost use Rattle.map_model.specs.Script.Index as model;
+ghost use Rattle.map_model.specs.Words.{words};
+ghost use Rattle.map_model.specs.Index as model;
 ghost use Rattle.map_shapes.specs.IndexSet.{index_set_of};
 ghost use Rattle.script_lang.specs.Indexes.{kind_in, no_index, with_index, with_index_words, layer_of, layer_in};
 

@@ -1,7 +1,7 @@
 // The line that a command is written as.
 ghost use Rattle.std.specs.Prelude.{◌≡◌, [], ◌∷◌, ◌++◌, IfOk, OnOk, Ok, Some, map, codes, decimal, if◌then◌else◌};
-ghost use Rattle.map_model.specs.Script.Grammar.{parse};
-ghost use Rattle.map_model.specs.Script.Line.{IsCommand, spaced_words, command_line, kind_word, index_words, rect_words};
+ghost use Rattle.map_model.specs.Grammar.{parse};
+ghost use Rattle.map_model.specs.Line.{IsCommand, spaced_words, command_line, kind_word, index_words, rect_words};
 ghost use Rattle.map_shapes.specs.Kind.{kind_of};
 ghost use Rattle.map_shapes.specs.IndexSet.{index_set_of};
 ghost use Rattle.map_shapes.specs.Rect.{rect_of};

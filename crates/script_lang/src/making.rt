@@ -1,9 +1,9 @@
 // The command that the words of a line make.
 ghost use Rattle.std.specs.Prelude.{◌≡◌, ◌≤◌, true, slice_index};
-ghost use Rattle.map_model.specs.Script.Command as commands;
-ghost use Rattle.map_model.specs.Script.Form as model;
-ghost use Rattle.map_model.specs.Script.Grammar as grammar;
-ghost use Rattle.map_model.specs.Script.Shape as shapes;
+ghost use Rattle.map_model.specs.Command as commands;
+ghost use Rattle.map_model.specs.Form as model;
+ghost use Rattle.map_model.specs.Grammar as grammar;
+ghost use Rattle.map_model.specs.Shape as shapes;
 ghost use Rattle.map_shapes.specs.Rect.{rect_of};
 ghost use Rattle.script_lang.specs.Form.{verb_of, verb_of_question, order_of};
 ghost use Rattle.map_shapes.specs.declared.kind.Kind.{Kind};
@@ -30,7 +30,7 @@ impl Order {
 }
 
 /// The command of a verb, whose coordinates are in the order of its form.
-#[tactic(auto, unfolding(map_model::specs::Script::Form::form, map_model::specs::Script::Grammar::command_of))]
+#[tactic(auto, unfolding(map_model::specs::Form::form, map_model::specs::Grammar::command_of))]
 pub fn make_command(
     verb: Verb,
     name: Name,
@@ -84,7 +84,7 @@ fn make_seg(name: Name, numbers: &Numbers) -> Command
 }
 
 /// The command that asks a question.
-#[tactic(auto, unfolding(map_model::specs::Script::Form::form, map_model::specs::Script::Grammar::command_of))]
+#[tactic(auto, unfolding(map_model::specs::Form::form, map_model::specs::Grammar::command_of))]
 fn make_question(question: Question, name: Name, numbers: &Numbers) -> Command
     requires { model.is_ordered (model.form (verb_of_question question)).order numbers.now.places ≡ true }
     ensures { (kind : Kind) (indexes : IndexSet) → command_of result ≡ grammar.command_of (verb_of_question question) (values_of name numbers.now kind indexes) }

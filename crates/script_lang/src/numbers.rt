@@ -2,7 +2,7 @@
 ghost use Rattle.std.specs.Prelude.{◌≡◌, ◌+◌, ◌≤◌, ◌<◌, ◌-◌, ◌^◌, IfOk, length, count_by, option_map, true};
 ghost use Rattle.std.specs.List.{list_all};
 ghost use Rattle.std.specs.Char.{is_ascii_digit};
-ghost use Rattle.map_model.specs.Grammar.{words, number_field};
+ghost use Rattle.map_model.specs.Words.{words, number_field};
 ghost use Rattle.script_lang.specs.Form.{limits_of_field, is_coordinate};
 ghost use Rattle.script_lang.specs.Numbers.{Takes, HasRoom, with_number, number_in, with_word, with_words, no_numbers};
 

@@ -1,6 +1,6 @@
 // A line, step by step.
 ghost use Rattle.std.specs.Prelude.{◌≡◌};
-ghost use Rattle.map_model.specs.Script.Grammar as grammar;
+ghost use Rattle.map_model.specs.Grammar as grammar;
 ghost use Rattle.script_lang.specs.Command.{parsed};
 ghost use Rattle.script_lang.specs.Read.{has_end};
 

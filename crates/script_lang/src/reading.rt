@@ -1,8 +1,8 @@
 // The words of a line, read along the form of its command word.
 ghost use Rattle.std.specs.Prelude.{◌≡◌, ◌≤◌, MatchOption, IfOk, IfSome};
 ghost use Rattle.std.specs.List.{list_all};
-ghost use Rattle.map_model.specs.Grammar.{words};
-ghost use Rattle.map_model.specs.Script.Grammar as grammar;
+ghost use Rattle.map_model.specs.Words.{words};
+ghost use Rattle.map_model.specs.Grammar as grammar;
 ghost use Rattle.script_lang.specs.Form.{IsRow};
 ghost use Rattle.script_lang.specs.Read.{said};
 

@@ -1,9 +1,9 @@
 // The words of a line, from its front.
 ghost use Rattle.std.specs.Prelude.{◌≡◌, ◌≤◌, ◌<◌, [], ◌∷◌, length, drop, MatchOption, IfSome};
 ghost use Rattle.std.specs.List.{prefix_len};
-ghost use Rattle.map_model.specs.Grammar.{words, is_blank, is_word_byte};
+ghost use Rattle.map_model.specs.Words.{words, is_blank, is_word_byte};
 
-/// The first word of the text, and what stands behind it.
+/// The first word of the text, and what stands behind it: `None` where it has only spaces and tabs.
 pub fn split_word(text: &[u8]) -> Option<(&[u8], &[u8])>
     ensures first { MatchOption result (words text.now ≡ []) (λ found. words text.now ≡ found.0.now ∷ words found.1.now) }
     ensures shorter { IfSome result (λ found. length found.1.now < length text.now) }

@@ -1,10 +1,17 @@
 -- Lines put behind lines.
-use Rattle.std.proofs.Common.{◌≡◌, ℕ, ◌<◌, true, List, [], ◌∷◌, ◌++◌, length, sym, ap, ◌∙◌, append_assoc, append-nil}
+use Rattle.std.proofs.Common.{◌≡◌, ℕ, ◌<◌, true, Ok, Err, Some, None, refl, List, [], ◌∷◌, ◌++◌, length, sym, ap, ◌∙◌, append_assoc, append-nil}
 use Rattle.std.proofs.lemmas.List.Elements.{filter_map-append}
 use Rattle.map_model.specs.Text.{lines, one_line}
 use Rattle.map_model.proofs.TextLemmas.{lines-line}
+use Rattle.map_model.specs.Grammar.{Parsed}
 use Rattle.map_session.proofs.Lines.{one_last}
-use Rattle.session_trials.specs.Words.{said_word, said_words}
+use Rattle.session_trials.specs.Words.{word_of, said_word, said_words}
+
+-- a line that says something has a first word
+pub said_other : (said : Parsed) (word : List ℕ) → (said ≡ Ok None → ⊥) → Some word ≡ word_of said word
+said_other (Ok None) word h = absurd (h refl)
+said_other (Ok (Some command)) word h = refl
+said_other (Err fault) word h = refl
 
 -- one line more was answered
 pub said_more : (before after taken : List (List ℕ)) (rest line left : List ℕ) → rest ≡ line ++ 10 ∷ left → one_line line ≡ true

@@ -1,8 +1,8 @@
 //! The commands of a script, written as their lines and read again.
 ghost use Rattle.std.specs.Prelude.{◌≡◌, true, Ok, Some};
-ghost use Rattle.map_model.specs.Script.Command.{Command};
-ghost use Rattle.map_model.specs.Script.Grammar.{parse};
-ghost use Rattle.map_model.specs.Script.Line.{command_line};
+ghost use Rattle.map_model.specs.Command.{Command};
+ghost use Rattle.map_model.specs.Grammar.{parse};
+ghost use Rattle.map_model.specs.Line.{command_line};
 
 use map_session::split_line;
 use script_lang::parse;

@@ -1,16 +1,17 @@
 //! Example scripts beside the answers that are expected.
 ghost use Rattle.std.specs.Prelude.{◌≡◌, ◌<◌, ◌^◌, true, false, length, Ok};
 ghost use Rattle.map_model.specs.Text.{lines};
-ghost use Rattle.map_session.specs.Answering.{IsOutput};
-ghost use Rattle.session_trials.specs.Examples.{IsAnsweredOtherwise};
+ghost use Rattle.session_trials.specs.Examples.{IsAnsweredBy, IsAnsweredOtherwise};
 
 use crate::commands::are_read_again;
 use map_io::{MemSink, WriteFault};
 use map_samples::Failure;
 use map_session::{Session, answer_lines};
+use query_laws::step_ledger::Steps;
 use std::alloc::{AllocError, Global};
 use std::fs;
 use std::rt::Files;
+use std::sync::ledger::Ledger;
 
 /// A script has fewer bytes than this.
 const MOST_BYTES: usize = 1 << 40;
@@ -19,14 +20,15 @@ const MOST_BYTES: usize = 1 << 40;
 /// commands must be read again from the line that it is written as.
 ///
 /// Prints a line for each example. `Differs` where the answers aren't those of the file, or a command isn't read again.
-pub fn check_examples<R: Print + Files + AllocGlobal + Clone + Drop>(
+pub fn check_examples<R: Print + Files + AllocGlobal + Clone + Drop, L: Ledger>(
     rt: &R,
     folder: &str,
+    steps: &mut Steps<L>,
 ) -> Result<(), Failure> {
     let mut names = script_names(rt, folder)?;
     names.sort_unstable();
     for name in &names {
-        check_example(rt, folder, name.as_str())?;
+        check_example(rt, folder, name.as_str(), steps)?;
         println!(rt; "example {name}")?;
     }
     Ok(())
@@ -48,7 +50,12 @@ fn script_names<R: Files + AllocGlobal + Clone + Drop>(
 }
 
 /// Compares the answers to one script with those of its file.
-fn check_example<R: Files + AllocGlobal>(rt: &R, folder: &str, name: &str) -> Result<(), Failure> {
+fn check_example<R: Files + AllocGlobal, L: Ledger>(
+    rt: &R,
+    folder: &str,
+    name: &str,
+    steps: &mut Steps<L>,
+) -> Result<(), Failure> {
     let alloc = rt.alloc();
     let script = fs::read(rt, format!(in alloc; "{folder}/{name}.livemap")?.as_str())?;
     let wanted = fs::read(rt, format!(in alloc; "{folder}/{name}.out")?.as_str())?;
@@ -59,7 +66,7 @@ fn check_example<R: Files + AllocGlobal>(rt: &R, folder: &str, name: &str) -> Re
         let text = format!(in alloc; "a command of {folder}/{name}.livemap isn't read again")?;
         return Err(Failure::Differs(text));
     }
-    if has_answers(alloc, &script, &wanted)? {
+    if has_answers(alloc, &script, &wanted, steps)? {
         return Ok(());
     }
     let text = format!(in alloc;
@@ -71,15 +78,20 @@ fn check_example<R: Files + AllocGlobal>(rt: &R, folder: &str, name: &str) -> Re
 /// Whether the lines of a script are answered, from an empty map on, by these bytes.
 ///
 /// Takes as much memory as they have, and what the map takes.
-pub fn has_answers(alloc: Global, script: &[u8], wanted: &[u8]) -> Result<bool, AllocError>
+pub fn has_answers<L: Ledger>(
+    alloc: Global,
+    script: &[u8],
+    wanted: &[u8],
+    steps: &mut Steps<L>,
+) -> Result<bool, AllocError>
     requires { length script.now < 2 ^ 40 }
-    ensures same { result ≡ Ok true → IsOutput (lines script.now) wanted.now }
+    ensures same { result ≡ Ok true → IsAnsweredBy (lines script.now) wanted.now }
     ensures differs { result ≡ Ok false → IsAnsweredOtherwise (lines script.now) wanted.now }
 {
     let space = vec![in alloc; 0u8; wanted.len()]?;
     let mut sink = MemSink::new(space, usize::MAX, Vec::new(alloc));
-    let mut session = Session::new(alloc);
-    match answer_lines(&mut session, script, &mut sink) {
+    let mut session = Session::new(alloc, false);
+    match answer_lines(&mut session, script, &mut sink, steps) {
         Ok(()) => Ok(sink.written() == wanted),
         Err(WriteFault) => Ok(false),
     }

@@ -1,10 +1,10 @@
 -- Made commands can be said, and their lines are made one after the other.
 use Rattle.std.proofs.Common.{◌≡◌, ℕ, suc, ◌+◌, ◌-◌, ◌^◌, ◌≤◌, ◌<◌, List, [], ◌∷◌, ◌++◌, codes, map, Result, Ok, Err, Some, IfOk, arith, refl, sym, ap, ◌∙◌, append_assoc, append-nil}
 use Rattle.std.proofs.lemmas.List.{map-append}
-use Rattle.map_model.specs.Script.Command.{Command, Add}
-use Rattle.map_model.specs.Script.Shape.{Point}
-use Rattle.map_model.specs.Script.Grammar.{parse}
-use Rattle.map_model.specs.Script.Line.{IsCommand, command_line}
+use Rattle.map_model.specs.Command.{Command, Add}
+use Rattle.map_model.specs.Shape.{Point}
+use Rattle.map_model.specs.Grammar.{parse}
+use Rattle.map_model.specs.Line.{IsCommand, command_line}
 use Rattle.map_model.proofs.RoundTrip.{parse-command_line}
 use Rattle.text_trials.specs.Making.{state_after, made_command, made_commands}
 

@@ -1,7 +1,7 @@
 -- Seeded commands that add a point.
 use Rattle.std.specs.Prelude.{ℕ, zero, suc, ◌*◌, ◌/◌, ◌^◌, List, [], ◌∷◌, codes}
-use Rattle.map_model.specs.Script.Command.{Command, Add}
-use Rattle.map_model.specs.Script.Shape.{Point}
+use Rattle.map_model.specs.Command.{Command, Add}
+use Rattle.map_model.specs.Shape.{Point}
 use Rattle.map_samples.specs.Generator.{next_state}
 
 -- the state after so many draws

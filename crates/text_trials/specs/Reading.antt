@@ -1,8 +1,8 @@
 -- What a line that was read comes to.
 use Rattle.std.specs.Prelude.{ℕ, ◌+◌, Some, None, Ok, Err}
-use Rattle.map_model.specs.Script.Shape.{Shape, Point, Segment}
-use Rattle.map_model.specs.Script.Command.{Command, MakeLayer, Add, Drop, Ask, Get, Size, Recent}
-use Rattle.map_model.specs.Script.Grammar.{Parsed}
+use Rattle.map_model.specs.Shape.{Shape, Point, Segment}
+use Rattle.map_model.specs.Command.{Command, MakeLayer, Add, Drop, Ask, Get, Size, Recent}
+use Rattle.map_model.specs.Grammar.{Parsed}
 
 -- the sum of the numbers of an added point, and 0 of anything else
 abbrev pub sum_of_shape : ℕ → Shape → ℕ

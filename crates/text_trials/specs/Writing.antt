@@ -1,8 +1,8 @@
 -- Replies to counts.
 use Rattle.std.specs.Prelude.{ℕ, List, false}
-use Rattle.map_model.specs.Script.Answer.{Counted}
-use Rattle.map_model.specs.Script.Reply.{Answered, reply_line}
-use Rattle.map_model.specs.Script.Cost.{Untold}
+use Rattle.map_model.specs.Answer.{Counted}
+use Rattle.map_model.specs.Reply.{Answered, reply_line}
+use Rattle.map_model.specs.Cost.{Untold}
 
 -- the line that answers a count
 abbrev pub count_line : ℕ → List ℕ

@@ -1,7 +1,7 @@
 //! Seeded lines and numbers.
 ghost use Rattle.std.specs.Prelude.{◌≡◌, IfOk, Ok, Some, map, string_bytes};
-ghost use Rattle.map_model.specs.Script.Grammar.{parse};
-ghost use Rattle.map_model.specs.Script.Line.{command_line};
+ghost use Rattle.map_model.specs.Grammar.{parse};
+ghost use Rattle.map_model.specs.Line.{command_line};
 ghost use Rattle.text_trials.specs.Making.{state_after, made_command, made_commands};
 
 use map_samples::Generator;

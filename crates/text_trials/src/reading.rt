@@ -1,6 +1,6 @@
 //! Lines read.
 ghost use Rattle.std.specs.Prelude.{◌≡◌, ◌-◌, ◌^◌, min, string_bytes};
-ghost use Rattle.map_model.specs.Script.Grammar as grammar;
+ghost use Rattle.map_model.specs.Grammar as grammar;
 ghost use Rattle.query_laws.specs.Sums.{capped_sum};
 ghost use Rattle.script_lang.specs.Command.{command_of};
 ghost use Rattle.text_trials.specs.Reading.{sum_of_parsed, sum_of_command};

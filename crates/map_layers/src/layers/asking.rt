@@ -1,10 +1,10 @@
 //! The questions that a layer's index answers.
 ghost use Rattle.std.specs.Prelude.{◌≡◌, ◌≤◌, ◌+◌, ◌*◌, ◌^◌, None, Some, Err, IfOk, length, map};
 ghost use Rattle.query_laws.specs.StepLedger.{lap_begun};
-ghost use Rattle.map_model.specs.Script.State.{layer_named};
-ghost use Rattle.map_model.specs.Script.Answer as answers;
-ghost use Rattle.map_model.specs.Script.Command.{Ask};
-ghost use Rattle.map_model.specs.Script.Reply.{Answered};
+ghost use Rattle.map_model.specs.State.{layer_named};
+ghost use Rattle.map_model.specs.Answer as answers;
+ghost use Rattle.map_model.specs.Command.{Ask};
+ghost use Rattle.map_model.specs.Reply.{Answered};
 ghost use Rattle.map_shapes.specs.Rect.{rect_of};
 ghost use Rattle.map_layers.specs.Indexing.{IsOf};
 ghost use Rattle.map_layers.specs.Layer.{Layered, layer_of, stamp_of, IsAskRefusal};
@@ -35,6 +35,7 @@ impl Layers {
         ensures consulted { IfOk result (λ given. given.1.parts ≡ given.0.parts) }
         ensures cost { IfOk result (λ given. IsAskingIn (layer_named name.now (map_of self.now)) (λ layer. given.1.parts * touches_in_part layer)
             given.1 (lap_begun steps.old) steps.new) }
+        ensures reads { (steps.new.turns ≡ steps.old.turns) × (steps.new.marks ≡ steps.old.marks) }
     {
         self.ask(name, &CountIn(*rect), steps)
     }
@@ -52,6 +53,7 @@ impl Layers {
         ensures consulted { IfOk result (λ given. given.1.parts ≡ given.0.parts) }
         ensures cost { IfOk result (λ given. IsAskingIn (layer_named name.now (map_of self.now)) (λ layer. given.1.parts * touches_in_part layer)
             given.1 (lap_begun steps.old) steps.new) }
+        ensures reads { (steps.new.turns ≡ steps.old.turns) × (steps.new.marks ≡ steps.old.marks) }
     {
         self.ask(name, &SumIn(*rect), steps)
     }
@@ -69,6 +71,7 @@ impl Layers {
         ensures consulted { IfOk result (λ given. given.1.parts ≡ given.0.parts) }
         ensures cost { IfOk result (λ given. IsAskingIn (layer_named name.now (map_of self.now))
             (λ layer. given.1.parts * touches_in_part layer + 8 * rows_of layer * length given.0.answer) given.1 (lap_begun steps.old) steps.new) }
+        ensures reads { (steps.new.turns ≡ steps.old.turns) × (steps.new.marks ≡ steps.old.marks) }
     {
         self.ask(name, &ListIn(*rect), steps)
     }
@@ -92,6 +95,7 @@ impl Layers {
         ensures of { (l : Layered) → named name.now self.now.layers ≡ Some l → IsOf (λ part. part) stamp_of l.range l.entries }
         ensures cost { (l : Layered) → named name.now self.now.layers ≡ Some l
             → IfOk result (λ given. HasAsked (λ part. part) (layer_of l) l.range (bound-7.ask_touches question.now) given.1 (lap_begun steps.old) steps.new) }
+        ensures reads { (steps.new.turns ≡ steps.old.turns) × (steps.new.marks ≡ steps.old.marks) }
     {
         steps.start_lap();
         let Some(layer) = layer_of(self.layers.as_slice(), name) else {

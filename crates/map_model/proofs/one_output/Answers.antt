@@ -1,4 +1,4 @@
-use Rattle.map_model.proofs.OutputLemmas.{machine_is_output, only_output}
+use Rattle.map_model.proofs.Outputs.{machine_is_output, only_output}
 use Rattle.map_model.proofs.one_output.Goals as goal
 
 pub returns : goal.returns

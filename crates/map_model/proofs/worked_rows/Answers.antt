@@ -1,8 +1,9 @@
 use Rattle.std.proofs.Common.{refl}
 use Rattle.std.specs.Fmt.{digits}
-use Rattle.map_model.specs.Grammar.{layer_form, add_form, count_form}
+use Rattle.map_model.specs.Form.{form, verbs}
+use Rattle.map_model.specs.Grammar.{command_of}
 use Rattle.map_model.proofs.worked_rows.Goals as goal
 
 pub returns : goal.returns
-unfolding digits layer_form add_form count_form
-returns c = record { empty = refl; counted = refl; refused = refl; border = refl; silent = refl; forms = refl; refusals = refl; whole = refl }
+unfolding digits form verbs command_of
+returns c = record { empty = refl; silent = refl; refusals = refl; whole = refl; counted = refl; largest = refl; nearest = refl; farthest = refl; dropped = refl; added_again = refl; first_faults = refl; segments = refl; highest = refl; layers = refl; town = refl }

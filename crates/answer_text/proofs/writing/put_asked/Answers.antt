@@ -1,5 +1,5 @@
 use Rattle.std.proofs.Common.{◌≡◌, ℕ, List, ◌++◌, codes, decimal, subst}
-use Rattle.map_model.specs.Script.Cost.{out_of}
+use Rattle.map_model.specs.Cost.{out_of}
 use Rattle.map_io.specs.ProperPrefix.{AppendsProperPrefix}
 use Rattle.answer_text.specs.Pieces.{Gathers}
 use Rattle.answer_text.proofs.Pieces.{gathers_both, prefix_first, prefix_second, ok_weaker, err_weaker, err_any}

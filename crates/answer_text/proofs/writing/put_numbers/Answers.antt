@@ -1,5 +1,5 @@
 use Rattle.std.proofs.Common.{arith}
-use Rattle.map_model.specs.Script.Reply.{spaced}
+use Rattle.map_model.specs.Reply.{spaced}
 use Rattle.answer_text.proofs.Pieces.{gathers_more, prefix_second, prefix_of_texts, err_any}
 use Rattle.answer_text.proofs.writing.put_numbers.Goals as goal
 

@@ -1,5 +1,5 @@
 use Rattle.std.proofs.Common.{◌++◌, codes}
-use Rattle.map_model.specs.Script.Cost.{out_of}
+use Rattle.map_model.specs.Cost.{out_of}
 use Rattle.answer_text.proofs.Pieces.{gathers_both, prefix_first, prefix_second, ok_weaker, err_weaker, err_any}
 use Rattle.answer_text.proofs.writing.put_spent.Goals as goal
 

@@ -1,32 +1,26 @@
-use Rattle.std.proofs.Common.{◌≡◌, ℕ, ◌+◌, ◌≤◌, ◌⊎◌, inl, inr, List, length, subst, arith}
-use Rattle.live_map.specs.declared.run.Status.{Status}
-use Rattle.live_map.specs.declared.run.Status.TheVariants.{TooLong, WriteFault, NoMemory}
-use Rattle.live_map.specs.Run.{script_limit, AnswersText}
-use Rattle.live_map.proofs.Endings.{told_interrupted, told_too_long, told_ending, too_long_status}
+use Rattle.std.proofs.Common.{◌≡◌, ℕ, List, [], Ok, Option, Some, false, ap, sym, ◌∙◌, subst, length}
+use Rattle.std.proofs.lemmas.List.{nil_from_length}
+use Rattle.std.proofs.lemmas.Bool.{eqb-true}
+use Rattle.map_session.specs.Session.{SessionState, new_session}
+use Rattle.map_session.specs.Answering.{Moment, moment}
+use Rattle.live_map.specs.Run.{TakenIn, AnswersText}
+use Rattle.live_map.proofs.Endings.{text_run, complete_text}
 use Rattle.live_map.proofs.run.run.Goals as goal
 
-pub returns-in-Ok-clause-write_fault : goal.returns-in-Ok-clause-write_fault
-returns-in-Ok-clause-write_fault g c = λ is accepted.
-    told_interrupted c.in-Ok.ending c.take_in.new.text.items _ _ _ _ c.in-Ok.ensures.taken
-    (subst (λ (s : Status). AnswersText c.in-Ok.ending c.take_in.new.text.items (g.K.Sink.written c.args.sink.now) (g.K.Sink.written c.answer.new.sink) s) is
-    (subst (λ (text : List ℕ). AnswersText c.in-Ok.ending text (g.K.Sink.written c.args.sink.now) (g.K.Sink.written c.answer.new.sink) c.answer.result) c.deref.ensures.value c.answer.ensures.answered))
+pub returns-in-Ok-clause-ended : goal.returns-in-Ok-clause-ended
+returns-in-Ok-clause-ended g c =
+    let text = c.take_in.new.text.items in
+    let written = g.K.Sink.written c.args.sink.now in
+    let now : Moment = moment c.answer-status.new.session (g.K.Sink.written c.answer-status.new.sink) c.answer-status.new.steps in
+    let none : c.args.words.now ≡ [] = nil_from_length c.args.words.now (eqb-true (length c.args.words.now) 0 (sym c.is_empty.ensures ∙ c.if-not-is_empty.false)) in
+    text_run c.args.words.now none _ _ text (moment (new_session false) written c.args.steps.now) now c.in-Ok.ending c.answer-status.result c.in-Ok.ensures.taken
+    (subst (λ (s : SessionState). AnswersText c.in-Ok.ending text (moment s written c.args.steps.now) c.answer-status.result now) c.new-session.ensures
+    (subst (λ (t : List ℕ). AnswersText c.in-Ok.ending t (moment c.new-session.result written c.args.steps.now) c.answer-status.result now) c.deref.ensures.value c.answer-status.ensures.answered))
 
-pub returns-in-Ok-clause-too_long : goal.returns-in-Ok-clause-too_long
-returns-in-Ok-clause-too_long g c = λ is.
-    told_too_long c.in-Ok.ending c.take_in.new.text.items _ _ _ _ c.in-Ok.ensures.taken
-    (subst (λ (s : Status). AnswersText c.in-Ok.ending c.take_in.new.text.items (g.K.Sink.written c.args.sink.now) (g.K.Sink.written c.answer.new.sink) s) is
-    (subst (λ (text : List ℕ). AnswersText c.in-Ok.ending text (g.K.Sink.written c.args.sink.now) (g.K.Sink.written c.answer.new.sink) c.answer.result) c.deref.ensures.value c.answer.ensures.answered))
-
-pub returns-in-Ok-clause-taken_within : goal.returns-in-Ok-clause-taken_within
-returns-in-Ok-clause-taken_within g c =
-    told_ending c.in-Ok.ending c.take_in.new.text.items _ _ (λ taken. length taken ≤ script_limit + 1) c.in-Ok.ensures.taken
-    (λ taken is. elim is [ inl within ↦ omega arith | inr past ↦ omega (arith, past.0) ])
-
-pub returns-in-Ok-clause-past_limit : goal.returns-in-Ok-clause-past_limit
-returns-in-Ok-clause-past_limit g c =
-    let Causes : List ℕ → Type 0 = λ taken. length taken ≡ script_limit + 1 → (c.answer.result ≡ TooLong) ⊎ ((c.answer.result ≡ WriteFault) ⊎ (c.answer.result ≡ NoMemory)) in
-    told_ending c.in-Ok.ending c.take_in.new.text.items _ _ Causes c.in-Ok.ensures.taken
-    (λ taken is many. elim is [
-      | inl within ↦ absurd (omega arith)
-      | inr past ↦ too_long_status c.in-Ok.ending c.deref.result.now (g.K.Sink.written c.args.sink.now) (g.K.Sink.written c.answer.new.sink) c.answer.result c.answer.ensures.answered past.1
-    ])
+pub returns-in-Ok-clause-complete : goal.returns-in-Ok-clause-complete
+returns-in-Ok-clause-complete g c = λ left is short accepted read write.
+    let taken : TakenIn c.in-Ok.ending (Some left) (g.S.Source.rest c.take_in.new.source) c.take_in.new.text.items =
+    subst (λ (rest : Option (List ℕ)). TakenIn c.in-Ok.ending rest (g.S.Source.rest c.take_in.new.source) c.take_in.new.text.items) is c.in-Ok.ensures.taken in
+    complete_text c.in-Ok.ending c.answer-status.result c.take_in.new.text.items left _ _ _ taken
+    (subst (λ (t : List ℕ). AnswersText c.in-Ok.ending t (moment c.new-session.result (g.K.Sink.written c.args.sink.now) c.args.steps.now) c.answer-status.result (moment c.answer-status.new.session (g.K.Sink.written c.answer-status.new.sink) c.answer-status.new.steps)) c.deref.ensures.value c.answer-status.ensures.answered)
+    short (λ fault. read (c.in-Ok.ensures.failed (ap Ok fault))) (λ fault. write (c.answer-status.ensures.cause fault))

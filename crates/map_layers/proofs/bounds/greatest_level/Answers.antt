@@ -1,7 +1,7 @@
 use Rattle.std.proofs.Common.{ℕ, suc, ◌+◌, ◌*◌, ◌^◌, ◌<◌, ◌≤◌, ⊎_elim, arith, pow-suc}
 use Rattle.level_slots.proofs.Publishing.{higher}
 use Rattle.std.proofs.lemmas.Bool.{cases_lt}
-use Rattle.map_model.specs.Script.Cost.{greatest_level}
+use Rattle.map_model.specs.Cost.{greatest_level}
 use Rattle.map_model.proofs.Levels.{IsLog-halvings}
 use Rattle.map_layers.proofs.bounds.greatest_level.Goals as goal
 

@@ -1,7 +1,7 @@
 use Rattle.std.proofs.Common.{◌∙◌, ap}
 use Rattle.std.specs.List.{find}
 use Rattle.std.proofs.Common.{bytes_eq}
-use Rattle.map_model.specs.Script.Form as model
+use Rattle.map_model.specs.Form as model
 use Rattle.script_lang.proofs.Table.{row_of_found, verb_of_result}
 use Rattle.script_lang.proofs.form.find_form.Goals as goal
 

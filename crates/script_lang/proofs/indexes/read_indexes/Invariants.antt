@@ -1,6 +1,6 @@
 -- What is left, behind what was read, gives what all of it gives.
 use Rattle.std.proofs.Common.{◌≡◌, length}
-use Rattle.map_model.specs.Grammar.{words}
+use Rattle.map_model.specs.Words.{words}
 use Rattle.script_lang.specs.Indexes.{with_index_words}
 use Rattle.script_lang.proofs.indexes.read_indexes.Given as goal
 

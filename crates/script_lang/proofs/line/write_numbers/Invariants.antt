@@ -1,6 +1,6 @@
 -- The numbers so far were written.
 use Rattle.std.proofs.Common.{◌≡◌, ◌∷◌, map, take, decimal}
-use Rattle.map_model.specs.Script.Line.{spaced_words}
+use Rattle.map_model.specs.Line.{spaced_words}
 use Rattle.script_lang.proofs.line.write_numbers.Given as goal
 
 abbrev pub invariant-loop-number : goal.invariant-loop-number

@@ -1,6 +1,6 @@
 -- What is left gives what all of it gives, and each coordinate that is left has a place.
 use Rattle.std.proofs.Common.{◌≡◌, ◌+◌, ◌≤◌, length, count_by, drop}
-use Rattle.map_model.specs.Grammar.{words}
+use Rattle.map_model.specs.Words.{words}
 use Rattle.script_lang.specs.Form.{is_coordinate}
 use Rattle.script_lang.specs.Numbers.{with_words, no_numbers}
 use Rattle.script_lang.proofs.numbers.read_numbers.Given as goal

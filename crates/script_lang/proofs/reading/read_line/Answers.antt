@@ -1,5 +1,5 @@
 use Rattle.std.proofs.Common.{◌∙◌, sym}
-use Rattle.map_model.specs.Grammar.{words}
+use Rattle.map_model.specs.Words.{words}
 use Rattle.script_lang.proofs.Walk.{few_coordinates, Begins, walk_line}
 use Rattle.script_lang.proofs.reading.read_line.Goals as goal
 

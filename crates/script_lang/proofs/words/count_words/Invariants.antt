@@ -1,6 +1,6 @@
 -- The words so far and those that are left are all words; each took a byte.
 use Rattle.std.proofs.Common.{◌≡◌, ◌+◌, ◌≤◌, length}
-use Rattle.map_model.specs.Grammar.{words}
+use Rattle.map_model.specs.Words.{words}
 use Rattle.script_lang.proofs.words.count_words.Given as goal
 
 abbrev pub invariant-loop-behind : goal.invariant-loop-behind

@@ -1,7 +1,7 @@
 use Rattle.std.proofs.Common.{◌≡◌, ℕ, ◌<◌, ◌≤◌, arith, length-drop, [], ◌∷◌, length, take, drop, sym, ap, ◌∙◌, pos_of_ne-zero}
 use Rattle.std.proofs.lemmas.List.{nil_from_length}
 use Rattle.std.proofs.lemmas.Bool.{eqb-true, eqb-false}
-use Rattle.map_model.specs.Grammar.{words}
+use Rattle.map_model.specs.Words.{words}
 use Rattle.map_model.proofs.WordLemmas.{words-drop_blanks, first_behind_blanks, words-text}
 use Rattle.script_lang.proofs.FieldWords.{word_filled}
 use Rattle.script_lang.proofs.words.split_word.Goals as goal

@@ -1,4 +1,4 @@
-use Rattle.std.proofs.Common.{◌+◌, ◌<◌, ◌∷◌, length, ap, arith}
+use Rattle.std.proofs.Common.{◌∷◌, length, ap, arith}
 use Rattle.std.proofs.lemmas.List.{length-append}
 use Rattle.session_trials.proofs.commands.are_read_again.Goals as goal
 

@@ -1,5 +1,5 @@
 use Rattle.std.proofs.Common.{rules, ◌≡◌, ◌<◌, ◌^◌, IfOk, string_bytes}
-use Rattle.map_model.specs.Script.Line.{command_line}
+use Rattle.map_model.specs.Line.{command_line}
 use Rattle.text_trials.specs.Making.{made_command}
 use Rattle.text_trials.proofs.MadeCommands.{read_add, if_ok}
 use Rattle.text_trials.proofs.making.made_line.Goals as goal

@@ -1,6 +1,6 @@
 use Rattle.std.proofs.Common.{rules, ◌≡◌, ◌-◌, ◌+◌, ◌<◌, List, [], ◌∷◌, ◌++◌, map, Ok, Some, String, Global, string_bytes, sym, subst}
-use Rattle.map_model.specs.Script.Grammar.{parse}
-use Rattle.map_model.specs.Script.Line.{command_line}
+use Rattle.map_model.specs.Grammar.{parse}
+use Rattle.map_model.specs.Line.{command_line}
 use Rattle.text_trials.specs.Making.{state_after, made_command, made_commands}
 use Rattle.text_trials.proofs.MadeCommands.{one_more}
 use Rattle.text_trials.proofs.making.made_lines.Goals as goal

@@ -1,7 +1,7 @@
 -- What is made, and what is still to be made, are all.
 use Rattle.std.proofs.Common.{◌≡◌, ◌-◌, ◌++◌, map, Ok, Some, string_bytes}
-use Rattle.map_model.specs.Script.Grammar.{parse}
-use Rattle.map_model.specs.Script.Line.{command_line}
+use Rattle.map_model.specs.Grammar.{parse}
+use Rattle.map_model.specs.Line.{command_line}
 use Rattle.text_trials.specs.Making.{made_commands}
 use Rattle.text_trials.proofs.making.made_lines.Given as goal
 

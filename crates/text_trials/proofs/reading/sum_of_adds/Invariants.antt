@@ -1,5 +1,5 @@
 use Rattle.std.proofs.Common.{◌≡◌, take, string_bytes}
-use Rattle.map_model.specs.Script.Grammar.{parse}
+use Rattle.map_model.specs.Grammar.{parse}
 use Rattle.query_laws.specs.Sums.{capped_sum}
 use Rattle.text_trials.specs.Reading.{sum_of_parsed}
 use Rattle.text_trials.proofs.reading.sum_of_adds.Given as goal

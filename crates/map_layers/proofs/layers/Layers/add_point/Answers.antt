@@ -2,11 +2,11 @@ use Rattle.std.proofs.Common.{rules, ◌≡◌, ◌≤◌, ◌∙◌, true, None
 use Rattle.std.specs.List.{refill}
 use Rattle.std.specs.Option.{option_map}
 use Rattle.query_laws.specs.StepLedger.{lap_begun}
-use Rattle.map_model.specs.Script.State.{layer_named}
-use Rattle.map_model.specs.Script.Shape as model
-use Rattle.map_model.specs.Script.Command.{Add}
-use Rattle.map_model.specs.Script.Refusal as refusals
-use Rattle.map_model.specs.Script.Machine.{refused}
+use Rattle.map_model.specs.State.{layer_named}
+use Rattle.map_model.specs.Shape as model
+use Rattle.map_model.specs.Command.{Add}
+use Rattle.map_model.specs.Refusal as refusals
+use Rattle.map_model.specs.Machine.{refused}
 use Rattle.map_shapes.specs.declared.spent.Spent.{Spent}
 use Rattle.map_layers.specs.Costs.{IsCostIn, IsToldIn}
 use Rattle.map_layers.specs.Layer.{items_of, layer_of}

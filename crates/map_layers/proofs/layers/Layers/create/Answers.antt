@@ -5,9 +5,9 @@ use Rattle.std.specs.Option.{is_some}
 use Rattle.std.proofs.lemmas.Bool.{le-leb, lt-leb}
 use Rattle.std.proofs.lemmas.List.{length-map, map-append}
 use Rattle.std.proofs.lemmas.List.Elements.{All-append, All-cons, All-nil}
-use Rattle.map_model.specs.Script.State.{Layer, most_layers}
-use Rattle.map_model.specs.Script.Reply.{Made}
-use Rattle.map_model.specs.Script.Machine.{replied}
+use Rattle.map_model.specs.State.{Layer, most_layers}
+use Rattle.map_model.specs.Reply.{Made}
+use Rattle.map_model.specs.Machine.{replied}
 use Rattle.map_shapes.specs.Kind.{kind_of}
 use Rattle.map_shapes.specs.IndexSet.{index_set_of}
 use Rattle.map_layers.specs.Layer.{layer_of}

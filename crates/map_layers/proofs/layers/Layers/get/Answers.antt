@@ -1,8 +1,8 @@
 use Rattle.std.proofs.Common.{rules, ◌≡◌, ◌∙◌, None, Some, ap, sym, arith}
 use Rattle.std.specs.Option.{option_map}
-use Rattle.map_model.specs.Script.State.{layer_named, shape_of}
-use Rattle.map_model.specs.Script.Refusal as refusals
-use Rattle.map_model.specs.Script.Machine.{got, get_from, refused}
+use Rattle.map_model.specs.State.{layer_named, shape_of}
+use Rattle.map_model.specs.Refusal as refusals
+use Rattle.map_model.specs.Machine.{got, get_from, refused}
 use Rattle.map_shapes.specs.Shape.{model_shape}
 use Rattle.map_layers.specs.Layer.{items_of, layer_of}
 use Rattle.map_layers.specs.Layers.{map_of, named}

@@ -1,8 +1,8 @@
 use Rattle.std.proofs.Common.{rules, ◌≡◌, ◌∙◌, None, Some, ap, arith}
 use Rattle.std.specs.Option.{option_map}
-use Rattle.map_model.specs.Script.State.{layer_named}
-use Rattle.map_model.specs.Script.Reply as replies
-use Rattle.map_model.specs.Script.Machine.{replied, size_of}
+use Rattle.map_model.specs.State.{layer_named}
+use Rattle.map_model.specs.Reply as replies
+use Rattle.map_model.specs.Machine.{replied, size_of}
 use Rattle.map_layers.specs.Layer.{layer_of}
 use Rattle.map_layers.specs.Layers.{map_of, named}
 use Rattle.map_layers.proofs.PointItems.{as_many_items}

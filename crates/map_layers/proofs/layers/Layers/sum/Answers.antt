@@ -1,5 +1,5 @@
 use Rattle.std.proofs.Common.{◌*◌, ◌∙◌, false, ap, refl}
-use Rattle.map_model.specs.Script.Answer as answers
+use Rattle.map_model.specs.Answer as answers
 use Rattle.map_shapes.specs.Rect.{rect_of}
 use Rattle.map_layers.specs.Costs.{touches_in_part}
 use Rattle.map_layers.proofs.Questions.{IfOk-map, IfOk-there, answered_as, cost_in}

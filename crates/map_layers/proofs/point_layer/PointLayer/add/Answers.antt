@@ -2,13 +2,14 @@ use Rattle.std.proofs.Common.{rules, ◌≡◌, ◌≤◌, ◌+◌, ◌*◌, ◌
 use Rattle.std.specs.Option.{is_some}
 use Rattle.std.proofs.lemmas.List.{length-append, map-append}
 use Rattle.id_directory.specs.Directory.{handle_of}
-use Rattle.map_model.specs.Script.Shape as model
+use Rattle.map_model.specs.Shape as model
 use Rattle.map_layers.specs.declared.faults.UpdateFault.TheVariants as faults
 use Rattle.map_layers.specs.Indexing.{IsOf, IsBelow}
-use Rattle.map_model.specs.Script.Index.{index_count}
-use Rattle.map_model.specs.Script.Cost.{greatest_level}
+use Rattle.map_model.specs.Index.{index_count}
+use Rattle.map_model.specs.Cost.{greatest_level}
 use Rattle.map_layers.specs.Costs.{IsInBounds}
-use Rattle.map_layers.specs.Layer.{Layered, item_of, items_of, stamp_of, indexes_of, layer_of, IsAdd}
+use Rattle.map_shapes.specs.Point.{item_of}
+use Rattle.map_layers.specs.Layer.{Layered, items_of, stamp_of, indexes_of, layer_of, IsAdd}
 use Rattle.map_layers.proofs.WithinBounds.{IsTold-of, IsInBounds-of, greatest-light, three_there, added-cost, refused-cost}
 use Rattle.map_layers.proofs.PointItems.{live_found, as_many_items}
 use Rattle.map_layers.proofs.point_layer.PointLayer.add.Goals as goal

@@ -4,7 +4,7 @@ use Rattle.level_slots.specs.Slots.{parts_of}
 use Rattle.level_slots.specs.Asking.{HaveAtMost}
 use Rattle.global_rebuild.specs.Index.{IsIndexOf}
 use Rattle.global_rebuild.proofs.Weights.{as_many}
-use Rattle.map_model.specs.Script.Cost.{greatest_level}
+use Rattle.map_model.specs.Cost.{greatest_level}
 use Rattle.map_layers.specs.Indexing.{IsOf}
 use Rattle.map_layers.specs.Layer.{stamp_of}
 use Rattle.map_layers.proofs.PointItems.{as_many_items}

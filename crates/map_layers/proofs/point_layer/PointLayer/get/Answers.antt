@@ -3,7 +3,7 @@ use Rattle.std.specs.Option.{option_map}
 use Rattle.id_chain.specs.Chain.{HandlesDiffer}
 use Rattle.id_directory.specs.Directory.{handle_of}
 use Rattle.map_shapes.specs.Shape.{model_shape}
-use Rattle.map_model.specs.Script.State.{shape_of}
+use Rattle.map_model.specs.State.{shape_of}
 use Rattle.map_layers.specs.Layer.{items_of}
 use Rattle.map_layers.proofs.PointItems.{linked_found, shape_found, shape_not_found}
 use Rattle.map_layers.proofs.point_layer.PointLayer.get.Goals as goal

@@ -1,7 +1,7 @@
 use Rattle.std.proofs.Common.{◌≡◌, ◌-◌, ◌≤◌, ℕ, List, ◌++◌, length, take, drop, replicate, true, Some, None, cond, arith, refl, sym, ap, ◌∙◌, ◌+◌, subst, take_at, drop_at}
 use Rattle.std.proofs.lemmas.List.{drop-replicate, length-replicate}
 use Rattle.std.proofs.Common.{length-append}
-use Rattle.map_model.specs.Grammar.{is_name}
+use Rattle.map_model.specs.Words.{is_name}
 use Rattle.map_shapes.specs.NameBytes.{IsNameIn, array_of}
 use Rattle.map_shapes.proofs.name.Name.read.Goals as goal
 

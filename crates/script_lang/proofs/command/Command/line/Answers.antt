@@ -1,6 +1,6 @@
 use Rattle.std.proofs.Common.{rules, ◌≡◌, ap, ◌∙◌}
-use Rattle.map_model.specs.Script.Grammar.{parse}
-use Rattle.map_model.specs.Script.Line.{command_line}
+use Rattle.map_model.specs.Grammar.{parse}
+use Rattle.map_model.specs.Line.{command_line}
 use Rattle.map_model.proofs.RoundTrip.{parse-command_line}
 use Rattle.script_lang.specs.Command.{command_of}
 use Rattle.script_lang.proofs.command.Command.line.Goals as goal

@@ -1,5 +1,0 @@
-use Rattle.map_model.proofs.ScriptOutputs.{machine_is_output, only_output}
-use Rattle.map_model.proofs.script.one_output.Goals as goal
-
-pub returns : goal.returns
-returns c = record { exists = machine_is_output; unique = only_output }

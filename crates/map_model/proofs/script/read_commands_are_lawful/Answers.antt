@@ -1,5 +1,0 @@
-use Rattle.map_model.proofs.LawfulCommands.{IsCommand-parsed}
-use Rattle.map_model.proofs.script.read_commands_are_lawful.Goals as goal
-
-pub returns : goal.returns
-returns c = IsCommand-parsed

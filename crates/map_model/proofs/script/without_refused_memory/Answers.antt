@@ -1,5 +1,0 @@
-use Rattle.map_model.proofs.ScriptOutputs.{output_without_refusals}
-use Rattle.map_model.proofs.script.without_refused_memory.Goals as goal
-
-pub returns : goal.returns
-returns c = output_without_refusals

@@ -1,7 +1,0 @@
-use Rattle.std.proofs.Common.{refl}
-use Rattle.map_model.specs.Script.Cost.{greatest_level}
-use Rattle.map_model.proofs.script.worked_bounds.Goals as goal
-
-pub returns : goal.returns
-unfolding greatest_level
-returns c = record { from_0 = refl; from_3 = refl; before_3 = refl; from_11 = refl; before_11 = refl; from_27 = refl; before_27 = refl; from_59 = refl; before_59 = refl; from_123 = refl; before_123 = refl; from_251 = refl; before_251 = refl; from_507 = refl; before_507 = refl; from_1019 = refl; before_1019 = refl; from_2043 = refl; before_2043 = refl; from_4091 = refl; before_4091 = refl; from_8187 = refl; before_8187 = refl; from_16379 = refl; before_16379 = refl; from_32763 = refl; before_32763 = refl; from_65531 = refl; before_65531 = refl }

@@ -1,0 +1,96 @@
+-- The forms of a line, as a table: a command word, the numbers after it and the name of a layer, and which of them are
+-- in order.
+use Rattle.std.specs.Prelude.{ℕ, Bool, true, false, ◌&&◌, List, [], ◌∷◌, Option, codes, bytes_eq, nat_le, slice_index}
+use Rattle.std.specs.List.{find}
+use Rattle.map_model.specs.Words.{greatest_id, greatest_coordinate}
+
+-- what number stands in a word
+pub data Field : Type 0 where
+  -- an identifier
+  Id : Field
+  -- a coordinate or a weight
+  Coordinate : Field
+  -- how many are asked for
+  Amount : Field
+
+pub record Limits : Type 0 where
+  pub least : ℕ
+  pub greatest : ℕ
+
+abbrev pub greatest_amount : ℕ
+greatest_amount = 64
+
+abbrev pub limits_of : Field → Limits
+limits_of Id = record { least = 0; greatest = greatest_id }
+limits_of Coordinate = record { least = 0; greatest = greatest_coordinate }
+limits_of Amount = record { least = 1; greatest = greatest_amount }
+
+-- which coordinates are in order
+pub data Order : Type 0 where
+  Free : Order
+  -- the first is at most the second
+  Ends : Order
+  -- the first is at most the third, and the second at most the fourth
+  Corners : Order
+
+abbrev pub is_ordered : Order → List ℕ → Bool
+is_ordered Free places = true
+is_ordered Ends places = nat_le (slice_index places 0) (slice_index places 1)
+is_ordered Corners places = nat_le (slice_index places 0) (slice_index places 2) && nat_le (slice_index places 1) (slice_index places 3)
+
+pub record Form : Type 0 where
+  pub word : List ℕ
+  -- the numbers after the name
+  pub fields : List Field
+  -- whether a kind and one or more indexes follow
+  pub has_indexes : Bool
+  pub order : Order
+
+pub data Verb : Type 0 where
+  Layer : Verb
+  Add : Verb
+  Seg : Verb
+  Drop : Verb
+  Count : Verb
+  Sum : Verb
+  ListIds : Verb
+  Near : Verb
+  Nearest : Verb
+  Above : Verb
+  Top : Verb
+  Stab : Verb
+  StabCount : Verb
+  Get : Verb
+  Size : Verb
+  Recent : Verb
+
+abbrev pub row : List ℕ → List Field → Order → Form
+row word fields order = record { word = word; fields = fields; has_indexes = false; order = order }
+
+abbrev pub corner_fields : List Field
+corner_fields = Coordinate ∷ Coordinate ∷ Coordinate ∷ Coordinate ∷ []
+
+unfoldable pub form : Verb → Form
+form Layer = record { word = codes "layer"; fields = []; has_indexes = true; order = Free }
+form Add = row (codes "add") (Id ∷ Coordinate ∷ Coordinate ∷ Coordinate ∷ []) Free
+form Seg = row (codes "seg") (Id ∷ Coordinate ∷ Coordinate ∷ Coordinate ∷ []) Ends
+form Drop = row (codes "drop") (Id ∷ []) Free
+form Count = row (codes "count") corner_fields Corners
+form Sum = row (codes "sum") corner_fields Corners
+form ListIds = row (codes "list") corner_fields Corners
+form Near = row (codes "near") (Coordinate ∷ Coordinate ∷ []) Free
+form Nearest = row (codes "nearest") (Amount ∷ Coordinate ∷ Coordinate ∷ []) Free
+form Above = row (codes "above") (Coordinate ∷ Coordinate ∷ Coordinate ∷ []) Ends
+form Top = row (codes "top") (Coordinate ∷ Coordinate ∷ []) Ends
+form Stab = row (codes "stab") (Coordinate ∷ []) Free
+form StabCount = row (codes "stabcount") (Coordinate ∷ []) Free
+form Get = row (codes "get") (Id ∷ []) Free
+form Size = row (codes "size") [] Free
+form Recent = row (codes "recent") (Amount ∷ []) Free
+
+unfoldable pub verbs : List Verb
+verbs = Layer ∷ Add ∷ Seg ∷ Drop ∷ Count ∷ Sum ∷ ListIds ∷ Near ∷ Nearest ∷ Above ∷ Top ∷ Stab ∷ StabCount ∷ Get ∷ Size ∷ Recent ∷ []
+
+-- the verb of a command word
+abbrev pub verb_of : List ℕ → Option Verb
+verb_of word = find (λ verb. bytes_eq (form verb).word word) verbs

@@ -1,0 +1,18 @@
+use Rattle.std.proofs.Common.{map}
+use Rattle.map_session.specs.Built.{as_built}
+use Rattle.map_session.specs.Session.{map_in}
+use Rattle.map_session.proofs.Built.{parse_as_built}
+use Rattle.map_session.proofs.OutputsWithin.{within_is_output}
+use Rattle.map_session.proofs.Lines.{stopped_is_interrupted}
+use Rattle.map_session.proofs.answers_are_outputs.Goals as goal
+
+pub returns : goal.returns
+returns c = record {
+  answered = λ start now script p. (
+    p.bytes,
+    p.appended,
+    within_is_output start.session.ledger (map_in start.session) (map_in now.session) (map as_built script) p.bytes p.work p.output,
+  );
+  stopped = stopped_is_interrupted;
+  unbuilt = parse_as_built;
+}

@@ -1,0 +1,51 @@
+//! One command on the layers.
+ghost use Rattle.std.specs.Prelude.{◌≡◌, ◌+◌, ◌<◌, ◌^◌, Some, Ok};
+ghost use Rattle.map_model.specs.Index.{one_if};
+ghost use Rattle.map_model.specs.Line.{IsCommand};
+ghost use Rattle.map_model.specs.Output.{AnswersTo};
+ghost use Rattle.script_lang.specs.Command.{command_of};
+ghost use Rattle.answer_text.specs.Reply.{cost_of};
+ghost use Rattle.map_layers.specs.Layers.{map_of};
+ghost use Rattle.map_session.specs.Built.{built};
+ghost use Rattle.map_session.specs.Work.{work_said, is_update_said, IsCounted};
+ghost use Rattle.map_session.specs.Session.{given_by};
+
+use crate::replying::{counted, got, listed, made, refused, sized, summed, updated};
+use answer_text::{Refusal, Reply};
+use map_layers::Layers;
+use query_laws::step_ledger::Steps;
+use script_lang::Command;
+use std::sync::ledger::Ledger;
+
+/// Executes a command that a line can say.
+pub fn execute<L: Ledger>(layers: &mut Layers, command: &Command, steps: &mut Steps<L>) -> Reply
+    requires few { layers.old.updates < 2 ^ 40 }
+    requires lawful { IsCommand (command_of command.now) }
+    ensures answered { AnswersTo (map_of layers.old) (built (Ok (Some (command_of command.now)))) (given_by (Some result) (map_of layers.new)) }
+    ensures counted { IsCounted (work_said (map_of layers.old) (built (Ok (Some (command_of command.now))))) (cost_of result) steps.old steps.new }
+    ensures updates { layers.new.updates ≡ layers.old.updates + one_if (is_update_said (built (Ok (Some (command_of command.now))))) }
+{
+    match *command {
+        Command::Layer {
+            name,
+            kind,
+            indexes,
+        } if Layers::is_built(kind, indexes) => made(layers.create(&name, kind, indexes)),
+        Command::Add { name, id, x, y, w } => updated(layers.add_point(&name, id, x, y, w, steps)),
+        Command::Drop { name, id } => updated(layers.remove(&name, id, steps)),
+        Command::Count { name, rect } => counted(layers.count(&name, &rect, steps)),
+        Command::Sum { name, rect } => summed(layers.sum(&name, &rect, steps)),
+        Command::List { name, rect } => listed(layers.list(&name, &rect, steps)),
+        Command::Get { name, id } => got(layers.get(&name, id)),
+        Command::Size { name } => sized(layers.size(&name)),
+        Command::Layer { .. }
+        | Command::Seg { .. }
+        | Command::Near { .. }
+        | Command::Nearest { .. }
+        | Command::Above { .. }
+        | Command::Top { .. }
+        | Command::Stab { .. }
+        | Command::StabCount { .. }
+        | Command::Recent { .. } => refused(Refusal::Command),
+    }
+}

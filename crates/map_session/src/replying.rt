@@ -1,0 +1,158 @@
+//! What lines and the calls of layers are replied.
+ghost use Rattle.std.specs.Prelude.{◌≡◌};
+ghost use Rattle.map_model.specs.Answer as answers;
+ghost use Rattle.map_model.specs.Cost.{Untold};
+ghost use Rattle.map_model.specs.Refusal as refusals;
+ghost use Rattle.map_model.specs.Reply as replies;
+ghost use Rattle.map_shapes.specs.Shape.{model_shape};
+ghost use Rattle.script_lang.specs.LineFault.{fault_of};
+ghost use Rattle.map_layers.specs.Replies as layers;
+ghost use Rattle.answer_text.specs.Reply.{refusal_of, reply_of, cost_of};
+ghost use Rattle.map_session.specs.Replies.{update_cost, question_cost};
+
+use answer_text::{Refusal, Reply};
+use builder_trait::Given;
+use map_layers::{AskFault, CreateFault, UpdateFault};
+use map_shapes::{Asked, CountIn, ListIn, Shape, Spent, SumIn};
+use range_tree::RangePart;
+use script_lang::LineFault;
+
+/// An answer from the index for rectangles, or why there is none.
+type InRange<Q> = Result<(Given<RangePart, Q>, Asked), AskFault>;
+
+/// That a line has a fault.
+pub fn faulty(fault: LineFault) -> Reply
+    ensures reply { reply_of result ≡ replies.Refused (refusals.refusal_of_fault (fault_of fault)) }
+    ensures cost { cost_of result ≡ Untold }
+{
+    refused(match fault {
+        LineFault::Line => Refusal::Line,
+        LineFault::Command => Refusal::Command,
+        LineFault::Fields => Refusal::Fields,
+        LineFault::Name => Refusal::Name,
+        LineFault::Number => Refusal::Number,
+        LineFault::Range => Refusal::Range,
+        LineFault::Order => Refusal::Order,
+        LineFault::Kind => Refusal::Kind,
+        LineFault::Index => Refusal::Index,
+    })
+}
+
+/// That a layer was made, or why it wasn't.
+pub fn made(outcome: Result<(), CreateFault>) -> Reply
+    ensures reply { reply_of result ≡ layers.created outcome }
+    ensures cost { cost_of result ≡ Untold }
+{
+    match outcome {
+        Ok(()) => Reply::Made,
+        Err(CreateFault::Taken) => refused(Refusal::Taken),
+        Err(CreateFault::NoRoom) => refused(Refusal::NoRoom),
+    }
+}
+
+/// That an item was added or dropped, or why it wasn't.
+pub fn updated(outcome: Result<Spent, UpdateFault>) -> Reply
+    ensures reply { reply_of result ≡ layers.updated outcome }
+    ensures cost { cost_of result ≡ update_cost outcome }
+{
+    match outcome {
+        Ok(spent) => Reply::Updated { spent },
+        Err(fault) => refused(refusal_of_update(fault)),
+    }
+}
+
+fn refusal_of_update(fault: UpdateFault) -> Refusal
+    ensures { refusal_of result ≡ layers.refusal_of_update fault }
+{
+    match fault {
+        UpdateFault::NoLayer => Refusal::NoLayer,
+        UpdateFault::WrongKind => Refusal::Kind,
+        UpdateFault::Duplicate(id) => Refusal::Duplicate { id },
+        UpdateFault::Unknown(id) => Refusal::Unknown { id },
+        UpdateFault::Full => Refusal::Full,
+        UpdateFault::NoMemory => Refusal::NoMemory,
+    }
+}
+
+/// How many points there are, or why that isn't told.
+pub fn counted(outcome: InRange<CountIn>) -> Reply
+    ensures reply { reply_of result ≡ layers.asked (λ given. replies.Answered (answers.Counted given.0.answer)) outcome }
+    ensures cost { cost_of result ≡ question_cost outcome }
+{
+    match outcome {
+        Ok((given, asked)) => Reply::Count {
+            n: given.into_answer(),
+            asked,
+        },
+        Err(fault) => refused(refusal_of_question(fault)),
+    }
+}
+
+/// What points weigh, or why that isn't told.
+pub fn summed(outcome: InRange<SumIn>) -> Reply
+    ensures reply { reply_of result ≡ layers.asked (λ given. replies.Answered (answers.Summed given.0.answer)) outcome }
+    ensures cost { cost_of result ≡ question_cost outcome }
+{
+    match outcome {
+        Ok((given, asked)) => Reply::Sum {
+            n: given.into_answer(),
+            asked,
+        },
+        Err(fault) => refused(refusal_of_question(fault)),
+    }
+}
+
+/// Which points there are, or why that isn't told.
+pub fn listed(outcome: InRange<ListIn>) -> Reply
+    ensures reply { reply_of result ≡ layers.asked (λ given. replies.Answered (answers.Listed given.0.answer)) outcome }
+    ensures cost { cost_of result ≡ question_cost outcome }
+{
+    match outcome {
+        Ok((given, asked)) => Reply::List {
+            ids: given.into_answer(),
+            asked,
+        },
+        Err(fault) => refused(refusal_of_question(fault)),
+    }
+}
+
+/// The shape of an item, or why it isn't told.
+pub fn got(outcome: Result<Shape, AskFault>) -> Reply
+    ensures reply { reply_of result ≡ layers.asked (λ shape. replies.Got (model_shape shape)) outcome }
+    ensures cost { cost_of result ≡ Untold }
+{
+    match outcome {
+        Ok(shape) => Reply::Got { shape },
+        Err(fault) => refused(refusal_of_question(fault)),
+    }
+}
+
+/// How many items there are, or why that isn't told.
+pub fn sized(outcome: Result<u64, AskFault>) -> Reply
+    ensures reply { reply_of result ≡ layers.asked replies.Sized outcome }
+    ensures cost { cost_of result ≡ Untold }
+{
+    match outcome {
+        Ok(n) => Reply::Size { n },
+        Err(fault) => refused(refusal_of_question(fault)),
+    }
+}
+
+fn refusal_of_question(fault: AskFault) -> Refusal
+    ensures { refusal_of result ≡ layers.refusal_of_ask fault }
+{
+    match fault {
+        AskFault::NoLayer => Refusal::NoLayer,
+        AskFault::WrongKind => Refusal::Kind,
+        AskFault::NoIndex => Refusal::Index,
+        AskFault::Unknown(id) => Refusal::Unknown { id },
+        AskFault::NoMemory => Refusal::NoMemory,
+    }
+}
+
+/// A refusal.
+pub fn refused(cause: Refusal) -> Reply
+    ensures { result ≡ Reply.Refused cause }
+{
+    Reply::Refused { cause }
+}

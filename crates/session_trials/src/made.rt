@@ -1,0 +1,116 @@
+//! Seeded scripts, by a session and by a plain map.
+use crate::plain_map::PlainMap;
+use crate::script::MOST_LINES;
+use map_io::MemSink;
+use map_samples::{Failure, Generator};
+use map_session::Session;
+use query_laws::step_ledger::Steps;
+use script_lang::{Command, parse};
+use std::alloc::{AllocError, Global};
+use std::sync::ledger::Ledger;
+
+/// The names of layers: more than a map has, and the first the most often.
+const NAMES: [&str; 10] = ["a", "b", "c", "d", "e", "f", "g", "h", "i", "j"];
+
+/// Identifiers, coordinates and weights are below these.
+const IDS: u32 = 256;
+
+const SIDE: u32 = 64;
+
+const WEIGHTS: u32 = 16;
+
+/// The longest answer: all identifiers, with their spaces, and a word.
+const LONGEST_ANSWER: usize = 2_048;
+
+/// Gives a session so many seeded lines, and compares each answer with that of a plain map.
+///
+/// `Differs` where they differ, but for `no memory` where a command that takes some would be accepted; the map stays then.
+pub fn check_made_script<L: Ledger>(
+    alloc: Global,
+    seed: u64,
+    lines: u32,
+    steps: &mut Steps<L>,
+) -> Result<(), Failure> {
+    let mut generator = Generator::new(seed);
+    let mut session = Session::new(alloc, false);
+    let mut map = PlainMap::new(alloc);
+    for _ in 0..lines {
+        let line = made_line(alloc, &mut generator)?;
+        check_line(alloc, &mut session, &mut map, line.as_str(), steps)?;
+    }
+    Ok(())
+}
+
+/// Gives both a line.
+fn check_line<L: Ledger>(
+    alloc: Global,
+    session: &mut Session,
+    map: &mut PlainMap,
+    line: &str,
+    steps: &mut Steps<L>,
+) -> Result<(), Failure> {
+    let Ok(Some(command)) = parse(line.as_bytes()) else {
+        return differs(alloc, line, "", "a command");
+    };
+    if session.lines() >= MOST_LINES {
+        return Err(Failure::TooLong);
+    }
+    let mut sink = MemSink::new(vec![in alloc; 0u8; LONGEST_ANSWER]?, 64, Vec::new(alloc));
+    session.line(line.as_bytes(), &mut sink, steps)?;
+    let answer = str::from_utf8(sink.written()).unwrap_or("").trim_end();
+    let wanted = map.answer(&command)?;
+    let is_accepted = !wanted.as_str().starts_with("no ");
+    if answer == "no memory" && is_accepted && takes_memory(&command) {
+        return Ok(());
+    }
+    if answer != wanted.as_str() {
+        return differs(alloc, line, answer, wanted.as_str());
+    }
+    if is_accepted {
+        map.change(&command)?;
+    }
+    Ok(())
+}
+
+/// Whether memory may be refused to a command.
+fn takes_memory(command: &Command) -> bool {
+    matches!(
+        command,
+        Command::Add { .. } | Command::Drop { .. } | Command::List { .. }
+    )
+}
+
+fn differs(alloc: Global, line: &str, answer: &str, wanted: &str) -> Result<(), Failure> {
+    let text = format!(in alloc; "{line}: {answer}, and {wanted} by a plain map")?;
+    Err(Failure::Differs(text))
+}
+
+/// A line of a command: of 32, one makes a layer, two aren't built, twelve add, nine drop, and the others ask.
+fn made_line(alloc: Global, generator: &mut Generator) -> Result<String, AllocError> {
+    let name = made_name(generator);
+    let id = generator.below(IDS);
+    let (x, y) = (generator.below(SIDE), generator.below(SIDE));
+    let w = generator.below(WEIGHTS);
+    let (x2, y2) = (x.saturating_add(w), y.saturating_add(w));
+    match generator.below(32) {
+        0 => format!(in alloc; "layer {name} points range"),
+        1 => format!(in alloc; "layer {name} points range near"),
+        2 => format!(in alloc; "seg {name} {id} {x} {x2} {y}"),
+        3..=14 => format!(in alloc; "add {name} {id} {x} {y} {w}"),
+        15..=23 => format!(in alloc; "drop {name} {id}"),
+        24 | 25 => format!(in alloc; "count {name} {x} {y} {x2} {y2}"),
+        26 | 27 => format!(in alloc; "sum {name} {x} {y} {x2} {y2}"),
+        28 | 29 => format!(in alloc; "list {name} {x} {y} {x2} {y2}"),
+        30 => format!(in alloc; "get {name} {id}"),
+        _ => format!(in alloc; "size {name}"),
+    }
+}
+
+/// The first name three times of four.
+fn made_name(generator: &mut Generator) -> &'static str {
+    let place = match generator.below(4) {
+        0 => generator.below(NAMES.len() as u32) as usize,
+        _ => 0,
+    };
+    NAMES.get(place).copied().unwrap_or("a")
+}
