@@ -71,6 +71,16 @@ impl<B: Builder> Collection<B> {
         Ok(handle)
     }
 
+    /// Begins an update that doesn't come: what one leaves to which memory is refused. The items stay.
+    ///
+    /// `NoMemory` where memory for that isn't given.
+    pub fn give_up<L: Ledger>(&mut self, steps: &mut Steps<L>) -> Result<(), NoMemory>
+        ensures entries { self.new.entries ≡ self.old.entries }
+        ensures stamps { self.new.index.stamps ≡ self.old.index.stamps }
+    {
+        self.index.prepare(&self.chain, steps)
+    }
+
     /// Takes an item out.
     ///
     /// `NoMemory` where memory for that isn't given. The items are then as before.

@@ -65,18 +65,36 @@ fn check_order<R: Print + AllocGlobal, L: Ledger>(
 ) -> Result<(), Failure> {
     let mut seen = Seen::default();
     for list in 0..EACH {
-        seen = seen.plus(check_list(rt.alloc(), generator, order, list, steps)?);
+        seen = seen.plus(check_list(rt.alloc(), generator, order, list, 0, steps)?);
     }
     println!(rt; "indexes {EACH} {order} {seen}")?;
     Ok(())
 }
 
-/// Compares an index with a plain list after each update of a list of up to 400.
+/// Compares forty indexes with plain lists, where updates are given up in between: before each up to two, which leave what refused ones do.
+///
+/// `Differs` where an answer of an index isn't that of the list, or where too much is dead.
+pub fn check_given_up<L: Ledger>(
+    alloc: Global,
+    seed: u64,
+    steps: &mut Steps<L>,
+) -> Result<(), Failure> {
+    let mut generator = Generator::new(seed);
+    for order in [Order::Oldest, Order::Newest, Order::Cursor, Order::Random] {
+        for list in 0..10 {
+            check_list(alloc, &mut generator, order, list, 3, steps)?;
+        }
+    }
+    Ok(())
+}
+
+/// Compares an index with a plain list after each update of a list of up to 400. Before each fewer than `given_up` are begun and given up.
 fn check_list<L: Ledger>(
     alloc: Global,
     generator: &mut Generator,
     order: Order,
     list: usize,
+    given_up: u32,
     steps: &mut Steps<L>,
 ) -> Result<Seen, Failure> {
     let updates = generator.below(MOST_UPDATES + 1) as usize;
@@ -93,11 +111,32 @@ fn check_list<L: Ledger>(
             list,
             update,
         };
+        give_up(generator, given_up, &mut trial, steps)?;
         take_update(generator, &points, order, &mut pace, &mut trial, steps)?;
         compare_after(alloc, generator, case, &mut trial, steps)?;
     }
     trial.ask_about(alloc, ALL, steps)?;
     Ok(trial.seen())
+}
+
+/// Begins fewer updates than so many, and gives them up.
+fn give_up<L: Ledger>(
+    generator: &mut Generator,
+    most: u32,
+    trial: &mut Trial,
+    steps: &mut Steps<L>,
+) -> Result<(), Failure>
+    requires alike { AreAlike trial.old.added trial.old.collection.index.stamps trial.old.collection.entries trial.old.list.points.items trial.old.handles.items }
+    ensures alike { OnOk result (AreAlike trial.new.added trial.new.collection.index.stamps trial.new.collection.entries trial.new.list.points.items trial.new.handles.items) }
+    ensures added { trial.new.added ≡ trial.old.added }
+{
+    if most == 0 {
+        return Ok(());
+    }
+    for _ in 0..generator.below(most) {
+        trial.give_up(steps)?;
+    }
+    Ok(())
 }
 
 /// Compares both after an update, and in each round their points and their answers too.

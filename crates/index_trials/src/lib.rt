@@ -21,7 +21,7 @@ mod walking;
 pub use asking::answer_over;
 pub use bound::Bound;
 pub use collection::Collection;
-pub use comparing::check_indexes;
+pub use comparing::{check_given_up, check_indexes};
 pub use ends::{remove_newest, remove_oldest};
 pub use light::expect_light;
 pub use measuring::measure_index;

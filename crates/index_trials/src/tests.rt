@@ -2,7 +2,8 @@
 ghost use Rattle.std.specs.Prelude.{◌≡◌, ◌<◌, ◌≤◌, ◌^◌, IfOk, OnOk, length};
 
 use crate::{
-    Collection, Reading, answer_over, check_indexes, measure_index, remove_newest, remove_oldest,
+    Collection, Reading, answer_over, check_given_up, check_indexes, measure_index, remove_newest,
+    remove_oldest,
 };
 use map_samples::{Failure, Watch};
 use map_shapes::{CountIn, Point, Rect};
@@ -236,6 +237,21 @@ fn rebuilds_with_five_live(rt: HostRuntime) -> Result<(), Fail> {
             assert_eq!(rt; seen, wanted);
         }
     }
+    Ok(())
+}
+
+fn gives_up<L: Ledger>(alloc: Global, blank: Blank) -> Result<(), Failure>
+    requires name { blank.name ≡ L.name }
+    requires parts { blank.parts ≡ L.parts }
+    requires shares { blank.parts ≡ SHARES }
+{
+    check_given_up(alloc, 1, &mut Steps::<L>::new(blank))
+}
+
+/// Updates that are given up change no item, and leave the bounds on what is dead.
+#[test]
+fn updates_are_given_up(rt: HostRuntime) -> Result<(), Fail> {
+    gives_up::<Brand>(rt.alloc(), blank())?;
     Ok(())
 }
 

@@ -79,6 +79,16 @@ impl Trial {
         Ok(())
     }
 
+    /// Begins an update that doesn't come, as one to which memory is refused.
+    pub fn give_up<L: Ledger>(&mut self, steps: &mut Steps<L>) -> Result<(), Failure>
+        requires alike { AreAlike self.old.added self.old.collection.index.stamps self.old.collection.entries self.old.list.points.items self.old.handles.items }
+        ensures alike { OnOk result (AreAlike self.new.added self.new.collection.index.stamps self.new.collection.entries self.new.list.points.items self.new.handles.items) }
+        ensures added { self.new.added ≡ self.old.added }
+    {
+        self.collection.give_up(steps)?;
+        Ok(())
+    }
+
     /// How many points are live, by the list.
     pub fn live(&self) -> usize
         ensures { result ≡ length self.now.list.points.items }
