@@ -7,7 +7,7 @@ use Rattle.std.proofs.lemmas.List.Elements.{All-nil}
 use Rattle.query_laws.proofs.Permutations.{Permuted-length}
 use Rattle.builder_trait.specs.Parts.{Contents}
 use Rattle.id_chain.specs.Chain.{Entry, is_linked, before, IsCursor, before_cursor}
-use Rattle.query_laws.specs.Permuted.{Permuted}
+use Rattle.query_laws.specs.Permuted.{Permuted, nothing}
 use Rattle.id_chain.specs.StampsRise.{StampsRise}
 use Rattle.level_slots.specs.Slots.{Stacked, weight_of, live_items, all_items}
 use Rattle.global_rebuild.specs.Index.{Shadow, Indexed, IsShadowOf, IsIndexOf, IsIndex, IsInTime, live_in, stamp_at}
@@ -31,6 +31,15 @@ module _ {P Item : Type 0} (contents : P → Contents Item) (stamp : Item → �
     below = All-nil (λ x. stamp x < 0);
     quiet = λ none. omega arith;
     in_time = λ r is. absurd cc;
+  }
+
+  pub IsIndexOf-empty : IsIndexOf contents stamp (record { main = record { levels = []; spare = 0; starters = 0 }; shadow = None; retired = None; stamps = 0 }) []
+  IsIndexOf-empty = record {
+    live = nothing;
+    shadow = λ r is. absurd cc;
+    rise = omega arith;
+    differ = tt;
+    few = omega arith;
   }
 
   -- only the shadow is another

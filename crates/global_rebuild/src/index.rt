@@ -49,7 +49,8 @@ impl<B: Builder> Model for Index<B> {
 impl<B: Builder> Index<B> {
     /// An index of no items. It takes no memory; [`Index::prepare`] takes its from `alloc`.
     pub fn new(alloc: Global) -> Index<B>
-        ensures { result ≡ record { main = record { levels = []; spare = 0; starters = 0 }; shadow = None; retired = None; stamps = 0 } }
+        ensures empty { result ≡ record { main = record { levels = []; spare = 0; starters = 0 }; shadow = None; retired = None; stamps = 0 } }
+        ensures chain { IsIndexOf B.Part.Part.contents B.Item.stamp result [] }
     {
         Index {
             alloc,

@@ -54,15 +54,18 @@ impl<I: Copy> Chain<I> {
         }
     }
 
-    /// Makes room for one more append. Where there is room it does nothing, and is `Ok`.
-    pub fn reserve(&mut self) -> Result<(), NoMemory>
-        ensures room { OnOk result (1 ≤ self.new.spare) }
+    /// Makes room for so many more appends. Where there is room it does nothing, and is `Ok`.
+    pub fn reserve(&mut self, additional: usize) -> Result<(), NoMemory>
+        ensures room { OnOk result (additional ≤ self.new.spare) }
         ensures entries { self.new.entries ≡ self.old.entries }
         ensures spare { self.old.spare ≤ self.new.spare }
-        ensures succeeds { 1 ≤ self.old.spare → IsOk result }
-        ensures had_room { 1 ≤ self.old.spare → self.new ≡ self.old }
+        ensures succeeds { additional ≤ self.old.spare → IsOk result }
+        ensures had_room { additional ≤ self.old.spare → self.new ≡ self.old }
     {
-        self.nodes.reserve(1).map_err(NoMemory::from)
+        if additional <= self.spare() {
+            return Ok(());
+        }
+        self.nodes.reserve(additional).map_err(NoMemory::from)
     }
 
     /// How many appends need no further memory.

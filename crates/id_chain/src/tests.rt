@@ -9,7 +9,7 @@ use std::process::Abort;
 use std::test::Fail;
 
 fn add<I: Copy>(chain: &mut Chain<I>, item: I) -> Result<Handle, NoMemory> {
-    chain.reserve()?;
+    chain.reserve(1)?;
     Ok(chain.append(item))
 }
 
@@ -114,7 +114,7 @@ fn walks_while_entries_come_and_go(rt: HostRuntime) -> Result<(), Fail> {
     assert_eq!(rt; cursor, Some(c));
     let (item, cursor) = hand_over(&chain, c);
     assert_eq!(rt; (item, cursor), (3, None));
-    chain.reserve()?;
+    chain.reserve(1)?;
     let cursor = append_beside(&mut chain, cursor, 4);
     assert_eq!(rt; (cursor, chain.last()), (Some(b), Some(b)));
     Ok(())

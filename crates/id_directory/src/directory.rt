@@ -23,6 +23,8 @@ pub struct Directory<I: Named> {
     handles: BTreeMap<u64, Option<Handle>>,
     adds: u64,
     pending: Option<u64>,
+    // For how many items the chain takes its memory at once.
+    most: usize,
 }
 
 impl<I: Named> Model for Directory<I> {
@@ -40,8 +42,9 @@ impl<I: Named> Model for Directory<I> {
 }
 
 impl<I: Named> Directory<I> {
-    /// An empty directory, which takes its memory from `alloc` later.
-    pub fn new(alloc: Global) -> Directory<I>
+    /// An empty directory, which takes its memory from `alloc` later: the chain's for `most` items at once, with the first add, so that no
+    /// later add copies the chain, and the map's node by node. There may be more items than `most`.
+    pub fn new(alloc: Global, most: usize) -> Directory<I>
         ensures { result ≡ record { entries = []; adds = 0; pending = None } }
     {
         Directory {
@@ -49,6 +52,7 @@ impl<I: Named> Directory<I> {
             handles: BTreeMap::new(alloc),
             adds: 0,
             pending: None,
+            most,
         }
     }
 
@@ -69,7 +73,9 @@ impl<I: Named> Directory<I> {
         ensures prepared { OnOk result (self.new ≡ record self.old { pending = Some id }) }
         ensures refused { OnErr result (self.new ≡ self.old) }
     {
-        self.chain.reserve()?;
+        if self.chain.spare() == 0 {
+            self.chain.reserve(self.most.max(1))?;
+        }
         self.handles.insert(id, None)?;
         self.pending = Some(id);
         Ok(())

@@ -28,7 +28,7 @@ fn put(directory: &mut Directory<Point>, id: u64, rt: &impl Abort) -> Result<Han
 
 #[test]
 fn finds_and_lists(rt: HostRuntime) -> Result<(), Fail> {
-    let mut directory = Directory::new(rt.alloc());
+    let mut directory = Directory::new(rt.alloc(), 2);
     directory.prepare_add(5)?;
     directory.cancel_add();
     assert_eq!(rt; directory.find(5), None);

@@ -34,15 +34,6 @@ module _ (slope base g touches : ℕ) where
       IsWithin-more (IsWithin-then h h') (omega (arith, fewer)) (omega arith) (omega arith)
 
 module _ {P Item : Type 0} (contents : P → Contents Item) (stamp : Item → ℕ) where
-  pub IsIndexOf-empty : IsIndexOf contents stamp (record { main = record { levels = []; spare = 0; starters = 0 }; shadow = None; retired = None; stamps = 0 }) []
-  IsIndexOf-empty = record {
-    live = nothing;
-    shadow = λ r is. absurd cc;
-    rise = omega arith;
-    differ = tt;
-    few = omega arith;
-  }
-
   -- as many are live as are linked
   pub light_of : (i : Indexed P Item) (es es' : List (Entry Item)) (g : ℕ) → IsIndexOf contents stamp i es → es ≡ es' → 2 * length es' + 10 < 2 ^ (g + 1)
       → 2 * live_in contents i.main + 10 < 2 ^ (g + 1)

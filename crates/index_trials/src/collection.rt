@@ -43,6 +43,15 @@ impl<B: Builder> Collection<B> {
         }
     }
 
+    /// Takes the chain's memory for so many more adds at once, so that none of them copies the chain.
+    ///
+    /// `NoMemory` where it isn't given.
+    pub fn reserve(&mut self, additional: usize) -> Result<(), NoMemory>
+        ensures { self.new ≡ self.old }
+    {
+        self.chain.reserve(additional)
+    }
+
     /// Adds an item, whose stamp is above that of each item before it.
     ///
     /// `NoMemory` where memory for it isn't given. The items are then as before.
@@ -64,7 +73,7 @@ impl<B: Builder> Collection<B> {
         ensures cost { (g : ℕ) → 2 * length self.old.entries + 10 < 2 ^ (g + 1)
             → IsWithin (6 * quotas B.SLOPE B.BASE 0 g) (18 * g + 6) (B.Part.Part.mark_touches g) steps.old steps.new }
     {
-        self.chain.reserve()?;
+        self.chain.reserve(1)?;
         self.index.prepare(&self.chain, steps)?;
         let handle = self.chain.append(item);
         self.index.commit_insert(&self.chain, handle, steps);

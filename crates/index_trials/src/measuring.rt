@@ -47,6 +47,7 @@ fn measure_order<R: Print + Clock + AllocGlobal, L: Ledger>(
 {
     let size = (1u64 << level).min(MOST_POINTS);
     let mut measured = Measured::new(watch.rt.alloc());
+    measured.collection.reserve(size as usize)?;
     grow(watch, generator, order, size, &mut measured, steps)?;
     let pairs = (size * 3).min(MOST_UPDATES) / 2;
     renew(watch, generator, order, pairs, &mut measured, steps)

@@ -23,17 +23,6 @@ module _ {P Item : Type 0} where
       subst (λ m. IsWithin (if_there index turns) m touches old new) (sym (there index i marks is))
       (subst (λ t. IsWithin t marks touches old new) (sym (there index i turns is)) h)
 
--- an index without items
-module _ {P Item : Type 0} (contents : P → Contents Item) (stamp : Item → ℕ) where
-  pub IsIndexOf-empty : IsIndexOf contents stamp (record { main = record { levels = []; spare = 0; starters = 0 }; shadow = None; retired = None; stamps = 0 }) []
-  IsIndexOf-empty = record {
-    live = nothing;
-    shadow = λ r is. absurd cc;
-    rise = omega arith;
-    differ = tt;
-    few = omega arith;
-  }
-
 -- where items are live there are parts
 module _ {P Item : Type 0} (contents : P → Contents Item) where
   some_in : (ps : List P) → 0 < length (flat_map (λ p. live_of (contents p)) ps) → 1 ≤ length ps

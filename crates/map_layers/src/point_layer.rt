@@ -73,7 +73,7 @@ impl PointLayer {
     {
         PointLayer {
             name,
-            directory: Directory::new(alloc),
+            directory: Directory::new(alloc, MOST_ITEMS),
             range: new_in(alloc, has_range),
         }
     }
