@@ -19,7 +19,7 @@ use Rattle.map_shapes.specs.Questions.{is_in}
 use Rattle.range_tree.specs.declared.measure.Measure.{Measure}
 use Rattle.range_tree.specs.declared.measure.Measure.TheVariants.{Count, Weight}
 use Rattle.range_tree.specs.Measures.{measure_of, measure_in}
-use Rattle.range_tree.specs.Heights.{levels_for}
+use Rattle.range_tree.specs.Heights.{levels_for, levels_to, leaf_height, most_scanned}
 use Rattle.range_tree.proofs.HeightLemmas.{height_of-above}
 
 -- what was spent, and what the spans and the points that are left may cost, is within the bound of all spans and some points
@@ -28,40 +28,35 @@ IsPaid old new items left points = let h = height_of items in
     (n : ℕ) × Spends old new 0 0 n × (n + left * (5 * (h + 2)) ≤ 16 * ((h + 2) * (h + 2)) + points * (5 * (h + 2)))
 
 -- a few places at both ends cost no more than a low tree's bound leaves
-high_tree : (d : ℕ) → 1 ≤ d → 4 * (d + 6 + 1) + 4 * (d * (d + 6 + 1)) + 4 * 254 + 2 * d * (5 * (d + 6 + 2)) ≤ 16 * ((d + 6 + 2) * (d + 6 + 2))
-high_tree d some = omega arith
+ends_few : (items h ends : ℕ) → items ≤ 2 ^ h → ends ≤ min most_scanned items → ends ≤ 15 * h + 15
+ends_few items h ends few small = elim (cases_lt h 4) [
+  | inl low ↦
+      let three : h ≤ 3 = omega arith in
+      let less : 2 ^ h ≤ 2 ^ 3 = pow-le-pow_right (omega arith) three in
+      omega arith
+  | inr high ↦ omega arith
+]
 
-budget : (items h ends : ℕ) → items ≤ 2 ^ h → ends ≤ min 254 items → 4 * (h + 1) + 4 * ((h - 6) * (h + 1)) + 4 * ends + 2 * (h - 6) * (5 * (h + 2)) ≤ 16 * ((h + 2) * (h + 2))
-budget items h ends few small = by (cases_lt h 7) (cases_lt h 4)
-  where
-    low_tree : h < 7 → ends ≤ 15 * h + 15 → 4 * (h + 1) + 4 * ((h - 6) * (h + 1)) + 4 * ends + 2 * (h - 6) * (5 * (h + 2)) ≤ 16 * ((h + 2) * (h + 2))
-    low_tree low few_ends =
-        let zero_d : h - 6 ≡ 0 = omega arith in
-        omega (arith, few_ends, ap (λ d. d * (h + 1)) zero_d, ap (λ d. d * (5 * (h + 2))) zero_d)
+at_height : (h : ℕ) → (levels_to h ≡ 0) ⊎ (levels_to h + (leaf_height - 1) ≡ h)
+at_height h = elim (cases_lt h leaf_height) [
+  | inl low ↦ inl (omega arith)
+  | inr high ↦ inr (omega arith)
+]
 
-    by : (h < 7) ⊎ (7 ≤ h) → (h < 4) ⊎ (4 ≤ h) → 4 * (h + 1) + 4 * ((h - 6) * (h + 1)) + 4 * ends + 2 * (h - 6) * (5 * (h + 2)) ≤ 16 * ((h + 2) * (h + 2))
-    by (inl low) (inl lower) =
-        let three : h ≤ 3 = omega arith in
-        let less : 2 ^ h ≤ 2 ^ 3 = pow-le-pow_right (omega arith) three in
-        low_tree low (omega (arith, less))
-    by (inl low) (inr higher) =
-        let six : h ≤ 6 = omega arith in
-        let le : 2 ^ h ≤ 2 ^ 6 = pow-le-pow_right (omega arith) six in
-        low_tree low (omega (arith, le))
-    by (inr high) _ =
-        let is : h - 6 + 6 ≡ h = omega arith in
-        let tall = high_tree (h - 6) (omega arith) in
-        omega (arith, small, subst (λ m. 4 * (m + 1) + 4 * ((h - 6) * (m + 1)) + 4 * 254 + 2 * (h - 6) * (5 * (m + 2)) ≤ 16 * ((m + 2) * (m + 2))) is tall)
+budget : (h d ends : ℕ) → (d ≡ 0) ⊎ (d + (leaf_height - 1) ≡ h) → ends ≤ 15 * h + 15
+    → 4 * (h + 1) + 4 * (d * (h + 1)) + 4 * ends + 2 * d * (5 * (h + 2)) ≤ 16 * ((h + 2) * (h + 2))
+budget h d ends (inl none) few = rw none (omega arith)
+budget h d ends (inr is) few = rw (← is) (omega arith)
 
 -- once the pieces are found and both ends are taken
-pub paid_none : {old cut new : Counts} (items spans points left ends : ℕ) → left ≡ spans + points → items < 2 ^ 64 → spans ≤ 2 * levels_for items → ends ≤ min 254 items
-    → ((h : ℕ) → items ≤ 2 ^ h → Spends old cut 0 0 (4 * (h + 1) + 4 * ((h - 6) * (h + 1)))) → Spends cut new 0 0 (4 * ends) → IsPaid old new items left points
+pub paid_none : {old cut new : Counts} (items spans points left ends : ℕ) → left ≡ spans + points → items < 2 ^ 64 → spans ≤ 2 * levels_for items → ends ≤ min most_scanned items
+    → ((h : ℕ) → items ≤ 2 ^ h → Spends old cut 0 0 (4 * (h + 1) + 4 * (levels_to h * (h + 1)))) → Spends cut new 0 0 (4 * ends) → IsPaid old new items left points
 paid_none items spans points left ends is small few short cost taken =
     let h = height_of items in
     let within = height_of-above items small in (
-      4 * (h + 1) + 4 * ((h - 6) * (h + 1)) + 4 * ends,
+      4 * (h + 1) + 4 * (levels_to h * (h + 1)) + 4 * ends,
       Spends-then (cost h within) taken,
-      omega (arith, budget items h ends within short, mul-le-mul_right (5 * (h + 2)) few, ap (λ n. n * (5 * (h + 2))) is),
+      omega (arith, budget h (levels_to h) ends (at_height h) (ends_few items h ends within short), mul-le-mul_right (5 * (h + 2)) few, ap (λ n. n * (5 * (h + 2))) is),
     )
 
 -- some more of them

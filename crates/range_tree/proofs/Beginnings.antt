@@ -7,7 +7,7 @@ use Rattle.map_shapes.specs.declared.point.Point.{Point}
 use Rattle.range_tree.specs.declared.level.Level.{Level}
 use Rattle.range_tree.specs.declared.tree.Tree.{Tree}
 use Rattle.row_blocks.specs.Heights.{height_of}
-use Rattle.range_tree.specs.Heights.{levels_for}
+use Rattle.range_tree.specs.Heights.{levels_for, levels_to, height_at}
 use Rattle.range_tree.specs.Rows.{before, IsRow, counted}
 use Rattle.range_tree.specs.Growing.{IsPutting, IsEmptyLevel, IsCounting, IsComing, IsGrowing, turned}
 use Rattle.range_tree.proofs.Begins.{IsRow-top}
@@ -54,7 +54,7 @@ pub few_points : (n level : ℕ) → level < 32 → n ≤ 2 ^ level → n ≤ 2 
 few_points n level small few =
     let le : level ≤ 31 = omega arith in let bound : 2 ^ level ≤ 2 ^ 31 = pow-le-pow_right (omega arith) le in omega arith
 
-pub levels_for-within : (n level : ℕ) → level < 32 → n ≤ 2 ^ level → levels_for n ≤ level - 6
+pub levels_for-within : (n level : ℕ) → level < 32 → n ≤ 2 ^ level → levels_for n ≤ levels_to level
 levels_for-within n level small few = levels_for-few n level (omega (arith, few_points n level small few)) few
 
 some_points : (n used : ℕ) → used ≡ levels_for n → 0 < used → 0 < n
@@ -73,11 +73,11 @@ module _ (b : Progress Point) (tree : Tree) (underway : IsUnderway before b) (co
   few : length b.items ≤ 2 ^ 31
   few = few_points (length b.items) b.at_level putting.small underway.few
 
-  whole : {level : Level} → tree.at < tree.used → slice_get tree.levels.items 0 ≡ Some level → IsRow b.items (tree.used + 6 - tree.at) level.entries.items
+  whole : {level : Level} → tree.at < tree.used → slice_get tree.levels.items 0 ≡ Some level → IsRow b.items (height_at tree.used tree.at) level.entries.items
   whole {level} some found =
-      let height : tree.used + 6 - tree.at ≡ height_of (length b.items) =
+      let height : height_at tree.used tree.at ≡ height_of (length b.items) =
       omega (arith, levels_for-some (length b.items) (omega arith)) in
-      IsRow-top b level.entries.items underway complete (putting.places level found) (putting.known level found) (tree.used + 6 - tree.at)
+      IsRow-top b level.entries.items underway complete (putting.places level found) (putting.known level found) (height_at tree.used tree.at)
       (subst (λ h. length b.items ≤ 2 ^ h) (sym height) (height_of-above (length b.items) (omega (arith, few))))
 
   pub IsGrowing-begun : IsGrowing b tree
@@ -93,8 +93,8 @@ module _ (b : Progress Point) (tree : Tree) (underway : IsUnderway before b) (co
     here = λ level some found.
         IsCounting-begun (whole some (top found)) (putting.uncounted level (top found)) (some_points (length b.items) tree.used used (omega arith));
     next = λ level next more found below.
-        subst (IsComing level next (tree.used + 5 - tree.at)) (sym lower)
-        (IsComing-begun (tree.used + 5 - tree.at) (putting.uncounted level (top found)) (putting.below (tree.at + 1) next (omega arith) below));
+        subst (IsComing level next (height_at tree.used (tree.at + 1))) (sym lower)
+        (IsComing-begun (height_at tree.used (tree.at + 1)) (putting.uncounted level (top found)) (putting.below (tree.at + 1) next (omega arith) below));
     known = λ next more below.
         let none = (putting.below (tree.at + 1) next (omega arith) below).entries in
         λ k d within. absurd (omega (arith, ap length none));

@@ -11,7 +11,7 @@ use Rattle.map_shapes.specs.declared.point.Point.{Point}
 use Rattle.range_tree.specs.declared.entry.Entry.{Entry}
 use Rattle.range_tree.specs.declared.level.Level.{Level}
 use Rattle.range_tree.specs.declared.tree.Tree.{Tree}
-use Rattle.range_tree.specs.Heights.{levels_for}
+use Rattle.range_tree.specs.Heights.{levels_for, levels_to, height_at}
 use Rattle.range_tree.specs.Rows.{IsEntryOf, AreLevels, IsLevel}
 use Rattle.range_tree.specs.Growing.{HasRoom, IsPutting, IsCounting, IsGrowing, AreKept, emptied, turned}
 use Rattle.range_tree.proofs.Beginnings.{few_points, levels_for-within}
@@ -94,7 +94,7 @@ AreLevels-grown b tree growing none =
       as_many = many ∙ growing.used;
       each = λ q level found.
           let there = slice_get-take tree.used tree.levels.items q level found in
-          subst (λ h. IsLevel b.items (replicate (length b.items) true) h level) (ap (λ n. n + 6 - q) (sym many))
+          subst (λ h. IsLevel b.items (replicate (length b.items) true) h level) (ap (λ n. height_at n q) (sym many))
           (growing.built q level (omega (arith, at_end b tree growing none, there.0)) there.1);
     }
 
@@ -122,7 +122,7 @@ uncounted_at : {cap : ℕ} (level : Level) → level ≡ empty_level cap → lev
 uncounted_at level is = ap (λ l. l.counts) is ∙ ap (λ l. nothing_put l.counts.capacity) (sym is)
 
 -- emptied levels are those of a builder that begins
-pub IsPutting-emptied : (n : ℕ) (levels : List Level) → n < 32 → length levels ≡ n - 6 → All (HasRoom (2 ^ n)) levels
+pub IsPutting-emptied : (n : ℕ) (levels : List Level) → n < 32 → length levels ≡ levels_to n → All (HasRoom (2 ^ n)) levels
     → IsPutting (begun n) (map emptied levels)
 IsPutting-emptied n levels small made room =
     let at = emptied_at (2 ^ n) levels room in record {

@@ -9,6 +9,7 @@ use Rattle.weak_delete.specs.declared.place.Place.{Place}
 use Rattle.weak_delete.specs.Places.{is_live, place_at, no_place, IsLive, cleared}
 use Rattle.builder_trait.specs.Parts.{Contents}
 use Rattle.map_shapes.specs.declared.point.Point.{Point}
+use Rattle.range_tree.specs.Heights.{height_at}
 use Rattle.range_tree.specs.declared.entry.Entry.{Entry}
 use Rattle.range_tree.specs.declared.level.Level.{Level}
 use Rattle.range_tree.specs.Rows.{entry_at, no_entry, IsEntryOf, IsBlock, IsRow, IsLevel, counted}
@@ -158,17 +159,17 @@ module _ {X : Type 0} where
 -- the levels before a row are without the place
 abbrev pub AreCleared : Contents Point → List Level → ℕ → ℕ → ℕ → Type 0
 AreCleared part levels count place row = (q : ℕ) (level : Level) → q < row → slice_get levels q ≡ Some level
-    → IsLevel part.items (set part.flags place false) (count + 6 - q) level
+    → IsLevel part.items (set part.flags place false) (height_at count q) level
 
 -- one more of them
 pub cleared_more : (part : Contents Point) (levels : List Level) (count place row : ℕ) (new : Level) → AreCleared part levels count place row
-    → row < length levels → IsLevel part.items (set part.flags place false) (count + 6 - row) new
+    → row < length levels → IsLevel part.items (set part.flags place false) (height_at count row) new
     → AreCleared part (set levels row new) count place (row + 1)
 cleared_more part levels count place row new before below is q level within at =
     elim (cases_eq q row) [
       | inl same ↦
           let here : new ≡ level = read_written levels row new level below (subst (λ r. slice_get (set levels row new) r ≡ Some level) same at) in
-          subst (λ (l : Level). IsLevel part.items (set part.flags place false) (count + 6 - q) l) here
-          (subst (λ r. IsLevel part.items (set part.flags place false) (count + 6 - r) new) (sym same) is)
+          subst (λ (l : Level). IsLevel part.items (set part.flags place false) (height_at count q) l) here
+          (subst (λ r. IsLevel part.items (set part.flags place false) (height_at count r) new) (sym same) is)
       | inr apart ↦ before q level (let lt : q < row = omega arith in lt) (sym (slice_get-set_other levels row q new apart) ∙ at)
     ]

@@ -8,6 +8,7 @@ use Rattle.std.proofs.lemmas.List.Elements.{All-push}
 use Rattle.weak_delete.specs.Places.{LivePlaces, nothing_put}
 use Rattle.builder_trait.specs.Builders.{Progress}
 use Rattle.map_shapes.specs.declared.point.Point.{Point}
+use Rattle.range_tree.specs.Heights.{height_at}
 use Rattle.range_tree.specs.declared.entry.Entry.{Entry}
 use Rattle.range_tree.specs.declared.level.Level.{Level}
 use Rattle.range_tree.specs.declared.tree.Tree.{Tree}
@@ -155,13 +156,13 @@ module _ (b : Progress Point) (tree new : Tree) (growing : IsGrowing b tree) (le
           (copied.capacity ∙ old.0, ap (λ s. s.capacity) copied.counts ∙ old.1)
 
   coming : (other next : Level) → tree.at + 1 < tree.used → grown ≡ other → slice_get new.levels.items (tree.at + 1) ≡ Some next
-      → IsComing other next (tree.used + 5 - tree.at) tree.lower
+      → IsComing other next (height_at tree.used (tree.at + 1)) tree.lower
   coming other next deep is found = by (below next found)
     where
       by : (before : Level) × (slice_get tree.levels.items (tree.at + 1) ≡ Some before) × IsCopiedOnce (tree.at + 1 < tree.used) before next entry
-          → IsComing other next (tree.used + 5 - tree.at) tree.lower
+          → IsComing other next (height_at tree.used (tree.at + 1)) tree.lower
       by (before, was, copied) =
-          subst (λ l. IsComing l next (tree.used + 5 - tree.at) tree.lower) is
+          subst (λ l. IsComing l next (height_at tree.used (tree.at + 1)) tree.lower) is
           (IsComing-once b.items level grown entry once still (growing.next level before deep here was)
           (record { entries = λ _. copied.entries deep; capacity = copied.capacity; counts = copied.counts }))
 
@@ -189,11 +190,11 @@ module _ (b : Progress Point) (tree new : Tree) (growing : IsGrowing b tree) (le
         (growing.built q other (omega arith) (sym (others q (omega arith) (omega arith)) ∙ found));
     here = λ other more found.
         subst (λ h. IsCounting b.items h other) (omega arith)
-        (subst (IsCounting b.items (tree.used + 6 - tree.at)) (it (subst (λ k. slice_get new.levels.items k ≡ Some other) at found))
+        (subst (IsCounting b.items (height_at tree.used tree.at)) (it (subst (λ k. slice_get new.levels.items k ≡ Some other) at found))
         (IsCounting-once b.items level grown entry once (growing.here level some here)));
     next = λ other next more found follows.
         subst (λ h. IsComing other next h new.lower) (omega arith)
-        (subst (IsComing other next (tree.used + 5 - tree.at)) (sym lower)
+        (subst (IsComing other next (height_at tree.used (tree.at + 1))) (sym lower)
         (coming other next (omega arith) (it (subst (λ k. slice_get new.levels.items k ≡ Some other) at found))
         (subst (λ k. slice_get new.levels.items (k + 1) ≡ Some next) at follows)));
     known = λ next more found. known next (omega arith) (subst (λ k. slice_get new.levels.items (k + 1) ≡ Some next) at found);

@@ -20,6 +20,7 @@ use Rattle.builder_trait.specs.Parts.{Contents}
 use Rattle.map_shapes.specs.declared.point.Point.{Point}
 use Rattle.map_shapes.specs.declared.rect.Rect.{Rect}
 use Rattle.map_shapes.specs.Questions.{is_in}
+use Rattle.range_tree.specs.Heights.{levels_to, leaf_height, height_at}
 use Rattle.range_tree.specs.declared.entry.Entry.{Entry}
 use Rattle.range_tree.specs.declared.level.Level.{Level}
 use Rattle.range_tree.specs.declared.span.Span.{Span}
@@ -55,11 +56,11 @@ multiple_back {to} {len} {height} multiple is some odd =
 
 -- the level at a height
 pub level_at : {part : Contents Point} {levels : List Level} → AreLevels part levels → (height : ℕ) → HasRow levels height
-    → (d : Level) → IsLevel part.items part.flags height (get_or levels (length levels + 6 - height) d)
+    → (d : Level) → IsLevel part.items part.flags height (get_or levels (height_at (length levels) height) d)
 level_at {part} {levels} tree height within d =
-    let row : ℕ = length levels + 6 - height in
+    let row : ℕ = height_at (length levels) height in
     let inside : row < length levels = omega arith in
-    let back : length levels + 6 - row ≡ height = omega arith in
+    let back : height_at (length levels) row ≡ height = omega arith in
     subst (λ h. IsLevel part.items part.flags h (get_or levels row d)) back (tree.each row (get_or levels row d) (slice_get-get_or levels row d inside))
 
 -- a whole block of a row
@@ -78,18 +79,18 @@ pub record IsTaken (part : Contents Point) (levels : List Level) (rect : Rect) (
 
 -- what the search in a block has found
 pub taken : {part : Contents Point} {levels : List Level} {rect : Rect} {height start end : ℕ} {span : Span} (d : Level) → AreLevels part levels
-    → HasRow levels height → span.row ≡ length levels + 6 - height → span.from ≤ span.to → span.to ≤ end → end ≤ length part.items
+    → HasRow levels height → span.row ≡ height_at (length levels) height → span.from ≤ span.to → span.to ≤ end → end ≤ length part.items
     → AreWithinAbscissas part start end rect
-    → ((p : Contents Point) (h : ℕ) → IsRow p.items h (get_or levels (length levels + 6 - height) d).entries.items
+    → ((p : Contents Point) (h : ℕ) → IsRow p.items h (get_or levels (height_at (length levels) height) d).entries.items
     → AreWithinAbscissas p start end rect
-    → Permuted (live_in_slice p (get_or levels (length levels + 6 - height) d).entries.items span.from span.to)
+    → Permuted (live_in_slice p (get_or levels (height_at (length levels) height) d).entries.items span.from span.to)
     (filter (is_in rect) (live_between p start end)))
     → IsTaken part levels rect start end span
 taken {part} {levels} {rect} {height} {start} {end} {span} d tree within row ordered inside most abscissas found =
-    let level : Level = get_or levels (length levels + 6 - height) d in
+    let level : Level = get_or levels (height_at (length levels) height) d in
     let is_level : IsLevel part.items part.flags height level = level_at tree height within d in
     let there : slice_get levels span.row ≡ Some level =
-    ap (slice_get levels) row ∙ slice_get-get_or levels (length levels + 6 - height) d (omega arith) in
+    ap (slice_get levels) row ∙ slice_get-get_or levels (height_at (length levels) height) d (omega arith) in
     let as_many : length level.counts.places ≡ length part.items =
     ap length is_level.counts ∙ length-map level.entries.items _ ∙ is_level.row.entry_each in
     let only : live_in_span part levels span ≡ live_in_slice part level.entries.items span.from span.to =
@@ -281,7 +282,7 @@ pub record IsNextBlock (entries : List Entry) (start end : ℕ) : Type 0 where
 
 pub block_front : {part : Contents Point} {levels : List Level} {rect : Rect} {height len : ℕ} {cover : Cover} (d : Level) → len ≡ 2 ^ height
     → HasRow levels height → AreLevels part levels → IsCover part levels rect height cover → cover.from < cover.to
-    → IsNextBlock (get_or levels (length levels + 6 - height) d).entries.items cover.from (cover.from + len)
+    → IsNextBlock (get_or levels (height_at (length levels) height) d).entries.items cover.from (cover.from + len)
 block_front {part} {levels} {rect} {height} {len} {cover} d is within tree old some =
     let level = level_at tree height within d in
     let apart : cover.from + 2 ^ height ≤ cover.to = front_apart old some in
@@ -293,7 +294,7 @@ block_front {part} {levels} {rect} {height} {len} {cover} d is within tree old s
 
 pub block_back : {part : Contents Point} {levels : List Level} {rect : Rect} {height len : ℕ} {cover : Cover} (d : Level) → len ≡ 2 ^ height
     → HasRow levels height → AreLevels part levels → IsFrontCovered part levels rect height cover → cover.from < cover.to
-    → IsNextBlock (get_or levels (length levels + 6 - height) d).entries.items (cover.to - len) cover.to
+    → IsNextBlock (get_or levels (height_at (length levels) height) d).entries.items (cover.to - len) cover.to
 block_back {part} {levels} {rect} {height} {len} {cover} d is within tree old some =
     let level = level_at tree height within d in
     let apart : cover.from + 2 ^ height ≤ cover.to = back_apart old some in
@@ -307,7 +308,7 @@ block_back {part} {levels} {rect} {height} {len} {cover} d is within tree old so
 -- before the loop nothing is covered
 pub IsCover-init : {part : Contents Point} {levels : List Level} {rect : Rect} {cover : Cover} → cover.spans.items ≡ [] → cover.from ≡ cover.low → cover.to ≡ cover.high
     → cover.low ≤ cover.high → cover.high ≤ length part.items → AreWithinAbscissas part cover.low cover.high rect
-    → (cover.low < cover.high → IsMultiple cover.low 7) → (cover.low < cover.high → IsMultiple cover.high 7) → IsCover part levels rect 7 cover
+    → (cover.low < cover.high → IsMultiple cover.low leaf_height) → (cover.low < cover.high → IsMultiple cover.high leaf_height) → IsCover part levels rect leaf_height cover
 IsCover-init {part} {levels} {rect} {cover} none from to ordered within abscissas front back = record {
   covering = record {
     ordered = omega arith;
@@ -317,13 +318,13 @@ IsCover-init {part} {levels} {rect} {cover} none from to ordered within abscissa
     few = omega (arith, ap length none);
     points = rw (none, from, to) (Permuted-refl (filter (is_in rect) (live_between part cover.low cover.high)));
   };
-  front = λ some. subst (λ n. IsMultiple n 7) (sym from) (front (omega arith));
-  back = λ some. subst (λ n. IsMultiple n 7) (sym to) (back (omega arith));
+  front = λ some. subst (λ n. IsMultiple n leaf_height) (sym from) (front (omega arith));
+  back = λ some. subst (λ n. IsMultiple n leaf_height) (sym to) (back (omega arith));
 }
 
 -- at the end nothing is left: no two places of a part are so far apart
 pub none_left : {part : Contents Point} {levels : List Level} {rect : Rect} {height : ℕ} {cover : Cover} → AreLevels part levels
-    → height ≡ length levels + 7 → IsCover part levels rect height cover → cover.to ≤ cover.from
+    → height ≡ length levels + leaf_height → IsCover part levels rect height cover → cover.to ≤ cover.from
 none_left {part} {levels} {rect} {height} {cover} tree is old =
     elim (cases_lt cover.from cover.to) [ inl some ↦ absurd (far some) | inr none ↦ none ]
   where
@@ -340,7 +341,7 @@ none_left {part} {levels} {rect} {height} {cover} tree is old =
 
 -- then the spans hold all points of the rectangle among the leaves that were to be covered
 pub points_covered : {part : Contents Point} {levels : List Level} {rect : Rect} {height : ℕ} {cover : Cover} → AreLevels part levels
-    → height ≡ length levels + 7 → IsCover part levels rect height cover
+    → height ≡ length levels + leaf_height → IsCover part levels rect height cover
     → Permuted (flat_map (live_in_span part levels) cover.spans.items) (filter (is_in rect) (live_between part cover.low cover.high))
 points_covered {part} {levels} {rect} {height} {cover} tree is old =
     let nothing_more : flat_map (live_in_span part levels) cover.spans.items ++ filter (is_in rect) (live_between part cover.from cover.to)
@@ -371,16 +372,16 @@ points_cut part levels rect spans from low high behind to is flagged first order
     (composed (Permuted-append_left (f from low ++ f high to) middle) moved))
 
 -- a tree has fewer levels than one more than the height of a full one
-pub levels_few : {part : Contents Point} {levels : List Level} → AreLevels part levels → (h : ℕ) → length part.items ≤ 2 ^ h → length levels ≤ h - 6
+pub levels_few : {part : Contents Point} {levels : List Level} → AreLevels part levels → (h : ℕ) → length part.items ≤ 2 ^ h → length levels ≤ levels_to h
 levels_few {part} {levels} tree h few = omega (arith, tree.as_many, levels_for-few (length part.items) h (omega (arith, tree.few)) few)
 
--- and at most 25
-pub levels_small : {part : Contents Point} {levels : List Level} → AreLevels part levels → length levels ≤ 25
+-- and few
+pub levels_small : {part : Contents Point} {levels : List Level} → AreLevels part levels → length levels ≤ levels_to 31
 levels_small {part} {levels} tree = omega (arith, tree.as_many, levels_for-small (length part.items) tree.few)
 
 -- what one more level costs
-pub Spends-level : {old mid new : Counts} (k top : ℕ) → k < top → Spends old mid 0 0 (k * (4 * (top + 7))) → Spends mid new 0 0 (4 * (k + 7 + 1))
-    → Spends old new 0 0 ((k + 1) * (4 * (top + 7)))
+pub Spends-level : {old mid new : Counts} (k top : ℕ) → k < top → Spends old mid 0 0 (k * (4 * (top + leaf_height))) → Spends mid new 0 0 (4 * (k + leaf_height + 1))
+    → Spends old new 0 0 ((k + 1) * (4 * (top + leaf_height)))
 Spends-level k top below first second = Spends-within (Spends-then first second) refl refl (omega arith)
 
 -- a search in no more than 2 ^ h points
@@ -388,10 +389,10 @@ pub within_search : (n m h : ℕ) → n ≤ 2 ^ h → m ≤ n → m < 2 ^ (h + 1
 within_search n m h few le = omega (arith, pow_next h, pow_pos h)
 
 -- all levels, with the two searches before them
-pub Spends-cover : {old first second new : Counts} (k top h : ℕ) → k ≤ top → top ≤ h - 6 → Spends old first 0 0 (2 * (h + 1)) → Spends first second 0 0 (2 * (h + 1))
-    → Spends second new 0 0 (k * (4 * (top + 7))) → Spends old new 0 0 (4 * (h + 1) + 4 * ((h - 6) * (h + 1)))
-Spends-cover k top h done few a b c = Spends-within (Spends-then (Spends-then a b) c) refl refl (by (cases_lt h 7))
+pub Spends-cover : {old first second new : Counts} (k top h : ℕ) → k ≤ top → top ≤ levels_to h → Spends old first 0 0 (2 * (h + 1)) → Spends first second 0 0 (2 * (h + 1))
+    → Spends second new 0 0 (k * (4 * (top + leaf_height))) → Spends old new 0 0 (4 * (h + 1) + 4 * (levels_to h * (h + 1)))
+Spends-cover k top h done few a b c = Spends-within (Spends-then (Spends-then a b) c) refl refl (by (cases_lt h leaf_height))
   where
-    by : (h < 7) ⊎ (7 ≤ h) → 2 * (h + 1) + 2 * (h + 1) + k * (4 * (top + 7)) ≤ 4 * (h + 1) + 4 * ((h - 6) * (h + 1))
-    by (inl low) = omega (arith, ap (λ n. n * (4 * (top + 7))) (let none : k ≡ 0 = omega arith in none))
-    by (inr high) = omega (arith, mul-le k (4 * (top + 7)) (h - 6) (4 * (h + 1)) (omega arith) (omega arith))
+    by : (h < leaf_height) ⊎ (leaf_height ≤ h) → 2 * (h + 1) + 2 * (h + 1) + k * (4 * (top + leaf_height)) ≤ 4 * (h + 1) + 4 * (levels_to h * (h + 1))
+    by (inl low) = omega (arith, ap (λ n. n * (4 * (top + leaf_height))) (let none : k ≡ 0 = omega arith in none))
+    by (inr high) = omega (arith, mul-le k (4 * (top + leaf_height)) (levels_to h) (4 * (h + 1)) (omega arith) (omega arith))

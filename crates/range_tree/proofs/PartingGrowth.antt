@@ -13,7 +13,7 @@ use Rattle.map_shapes.specs.declared.point.Point.{Point}
 use Rattle.range_tree.specs.declared.entry.Entry.{Entry}
 use Rattle.range_tree.specs.declared.level.Level.{Level}
 use Rattle.range_tree.specs.declared.tree.Tree.{Tree}
-use Rattle.range_tree.specs.Heights.{levels_for}
+use Rattle.range_tree.specs.Heights.{levels_for, levels_to, height_at}
 use Rattle.range_tree.specs.Rows.{IsEntryOf, no_entry, entry_at, IsRow, IsLevel, counted}
 use Rattle.range_tree.specs.Growing.{HasRoom, IsEmptyLevel, start_of, IsParting, target_of, lower_after, turned, IsCounting, IsComing, IsGrowing}
 use Rattle.range_tree.proofs.HeightLemmas.{levels_for-small}
@@ -26,14 +26,14 @@ pub record IsGrown (b : Progress Point) (levels : List Level) (used at lower lef
   pub few : length b.items ≤ 2 ^ b.at_level
   pub used_is : used ≡ levels_for (length b.items)
   pub made : used ≤ length levels
-  pub all_made : length levels ≡ b.at_level - 6
+  pub all_made : length levels ≡ levels_to b.at_level
   pub room : All (HasRoom (2 ^ b.at_level)) levels
   pub at_within : at ≤ used
   pub built : (q : ℕ) (level : Level) → q < at → slice_get levels q ≡ Some level
-      → IsLevel b.items (replicate (length b.items) true) (used + 6 - q) level
-  pub here : (level : Level) → at < used → slice_get levels at ≡ Some level → IsCounting b.items (used + 6 - at) level
+      → IsLevel b.items (replicate (length b.items) true) (height_at used q) level
+  pub here : (level : Level) → at < used → slice_get levels at ≡ Some level → IsCounting b.items (height_at used at) level
   pub next : (level next : Level) → at + 1 < used → slice_get levels at ≡ Some level
-      → slice_get levels (at + 1) ≡ Some next → IsComing level next (used + 5 - at) lower
+      → slice_get levels (at + 1) ≡ Some next → IsComing level next (height_at used (at + 1)) lower
   pub known : (next : Level) → at + 1 < used → slice_get levels (at + 1) ≡ Some next → All (IsEntryOf b.items) next.entries.items
   pub beyond : (q : ℕ) (level : Level) → at + 1 < q → slice_get levels q ≡ Some level → IsEmptyLevel level
   pub left_is : (level : Level) → at < used → slice_get levels at ≡ Some level
@@ -81,17 +81,17 @@ pub record IsTurning (b : Progress Point) (levels : List Level) (used at k lower
   pub few : length b.items ≤ 2 ^ b.at_level
   pub used_is : used ≡ levels_for (length b.items)
   pub made : used ≤ length levels
-  pub all_made : length levels ≡ b.at_level - 6
+  pub all_made : length levels ≡ levels_to b.at_level
   pub room : All (HasRoom (2 ^ b.at_level)) levels
   pub inside : at < used
   pub built : (q : ℕ) (level : Level) → q < at → slice_get levels q ≡ Some level
-      → IsLevel b.items (replicate (length b.items) true) (used + 6 - q) level
+      → IsLevel b.items (replicate (length b.items) true) (height_at used q) level
   pub here : slice_get levels at ≡ Some level
-  pub row : IsRow b.items (used + 6 - at) level.entries.items
+  pub row : IsRow b.items (height_at used at) level.entries.items
   pub counts : level.counts.places ≡ map (counted b.items (replicate (length b.items) true)) level.entries.items
   pub is_sealed : level.counts.sealed ≡ true
   pub all : k + level.counts.left ≡ length level.counts.places
-  pub next : (next : Level) → at + 1 < used → slice_get levels (at + 1) ≡ Some next → IsParted b.items level next (used + 5 - at) k lower
+  pub next : (next : Level) → at + 1 < used → slice_get levels (at + 1) ≡ Some next → IsParted b.items level next (height_at used (at + 1)) k lower
   pub beyond : (q : ℕ) (level : Level) → at + 1 < q → slice_get levels q ≡ Some level → IsEmptyLevel level
   pub left_is : left + (length level.counts.places + k) ≡ (used - at) * (2 * length b.items)
   pub few_left : left < 2 ^ 38
@@ -129,7 +129,7 @@ module _ {b : Progress Point} {tree : Tree} (growing : IsGrowing b tree) (more :
         all = omega (arith, some.1);
         next = λ next deep below.
             let coming = growing.next level next deep at below in record {
-              parted = subst (λ k. IsParting level.entries.items next.entries.items (tree.used + 5 - tree.at) k tree.lower) same (coming.parted is_sealed);
+              parted = subst (λ k. IsParting level.entries.items next.entries.items (height_at tree.used (tree.at + 1)) k tree.lower) same (coming.parted is_sealed);
               uncounted = coming.uncounted;
               known = growing.known next deep below;
             };
@@ -162,7 +162,7 @@ parted_level next j e = record next { entries = record next.entries { items = se
 
 module _ {b : Progress Point} {levels : List Level} {used at k lower left : ℕ} {level : Level}
     (turning : IsTurning b levels used at k lower left level) where
-  pub shallow : used ≤ 25
+  pub shallow : used ≤ levels_to 31
   shallow =
       let low : b.at_level ≤ 31 = omega (arith, turning.small) in
       let most : 2 ^ b.at_level ≤ 2 ^ 31 = pow-le-pow_right (omega arith) low in
@@ -177,12 +177,12 @@ module _ {b : Progress Point} {levels : List Level} {used at k lower left : ℕ}
       let most : 2 ^ b.at_level ≤ 2 ^ 31 = pow-le-pow_right (omega arith) low in
       omega (arith, turning.few, turning.row.entry_each)
 
-  row_above : at + 1 < used → IsRow b.items (used + 5 - at + 1) level.entries.items
+  row_above : at + 1 < used → IsRow b.items (height_at used (at + 1) + 1) level.entries.items
   row_above deep =
-      let high : used + 6 - at ≡ used + 5 - at + 1 = omega arith in
+      let high : height_at used at ≡ height_at used (at + 1) + 1 = omega arith in
       subst (λ h. IsRow b.items h level.entries.items) high turning.row
 
-  pub few_lower : at + 1 < used → lower ≤ k - start_of (2 ^ (used + 5 - at)) k
+  pub few_lower : at + 1 < used → lower ≤ k - start_of (2 ^ (height_at used (at + 1))) k
   few_lower deep =
       (turning.next (get_or levels (at + 1) level) deep (slice_get-get_or levels (at + 1) level (omega (arith, turning.made)))).parted.lower_few
 
@@ -194,7 +194,7 @@ module _ {b : Progress Point} {levels : List Level} {used at k lower left : ℕ}
     index_inside = omega (arith, turning.all, as_many)
 
     pub part_room : (next : Level) → at + 1 < used → slice_get levels (at + 1) ≡ Some next
-        → target_of (2 ^ (used + 5 - at)) k lower (entry_at level.entries.items k) < length next.entries.items
+        → target_of (2 ^ (height_at used (at + 1))) k lower (entry_at level.entries.items k) < length next.entries.items
     part_room next deep below =
         let parted = turning.next next deep below in
         target_of-within (row_above deep) parted.known parted.parted index_inside
@@ -218,9 +218,9 @@ module _ {b : Progress Point} {levels : List Level} {used at k lower left : ℕ}
 
       pub move_fits : at + 1 < used → (l n : Level) → slice_get (set levels at (record level { counts = counts })) at ≡ Some l
           → slice_get (set levels at (record level { counts = counts })) (at + 1) ≡ Some n
-          → target_of (2 ^ (used + 5 - at)) k lower (entry_at l.entries.items k) < length n.entries.items
+          → target_of (2 ^ (height_at used (at + 1))) k lower (entry_at l.entries.items k) < length n.entries.items
       move_fits deep l n there below =
-          subst (λ (m : Level). target_of (2 ^ (used + 5 - at)) k lower (entry_at m.entries.items k) < length n.entries.items) (written l there)
+          subst (λ (m : Level). target_of (2 ^ (height_at used (at + 1))) k lower (entry_at m.entries.items k) < length n.entries.items) (written l there)
           (part_room n deep (unwritten n below))
 
     module _ (more : 0 < left) where
@@ -262,10 +262,10 @@ module _ {b : Progress Point} {levels : List Level} {used at k lower left : ℕ}
       -- and where there is a level below, an entry is moved there
       pub IsTurning-next : (next : Level) → at + 1 < used → slice_get levels (at + 1) ≡ Some next
           → IsTurning b (set (set levels at (turned_level level)) (at + 1)
-          (parted_level next (target_of (2 ^ (used + 5 - at)) k lower (entry_at level.entries.items k)) (entry_at level.entries.items k)))
-          used at (k + 1) (lower_after (2 ^ (used + 5 - at)) k lower (entry_at level.entries.items k)) (left - 1) (turned_level level)
+          (parted_level next (target_of (2 ^ (height_at used (at + 1))) k lower (entry_at level.entries.items k)) (entry_at level.entries.items k)))
+          used at (k + 1) (lower_after (2 ^ (height_at used (at + 1))) k lower (entry_at level.entries.items k)) (left - 1) (turned_level level)
       IsTurning-next next deep below =
-          let j : ℕ = target_of (2 ^ (used + 5 - at)) k lower (entry_at level.entries.items k) in
+          let j : ℕ = target_of (2 ^ (height_at used (at + 1))) k lower (entry_at level.entries.items k) in
           let e : Entry = entry_at level.entries.items k in
           let above : List Level = set levels at (turned_level level) in
           let parted = turning.next next deep below in
@@ -294,7 +294,7 @@ module _ {b : Progress Point} {levels : List Level} {used at k lower left : ℕ}
             next = λ l deep' there.
                 let is : parted_level next j e ≡ l = same_Some (parted_level next j e) l
                 (sym (slice_get-set_same above (at + 1) (parted_level next j e) (omega (arith, turning.made, length-set levels at (turned_level level)))) ∙ there) in
-                subst (λ n. IsParted b.items (turned_level level) n (used + 5 - at) (k + 1) (lower_after (2 ^ (used + 5 - at)) k lower e)) is
+                subst (λ n. IsParted b.items (turned_level level) n (height_at used (at + 1)) (k + 1) (lower_after (2 ^ (height_at used (at + 1))) k lower e)) is
                 (record {
                   parted = IsParting-next (row_above deep) parted.known parted.parted index_inside;
                   uncounted = parted.uncounted;
@@ -315,11 +315,11 @@ module _ {b : Progress Point} {levels : List Level} {used at k lower left : ℕ}
           → ((l n : Level) → slice_get (set levels at (record level { counts = counts })) at ≡ Some l
           → slice_get (set levels at (record level { counts = counts })) (at + 1) ≡ Some n
           → (levels' ≡ set (set levels at (record level { counts = counts })) (at + 1)
-          (parted_level n (target_of (2 ^ (used + 5 - at)) k lower (entry_at l.entries.items k)) (entry_at l.entries.items k)))
-          × (lower' ≡ lower_after (2 ^ (used + 5 - at)) k lower (entry_at l.entries.items k)))
+          (parted_level n (target_of (2 ^ (height_at used (at + 1))) k lower (entry_at l.entries.items k)) (entry_at l.entries.items k)))
+          × (lower' ≡ lower_after (2 ^ (height_at used (at + 1))) k lower (entry_at l.entries.items k)))
           → IsTurning b levels' used at (k + 1) lower' (left - 1) (turned_level level)
       IsTurning-moved counts is deep levels' lower' moved =
-          let j : ℕ = target_of (2 ^ (used + 5 - at)) k lower (entry_at level.entries.items k) in
+          let j : ℕ = target_of (2 ^ (height_at used (at + 1))) k lower (entry_at level.entries.items k) in
           let e : Entry = entry_at level.entries.items k in
           let n : Level = get_or levels (at + 1) level in
           let below : slice_get levels (at + 1) ≡ Some n = slice_get-get_or levels (at + 1) level (omega (arith, turning.made)) in
@@ -330,7 +330,7 @@ module _ {b : Progress Point} {levels : List Level} {used at k lower left : ℕ}
           let there : levels' ≡ set (set levels at (turned_level level)) (at + 1) (parted_level n j e) =
           came.0 ∙ ap (λ c. set (set levels at (record level { counts = c })) (at + 1) (parted_level n j e)) is in
           subst (λ w. IsTurning b levels' used at (k + 1) w (left - 1) (turned_level level)) (sym came.1)
-          (subst (λ ls. IsTurning b ls used at (k + 1) (lower_after (2 ^ (used + 5 - at)) k lower e) (left - 1) (turned_level level)) (sym there)
+          (subst (λ ls. IsTurning b ls used at (k + 1) (lower_after (2 ^ (height_at used (at + 1))) k lower e) (left - 1) (turned_level level)) (sym there)
           (IsTurning-next n deep below))
 
     -- while turns are left, the same level grows on
@@ -344,7 +344,7 @@ module _ {b : Progress Point} {levels : List Level} {used at k lower left : ℕ}
       room = turning.room;
       at_within = omega (arith, turning.inside);
       built = turning.built;
-      here = λ l inside there. subst (IsCounting b.items (used + 6 - at)) (is l there) (record {
+      here = λ l inside there. subst (IsCounting b.items (height_at used at)) (is l there) (record {
         row = turning.row;
         put = turning.counts ∙ sym (ap (map (counted b.items (replicate (length b.items) true)))
             (take_all (length level.counts.places) level.entries.items (omega (arith, as_many))));
@@ -355,10 +355,10 @@ module _ {b : Progress Point} {levels : List Level} {used at k lower left : ℕ}
       next = λ l n deep there below.
           let parted = turning.next n deep below in
           let same : k ≡ turned level.counts = omega (arith, turning.all, turned_is level.counts turning.is_sealed) in
-          subst (λ m. IsComing m n (used + 5 - at) lower) (is l there) (record {
+          subst (λ m. IsComing m n (height_at used (at + 1)) lower) (is l there) (record {
             copied = λ s. absurd (cc (turning.is_sealed, s));
             none_lower = λ s. absurd (cc (turning.is_sealed, s));
-            parted = λ s. subst (λ m. IsParting level.entries.items n.entries.items (used + 5 - at) m lower) same parted.parted;
+            parted = λ s. subst (λ m. IsParting level.entries.items n.entries.items (height_at used (at + 1)) m lower) same parted.parted;
             uncounted = parted.uncounted;
           });
       known = λ n deep below. (turning.next n deep below).known;
@@ -373,7 +373,7 @@ module _ {b : Progress Point} {levels : List Level} {used at k lower left : ℕ}
 
   -- and then the next one begins, or there is none
   module _ (none : level.counts.left ≡ 0) where
-    level_built : IsLevel b.items (replicate (length b.items) true) (used + 6 - at) level
+    level_built : IsLevel b.items (replicate (length b.items) true) (height_at used at) level
     level_built = record {
       row = turning.row;
       built = record { sealed = turning.is_sealed; turned = none };
@@ -388,10 +388,10 @@ module _ {b : Progress Point} {levels : List Level} {used at k lower left : ℕ}
     ended_at : k ≡ length level.entries.items
     ended_at = omega (arith, turning.all, as_many)
 
-    row_below : (next : Level) → at + 1 < used → slice_get levels (at + 1) ≡ Some next → IsRow b.items (used + 6 - (at + 1)) next.entries.items
+    row_below : (next : Level) → at + 1 < used → slice_get levels (at + 1) ≡ Some next → IsRow b.items (height_at used (at + 1)) next.entries.items
     row_below next deep below =
         let parted = turning.next next deep below in
-        let high : used + 5 - at ≡ used + 6 - (at + 1) = omega arith in
+        let high : height_at used (at + 1) ≡ height_at used (at + 1) = omega arith in
         subst (λ h. IsRow b.items h next.entries.items) high
         (IsRow-parted (row_above deep) parted.known parted.parted ended_at)
 
@@ -409,8 +409,8 @@ module _ {b : Progress Point} {levels : List Level} {used at k lower left : ℕ}
         | inr last ↦
             let same : at ≡ q = omega arith in
             let there' : slice_get levels at ≡ Some l = ap (slice_get levels) same ∙ there in
-            subst (λ n. IsLevel b.items (replicate (length b.items) true) (used + 6 - n) l) same
-            (subst (IsLevel b.items (replicate (length b.items) true) (used + 6 - at)) (is l there') level_built)
+            subst (λ n. IsLevel b.items (replicate (length b.items) true) (height_at used n) l) same
+            (subst (IsLevel b.items (replicate (length b.items) true) (height_at used at)) (is l there') level_built)
       ];
       here = λ l deep there.
           let parted = turning.next l deep there in

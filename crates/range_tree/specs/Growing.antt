@@ -7,7 +7,7 @@ use Rattle.map_shapes.specs.declared.point.Point.{Point}
 use Rattle.range_tree.specs.declared.entry.Entry.{Entry}
 use Rattle.range_tree.specs.declared.level.Level.{Level}
 use Rattle.range_tree.specs.declared.tree.Tree.{Tree}
-use Rattle.range_tree.specs.Heights.{levels_for}
+use Rattle.range_tree.specs.Heights.{levels_for, levels_to, height_at}
 use Rattle.range_tree.specs.Rows.{IsEntryOf, entry_at, precedes, IsRun, AreBlocks, IsRow, IsLevel, AreLevels, counted}
 
 -- each level has room for all that a builder of this level takes
@@ -29,7 +29,7 @@ emptied level = record {
 -- Before the seal the top level has an entry for each point of order 1, in the order of the puts.
 pub record IsPutting (b : Progress Point) (levels : List Level) : Type 0 where
   pub small : b.at_level < 32
-  pub made : length levels ≡ b.at_level - 6
+  pub made : length levels ≡ levels_to b.at_level
   pub room : All (HasRoom (2 ^ b.at_level)) levels
   pub places : (level : Level) → slice_get levels 0 ≡ Some level → map (λ e. e.place) level.entries.items ≡ b.places
   pub known : (level : Level) → slice_get levels 0 ≡ Some level → All (IsEntryOf b.items) level.entries.items
@@ -93,15 +93,15 @@ pub record IsGrowing (b : Progress Point) (tree : Tree) : Type 0 where
   pub few : length b.items ≤ 2 ^ b.at_level
   pub used : tree.used ≡ levels_for (length b.items)
   pub made : tree.used ≤ length tree.levels.items
-  pub all_made : length tree.levels.items ≡ b.at_level - 6
+  pub all_made : length tree.levels.items ≡ levels_to b.at_level
   pub room : All (HasRoom (2 ^ b.at_level)) tree.levels.items
   pub at_within : tree.at ≤ tree.used
   pub built : (q : ℕ) (level : Level) → q < tree.at → slice_get tree.levels.items q ≡ Some level
-      → IsLevel b.items (replicate (length b.items) true) (tree.used + 6 - q) level
+      → IsLevel b.items (replicate (length b.items) true) (height_at tree.used q) level
   pub here : (level : Level) → tree.at < tree.used → slice_get tree.levels.items tree.at ≡ Some level
-      → IsCounting b.items (tree.used + 6 - tree.at) level
+      → IsCounting b.items (height_at tree.used tree.at) level
   pub next : (level next : Level) → tree.at + 1 < tree.used → slice_get tree.levels.items tree.at ≡ Some level
-      → slice_get tree.levels.items (tree.at + 1) ≡ Some next → IsComing level next (tree.used + 5 - tree.at) tree.lower
+      → slice_get tree.levels.items (tree.at + 1) ≡ Some next → IsComing level next (height_at tree.used (tree.at + 1)) tree.lower
   pub known : (next : Level) → tree.at + 1 < tree.used → slice_get tree.levels.items (tree.at + 1) ≡ Some next
       → All (IsEntryOf b.items) next.entries.items
   pub beyond : (q : ℕ) (level : Level) → tree.at + 1 < q → slice_get tree.levels.items q ≡ Some level → IsEmptyLevel level
@@ -113,7 +113,7 @@ pub record IsGrowing (b : Progress Point) (tree : Tree) : Type 0 where
 -- The levels that a part keeps: those of its tree come first, and each of them all has room for what the next builder takes.
 pub record AreKept (part : Contents Point) (levels : List Level) (used : ℕ) : Type 0 where
   pub small : part.at_level < 32
-  pub made : length levels ≡ part.at_level - 6
+  pub made : length levels ≡ levels_to part.at_level
   pub within : used ≤ length levels
   pub room : All (HasRoom (2 ^ part.at_level)) levels
   pub tree : AreLevels part (take used levels)

@@ -14,6 +14,7 @@ use Rattle.range_tree.specs.declared.level.Level.{Level}
 use Rattle.range_tree.specs.declared.span.Span.{Span}
 use Rattle.range_tree.specs.declared.cover.Cover.{Cover}
 use Rattle.range_tree.specs.declared.cover.Places.{Places}
+use Rattle.range_tree.specs.Heights.{leaf_height}
 
 -- the live point at a place, if it is one
 abbrev pub live_at : Contents Point → ℕ → List Point
@@ -34,7 +35,7 @@ live_in_span part levels span =
 
 -- there is a row of blocks of this height
 abbrev pub HasRow : List Level → ℕ → Type 0
-HasRow levels height = (7 ≤ height) × (height < length levels + 7)
+HasRow levels height = (leaf_height ≤ height) × (height < length levels + leaf_height)
 
 -- the live points of the rectangle at neighbouring places
 abbrev pub live_in_places : Contents Point → Rect → Places → List Point
@@ -66,7 +67,7 @@ pub record IsCovering (part : Contents Point) (levels : List Level) (rect : Rect
   pub within : cover.to ≤ length part.items
   pub abscissas : AreWithinAbscissas part cover.from cover.to rect
   pub spans : All (IsSpan levels) cover.spans.items
-  pub few : length cover.spans.items + 14 ≤ most
+  pub few : length cover.spans.items + 2 * leaf_height ≤ most
   pub points : Permuted (flat_map (live_in_span part levels) cover.spans.items ++ filter (is_in rect) (live_between part cover.from cover.to))
       (filter (is_in rect) (live_between part cover.low cover.high))
 

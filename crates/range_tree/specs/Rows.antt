@@ -9,7 +9,7 @@ use Rattle.builder_trait.specs.Parts.{Contents}
 use Rattle.map_shapes.specs.declared.point.Point.{Point}
 use Rattle.range_tree.specs.declared.entry.Entry.{Entry}
 use Rattle.range_tree.specs.declared.level.Level.{Level}
-use Rattle.range_tree.specs.Heights.{levels_for}
+use Rattle.range_tree.specs.Heights.{levels_for, height_at}
 
 -- the orders of points
 abbrev pub before : ℕ → Point → Point → Bool
@@ -74,4 +74,4 @@ pub record AreLevels (part : Contents Point) (levels : List Level) : Type 0 wher
   pub few : length part.items ≤ 2 ^ 31
   pub as_many : length levels ≡ levels_for (length part.items)
   pub each : (q : ℕ) (level : Level) → slice_get levels q ≡ Some level
-      → IsLevel part.items part.flags (length levels + 6 - q) level
+      → IsLevel part.items part.flags (height_at (length levels) q) level

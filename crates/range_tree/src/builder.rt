@@ -16,7 +16,7 @@ use std::sync::ledger::Ledger;
 ///
 /// The points become a flat part, and then the levels grow from the whole tree down to the leaves: no order is made, since the
 /// row of each level is the one above, parted by places. At level i that takes at most half of `2^i * (4 * i + 12)` turns after
-/// the seal. `room` takes all the memory: i - 6 rows for `2^i` points, and none below level 7. The part keeps them all, though
+/// the seal. `room` takes all the memory: i - 4 rows for `2^i` points, and none below level 5. The part keeps them all, though
 /// its tree may need fewer, so that `recycle` has them for the next builder.
 #[derive(Drop)]
 pub struct RangeBuilder {

@@ -8,6 +8,7 @@ ghost use Rattle.range_tree.specs.Rows.{IsBlock, IsEntryOf, AreLevels, entry_at}
 ghost use Rattle.range_tree.specs.Growing.{HasRoom, AreKept};
 
 use crate::entry::Entry;
+use crate::height::LEAF_HEIGHT;
 use crate::level::Level;
 use crate::search::first_entry;
 use query_laws::step_ledger::Steps;
@@ -48,7 +49,7 @@ fn clear_place<L: Ledger>(levels: &mut [Level], entry: &Entry, steps: &mut Steps
 {
     let count = levels.len();
     for (row, level) in levels.iter_mut().enumerate() {
-        let len = block_len((count + 6 - row) as u32);
+        let len = block_len((count + (LEAF_HEIGHT - 1) - row) as u32);
         let start = entry.place as usize / len * len;
         let end = (start + len).min(level.entries.len());
         level.clear(entry, start, end, steps);

@@ -6,6 +6,7 @@ ghost use Rattle.query_laws.specs.Permuted.{Permuted};
 ghost use Rattle.row_blocks.specs.Blocks.{IsMultiple};
 ghost use Rattle.builder_trait.specs.Parts.{Contents};
 ghost use Rattle.map_shapes.specs.Questions.{is_in};
+ghost use Rattle.range_tree.specs.Heights.{leaf_height, levels_to, most_scanned};
 ghost use Rattle.range_tree.specs.Rows.{AreLevels};
 ghost use Rattle.range_tree.specs.Queries.{live_in_span, live_in_places, IsSpan, HasRow, IsCover, IsFrontCovered};
 
@@ -56,7 +57,7 @@ fn cover_front<L: Ledger>(
     steps: &mut Steps<L>,
 )
     requires height { HasRow levels.now height }
-    requires small { length levels.now ≤ 25 }
+    requires small { length levels.now ≤ levels_to 31 }
     requires some { (part : Contents Point) × AreLevels part levels.now × IsCover part levels.now rect.now height cover.old }
     ensures cover { (part : Contents Point) → AreLevels part levels.now → IsCover part levels.now rect.now height cover.old
         → IsFrontCovered part levels.now rect.now height cover.new }
@@ -66,7 +67,7 @@ fn cover_front<L: Ledger>(
 {
     let len = block_len(height as u32);
     if cover.from < cover.to && cover.from / len % 2 == 1 {
-        let row = levels.len() + 6 - height;
+        let row = levels.len() + (LEAF_HEIGHT - 1) - height;
         let end = cover.from + len;
         let span = span_in(&levels[row].entries, row, cover.from, end, rect, steps);
         cover.from = end;
@@ -85,7 +86,7 @@ fn cover_back<L: Ledger>(
     steps: &mut Steps<L>,
 )
     requires height { HasRow levels.now height }
-    requires small { length levels.now ≤ 25 }
+    requires small { length levels.now ≤ levels_to 31 }
     requires some { (part : Contents Point) × AreLevels part levels.now × IsFrontCovered part levels.now rect.now height cover.old }
     ensures cover { (part : Contents Point) → AreLevels part levels.now → IsFrontCovered part levels.now rect.now height cover.old
         → IsCover part levels.now rect.now (height + 1) cover.new }
@@ -95,7 +96,7 @@ fn cover_back<L: Ledger>(
 {
     let len = block_len(height as u32);
     if cover.from < cover.to && cover.to / len % 2 == 1 {
-        let row = levels.len() + 6 - height;
+        let row = levels.len() + (LEAF_HEIGHT - 1) - height;
         let start = cover.to - len;
         let span = span_in(&levels[row].entries, row, start, cover.to, rect, steps);
         cover.to = start;
@@ -132,12 +133,12 @@ fn leaves(from: usize, to: usize) -> Places
     ensures first { from ≤ result.from }
     ensures ordered { result.from ≤ result.to }
     ensures last { result.to ≤ to }
-    ensures front { result.from < result.to → IsMultiple result.from 7 }
-    ensures back { result.from < result.to → IsMultiple result.to 7 }
-    ensures few { result.from - from + (to - result.to) ≤ 254 }
+    ensures front { result.from < result.to → IsMultiple result.from leaf_height }
+    ensures back { result.from < result.to → IsMultiple result.to leaf_height }
+    ensures few { result.from - from + (to - result.to) ≤ most_scanned }
 {
-    let low = block_start(from + block_len(LEAF_HEIGHT) - 1, LEAF_HEIGHT);
-    let high = block_start(to, LEAF_HEIGHT);
+    let low = block_start(from + block_len(LEAF_HEIGHT as u32) - 1, LEAF_HEIGHT as u32);
+    let high = block_start(to, LEAF_HEIGHT as u32);
     if low < high {
         Places {
             from: low,
@@ -163,8 +164,8 @@ pub(crate) fn cut<L: Ledger>(
         (filter (is_in rect.now) (items_where_true points.now.flags points.now.items)) }
     ensures front { (result.front.from ≤ result.front.to) × (result.front.to ≤ length points.now.items) }
     ensures back { (result.back.from ≤ result.back.to) × (result.back.to ≤ length points.now.items) }
-    ensures ends { (result.front.to - result.front.from) + (result.back.to - result.back.from) ≤ min 254 (length points.now.items) }
-    ensures cost { (h : ℕ) → length points.now.items ≤ 2 ^ h → Spends steps.old steps.new 0 0 (4 * (h + 1) + 4 * ((h - 6) * (h + 1))) }
+    ensures ends { (result.front.to - result.front.from) + (result.back.to - result.back.from) ≤ min most_scanned (length points.now.items) }
+    ensures cost { (h : ℕ) → length points.now.items ≤ 2 ^ h → Spends steps.old steps.new 0 0 (4 * (h + 1) + 4 * (levels_to h * (h + 1))) }
 {
     let len = points.len();
     let from = first_place(points, rect.x1, 0, len, steps);
@@ -178,7 +179,7 @@ pub(crate) fn cut<L: Ledger>(
         high: middle.to,
     };
     for step in 0..levels.len() {
-        cover_level(&mut cover, levels, step + LEAF_HEIGHT as usize, rect, steps);
+        cover_level(&mut cover, levels, step + LEAF_HEIGHT, rect, steps);
     }
     Pieces {
         spans: cover.spans,

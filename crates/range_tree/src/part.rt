@@ -21,9 +21,9 @@ use std::sync::ledger::Ledger;
 /// `16 * (h + 2)^2` entries, a [`ListIn`] at most `8 * (h + 2)` more for each point that it lists, and a mark at most
 /// `16 * (h + 2)^2`. Nothing takes memory but the tally of a [`ListIn`].
 ///
-/// Its rows begin at blocks of `2^7` places, the leaves; a question scans the places at both ends that no whole leaf has. It keeps the
-/// i - 6 rows of its builder at level i, each with room for an entry and a place of the live counts for each of `2^i` points; its
-/// tree uses h - 6 of them. An entry takes 8 bytes and a place of the counts 5 1/8, so at level 16 the rows take 131 bytes for each
+/// Its rows begin at blocks of `2^5` places, the leaves; a question scans the places at both ends that no whole leaf has. It keeps the
+/// i - 4 rows of its builder at level i, each with room for an entry and a place of the live counts for each of `2^i` points; its
+/// tree uses h - 4 of them. An entry takes 8 bytes and a place of the counts 5 1/8, so at level 16 the rows take 157 bytes for each
 /// point that there is room for. The points themselves, in both orders and with places and flags, take 73 more. The largest entry that
 /// a touch reads or writes is the 64 bytes of sixteen places' weights.
 #[derive(Drop)]

@@ -2,6 +2,7 @@
 ghost use Rattle.std.specs.Prelude.{◌≡◌, ◌+◌, ◌-◌, ◌*◌, ◌^◌, ◌≤◌, ◌<◌, ◌++◌, length, map, filter, sum_by, OnOk};
 ghost use Rattle.query_laws.specs.StepLedger.{Spends};
 ghost use Rattle.map_shapes.specs.Questions.{is_in};
+ghost use Rattle.range_tree.specs.Heights.{most_scanned};
 ghost use Rattle.range_tree.specs.Measures.{measure_of};
 ghost use Rattle.range_tree.specs.Queries.{live_at, live_in_places};
 
@@ -27,11 +28,8 @@ fn measure_at<L: Ledger>(
     ensures small { result < 2 ^ 31 }
     ensures cost { Spends steps.old steps.new 0 0 4 }
 {
-    if !points.alive(k, steps) {
-        return 0;
-    }
     let point = points.item(0, k, steps);
-    if point.is_inside(rect) {
+    if point.is_inside(rect) && points.alive(k, steps) {
         measure.of(&point)
     } else {
         0
@@ -48,7 +46,7 @@ pub(crate) fn measure_places<L: Ledger>(
 ) -> u64
     requires ordered { places.now.from ≤ places.now.to }
     requires within { places.now.to ≤ length points.now.items }
-    requires few { places.now.to - places.now.from ≤ 254 }
+    requires few { places.now.to - places.now.from ≤ most_scanned }
     ensures sum { result ≡ sum_by (measure_of measure) (live_in_places points.now rect.now places.now) }
     ensures small { result < 2 ^ 40 }
     ensures cost { Spends steps.old steps.new 0 0 (4 * (places.now.to - places.now.from)) }
@@ -72,14 +70,11 @@ fn list_at<L: Ledger>(
     ensures listed { OnOk result (tally.new ≡ tally.old ++ map (λ p. p.id) (filter (is_in rect.now) (live_at points.now k))) }
     ensures cost { Spends steps.old steps.new 0 0 4 }
 {
-    if !points.alive(k, steps) {
-        return Ok(());
-    }
     let point = points.item(0, k, steps);
-    if !point.is_inside(rect) {
-        return Ok(());
+    if point.is_inside(rect) && points.alive(k, steps) {
+        tally.push(point.id)?;
     }
-    tally.push(point.id)
+    Ok(())
 }
 
 /// Pushes the identifiers of the live points of a rectangle at some places: four touches a place at most.

@@ -4,7 +4,7 @@ ghost use Rattle.query_laws.specs.StepLedger.{Spends};
 ghost use Rattle.map_shapes.specs.declared.point.Point.{Point};
 ghost use Rattle.range_tree.specs.Rows.{IsEntryOf, before, entry_at, counted};
 ghost use Rattle.range_tree.specs.declared.level.Level.{Level};
-ghost use Rattle.range_tree.specs.Heights.{levels_for};
+ghost use Rattle.range_tree.specs.Heights.{levels_for, levels_to, height_at};
 ghost use Rattle.range_tree.specs.Growing.{IsPutting, IsGrowing, emptied, start_of, target_of, lower_after};
 ghost use Rattle.builder_trait.specs.Builders.{begun, with_put, FitsSecond};
 
@@ -108,7 +108,7 @@ impl Tree {
         ensures { IfOk result (λ tree. IsPutting (begun level) tree.levels.items × (tree.left ≡ 0)) }
     {
         let cap = 2usize.pow(level);
-        let count = (level as usize).saturating_sub(LEAF_HEIGHT as usize - 1);
+        let count = (level as usize).saturating_sub(LEAF_HEIGHT - 1);
         let mut levels = Vec::with_capacity(alloc, count)?;
         for _ in 0..count {
             levels.push(Level::room(alloc, cap)?)?;
@@ -237,23 +237,23 @@ impl Tree {
     fn part_entry<L: Ledger>(&mut self, k: usize, steps: &mut Steps<L>)
         requires deep { self.old.at + 1 < self.old.used }
         requires made { self.old.used ≤ length self.old.levels.items }
-        requires shallow { self.old.used ≤ 25 }
+        requires shallow { self.old.used ≤ levels_to 31 }
         requires index { (level : Level) → slice_get self.old.levels.items self.old.at ≡ Some level
             → (k < length level.entries.items) × (length level.entries.items ≤ 2 ^ 31) }
-        requires few { self.old.lower ≤ k - start_of (2 ^ (self.old.used + 5 - self.old.at)) k }
+        requires few { self.old.lower ≤ k - start_of (2 ^ (height_at self.old.used (self.old.at + 1))) k }
         requires fits { (level next : Level) → slice_get self.old.levels.items self.old.at ≡ Some level
             → slice_get self.old.levels.items (self.old.at + 1) ≡ Some next
-            → target_of (2 ^ (self.old.used + 5 - self.old.at)) k self.old.lower (entry_at level.entries.items k) < length next.entries.items }
+            → target_of (2 ^ (height_at self.old.used (self.old.at + 1))) k self.old.lower (entry_at level.entries.items k) < length next.entries.items }
         ensures moved { (level next : Level) → slice_get self.old.levels.items self.old.at ≡ Some level
             → slice_get self.old.levels.items (self.old.at + 1) ≡ Some next
-            → let half = 2 ^ (self.old.used + 5 - self.old.at) in let entry = entry_at level.entries.items k in
+            → let half = 2 ^ (height_at self.old.used (self.old.at + 1)) in let entry = entry_at level.entries.items k in
             (self.new.levels.items ≡ slice_set self.old.levels.items (self.old.at + 1)
             (record next { entries = record next.entries { items = slice_set next.entries.items (target_of half k self.old.lower entry) entry } }))
             × (self.new.lower ≡ lower_after half k self.old.lower entry) }
         ensures kept { self.new ≡ record self.old { levels = self.new.levels; lower = self.new.lower } }
         ensures cost { Spends steps.old steps.new 0 0 2 }
     {
-        let half = block_len((self.used + 5 - self.at) as u32);
+        let half = block_len((self.used + (LEAF_HEIGHT - 1) - (self.at + 1)) as u32);
         let entry = self.levels[self.at].entries.at(k, steps);
         let place = target(half, k, self.lower, entry);
         self.levels[self.at + 1].entries.set(place, entry, steps);

@@ -6,6 +6,7 @@ use Rattle.std.proofs.lemmas.Option.{slice_get-get_or, slice_get_within}
 use Rattle.query_laws.proofs.Counting.{Spends-nothing, Spends-then, Spends-within, Spends-weaker}
 use Rattle.builder_trait.specs.Parts.{Contents}
 use Rattle.map_shapes.specs.declared.point.Point.{Point}
+use Rattle.range_tree.specs.Heights.{height_at}
 use Rattle.range_tree.specs.declared.level.Level.{Level}
 use Rattle.range_tree.specs.Rows.{IsLevel, AreLevels, counted}
 use Rattle.range_tree.specs.Growing.{HasRoom}
@@ -17,7 +18,7 @@ use Rattle.range_tree.proofs.clearing.clear_place.Goals as goal
 -- the level of a row that is still as it was
 row_is : {part : Contents Point} {old : List Level} → AreLevels part old → (levels : List Level) (row : ℕ) (d : Level) → row < length levels
     → length levels ≡ length old → slice_get levels row ≡ slice_get old row
-    → IsLevel part.items part.flags (length old + 6 - row) (get_or levels row d)
+    → IsLevel part.items part.flags (height_at (length old) row) (get_or levels row d)
 row_is are levels row d below same kept = are.each row _ (sym kept ∙ slice_get-get_or levels row d below)
 
 pub loop-row-init : goal.loop-row-init
@@ -75,7 +76,7 @@ loop-row-preserved g c = record {
       let bounds = block_bounds is.row c.args.entry.now known _ _ _ c.block_len-len.ensures c.len.ensures.value c.min-end.ensures in
       let found = entry_found is.row c.args.entry.now known _ _ _ c.block_len-len.ensures c.len.ensures.value c.min-end.ensures in
       cleared_more part c.loop-row.levels (length c.args.levels.now) c.args.entry.now.place c.loop-row.row c.clear.new.self (c.loop-row.invariant.cleared part are known live) (omega arith)
-      (subst (λ (l : Level). IsLevel part.items (set part.flags c.args.entry.now.place false) (length c.args.levels.now + 6 - c.loop-row.row) l)
+      (subst (λ (l : Level). IsLevel part.items (set part.flags c.args.entry.now.place false) (height_at (length c.args.levels.now) c.loop-row.row) l)
       (sym (c.clear.ensures.cleared found.0 found.1 found.2 found.3))
       (level_cleared is found.0 c.args.entry.now.place (omega (arith, found.2, bounds.1)) (ap (λ e. e.place) found.3) live));
   room = λ cap all.
@@ -96,7 +97,7 @@ returns-clause-cleared g c part are known live = record {
   as_many = c.loop-row.auto.levels ∙ are.as_many;
   each = λ q level at.
       let below = slice_get_within c.loop-row.levels q level at in
-      subst (λ n. IsLevel part.items (set part.flags c.args.entry.now.place false) (n + 6 - q) level) (sym c.loop-row.auto.levels)
+      subst (λ n. IsLevel part.items (set part.flags c.args.entry.now.place false) (height_at n q) level) (sym c.loop-row.auto.levels)
       (c.loop-row.invariant.cleared part are known live q level (omega arith) at);
 }
 

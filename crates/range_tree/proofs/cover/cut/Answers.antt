@@ -3,6 +3,7 @@ use Rattle.std.specs.List.{flat_map, filter}
 use Rattle.query_laws.specs.Permuted.{Permuted}
 use Rattle.query_laws.proofs.Counting.{Spends-nothing, Spends-within}
 use Rattle.map_shapes.specs.Questions.{is_in}
+use Rattle.range_tree.specs.Heights.{leaf_height}
 use Rattle.range_tree.specs.Queries.{IsCover, live_in_span, live_between}
 use Rattle.range_tree.proofs.Covers.{IsCover-init, points_covered, points_cut, levels_few, Spends-level, Spends-cover, within_search}
 use Rattle.range_tree.proofs.cover.cut.Goals as goal
@@ -26,7 +27,7 @@ cover_level-requires-clause-some g c = (c.args.points.now, c.requires, c.loop-st
 
 pub loop-step-preserved : goal.loop-step-preserved
 loop-step-preserved g c =
-    let next : c.loop-step.step + 7 + 1 ≡ c.loop-step.step + 1 + 7 = omega arith in
+    let next : c.loop-step.step + leaf_height + 1 ≡ c.loop-step.step + 1 + leaf_height = omega arith in
     record {
       cover = subst (λ h. IsCover c.args.points.now c.args.levels.now c.args.rect.now h c.cover_level.new.cover) next
           (c.cover_level.ensures.cover c.args.points.now c.requires c.loop-step.invariant.cover);
@@ -40,7 +41,7 @@ returns-clause-few g c = omega (arith, c.loop-step.invariant.cover.covering.few,
 
 pub returns-clause-points : goal.returns-clause-points
 returns-clause-points g c =
-    let covered = points_covered c.requires (let all : c.loop-step.step + 7 ≡ length c.args.levels.now + 7 = omega (arith, c.loop-step.auto.step-end) in all) c.loop-step.invariant.cover in
+    let covered = points_covered c.requires (let all : c.loop-step.step + leaf_height ≡ length c.args.levels.now + leaf_height = omega (arith, c.loop-step.auto.step-end) in all) c.loop-step.invariant.cover in
     let rect = c.args.rect.now in
     let part = c.args.points.now in
     let spans = flat_map (live_in_span part c.args.levels.now) c.loop-step.cover.spans.items in

@@ -1,12 +1,13 @@
 use Rattle.std.proofs.Common.{◌≡◌, ◌+◌, ◌*◌, length}
 use Rattle.query_laws.specs.StepLedger.{Spends}
+use Rattle.range_tree.specs.Heights.{leaf_height}
 use Rattle.range_tree.specs.Queries.{IsCover}
 use Rattle.range_tree.proofs.cover.cut.Given as goal
 
 abbrev pub invariant-loop-step : goal.invariant-loop-step
 invariant-loop-step g l = record {
-  cover : IsCover l.points l.levels l.rect (l.step + 7) l.cover;
+  cover : IsCover l.points l.levels l.rect (l.step + leaf_height) l.cover;
   low : l.cover.low ≡ l.initial.cover.low;
   high : l.cover.high ≡ l.initial.cover.high;
-  cost : Spends l.initial.steps l.steps 0 0 (l.step * (4 * (length l.levels + 7)));
+  cost : Spends l.initial.steps l.steps 0 0 (l.step * (4 * (length l.levels + leaf_height)));
 }
