@@ -6,6 +6,7 @@ mod examples;
 mod made;
 mod null_sink;
 mod plain_map;
+mod retrying;
 mod script;
 mod timed;
 

@@ -1,5 +1,6 @@
 //! Seeded scripts, by a session and by a plain map.
 use crate::plain_map::PlainMap;
+use crate::retrying::do_or_retry;
 use crate::script::MOST_LINES;
 use map_io::MemSink;
 use map_samples::{Failure, Generator};
@@ -24,7 +25,7 @@ const LONGEST_ANSWER: usize = 2_048;
 
 /// Gives a session so many seeded lines, and compares each answer with that of a plain map.
 ///
-/// `Differs` where they differ, but for `no memory` where a command that takes some would be accepted; the map stays then.
+/// `Differs` where they differ. It asks twice where memory is refused, and `NoMemory` comes where that is refused twice.
 pub fn check_made_script<L: Ledger>(
     alloc: Global,
     seed: u64,
@@ -35,13 +36,16 @@ pub fn check_made_script<L: Ledger>(
     let mut session = Session::new(alloc, false);
     let mut map = PlainMap::new(alloc);
     for _ in 0..lines {
-        let line = made_line(alloc, &mut generator)?;
+        let drawn = Drawn::next(&mut generator);
+        let line = do_or_retry(|| drawn.line(alloc))?;
         check_line(alloc, &mut session, &mut map, line.as_str(), steps)?;
     }
     Ok(())
 }
 
-/// Gives both a line.
+/// Gives both a line, and the session the same line once more where it refuses a command for want of memory.
+///
+/// `Differs` where the session refuses it again: memory is refused once in a run.
 fn check_line<L: Ledger>(
     alloc: Global,
     session: &mut Session,
@@ -52,24 +56,40 @@ fn check_line<L: Ledger>(
     let Ok(Some(command)) = parse(line.as_bytes()) else {
         return differs(alloc, line, "", "a command");
     };
+    let wanted = do_or_retry(|| map.answer(&command))?;
+    let is_accepted = !wanted.as_str().starts_with("no ");
+    let mut sink = answered(alloc, session, line, steps)?;
+    if text_of(&sink) == "no memory" && is_accepted && takes_memory(&command) {
+        sink = answered(alloc, session, line, steps)?;
+    }
+    if text_of(&sink) != wanted.as_str() {
+        return differs(alloc, line, text_of(&sink), wanted.as_str());
+    }
+    if is_accepted {
+        do_or_retry(|| map.change(&command))?;
+    }
+    Ok(())
+}
+
+/// A sink with what a session answers to a line.
+fn answered<L: Ledger>(
+    alloc: Global,
+    session: &mut Session,
+    line: &str,
+    steps: &mut Steps<L>,
+) -> Result<MemSink, Failure> {
     if session.lines() >= MOST_LINES {
         return Err(Failure::TooLong);
     }
-    let mut sink = MemSink::new(vec![in alloc; 0u8; LONGEST_ANSWER]?, 64, Vec::new(alloc));
+    let space = do_or_retry(|| vec![in alloc; 0u8; LONGEST_ANSWER])?;
+    let mut sink = MemSink::new(space, 64, Vec::new(alloc));
     session.line(line.as_bytes(), &mut sink, steps)?;
-    let answer = str::from_utf8(sink.written()).unwrap_or("").trim_end();
-    let wanted = map.answer(&command)?;
-    let is_accepted = !wanted.as_str().starts_with("no ");
-    if answer == "no memory" && is_accepted && takes_memory(&command) {
-        return Ok(());
-    }
-    if answer != wanted.as_str() {
-        return differs(alloc, line, answer, wanted.as_str());
-    }
-    if is_accepted {
-        map.change(&command)?;
-    }
-    Ok(())
+    Ok(sink)
+}
+
+/// The answer in a sink, without its line feed.
+fn text_of(sink: &MemSink) -> &str {
+    str::from_utf8(sink.written()).unwrap_or("").trim_end()
 }
 
 /// Whether memory may be refused to a command.
@@ -85,24 +105,50 @@ fn differs(alloc: Global, line: &str, answer: &str, wanted: &str) -> Result<(), 
     Err(Failure::Differs(text))
 }
 
-/// A line of a command: of 32, one makes a layer, two aren't built, twelve add, nine drop, and the others ask.
-fn made_line(alloc: Global, generator: &mut Generator) -> Result<String, AllocError> {
-    let name = made_name(generator);
-    let id = generator.below(IDS);
-    let (x, y) = (generator.below(SIDE), generator.below(SIDE));
-    let w = generator.below(WEIGHTS);
-    let (x2, y2) = (x.saturating_add(w), y.saturating_add(w));
-    match generator.below(32) {
-        0 => format!(in alloc; "layer {name} points range"),
-        1 => format!(in alloc; "layer {name} points range near"),
-        2 => format!(in alloc; "seg {name} {id} {x} {x2} {y}"),
-        3..=14 => format!(in alloc; "add {name} {id} {x} {y} {w}"),
-        15..=23 => format!(in alloc; "drop {name} {id}"),
-        24 | 25 => format!(in alloc; "count {name} {x} {y} {x2} {y2}"),
-        26 | 27 => format!(in alloc; "sum {name} {x} {y} {x2} {y2}"),
-        28 | 29 => format!(in alloc; "list {name} {x} {y} {x2} {y2}"),
-        30 => format!(in alloc; "get {name} {id}"),
-        _ => format!(in alloc; "size {name}"),
+/// What a line is made of. It takes no memory, so that the line can be written twice.
+#[derive(Clone, Copy)]
+struct Drawn {
+    name: &'static str,
+    id: u32,
+    from: (u32, u32),
+    to: (u32, u32),
+    weight: u32,
+    kind: u32,
+}
+
+impl Drawn {
+    /// The numbers of the next line.
+    fn next(generator: &mut Generator) -> Drawn {
+        let name = made_name(generator);
+        let id = generator.below(IDS);
+        let (x, y) = (generator.below(SIDE), generator.below(SIDE));
+        let weight = generator.below(WEIGHTS);
+        Drawn {
+            name,
+            id,
+            from: (x, y),
+            to: (x.saturating_add(weight), y.saturating_add(weight)),
+            weight,
+            kind: generator.below(32),
+        }
+    }
+
+    /// A line of a command: of 32, one makes a layer, two aren't built, twelve add, nine drop, and the others ask.
+    fn line(&self, alloc: Global) -> Result<String, AllocError> {
+        let (name, id, w) = (self.name, self.id, self.weight);
+        let ((x, y), (x2, y2)) = (self.from, self.to);
+        match self.kind {
+            0 => format!(in alloc; "layer {name} points range"),
+            1 => format!(in alloc; "layer {name} points range near"),
+            2 => format!(in alloc; "seg {name} {id} {x} {x2} {y}"),
+            3..=14 => format!(in alloc; "add {name} {id} {x} {y} {w}"),
+            15..=23 => format!(in alloc; "drop {name} {id}"),
+            24 | 25 => format!(in alloc; "count {name} {x} {y} {x2} {y2}"),
+            26 | 27 => format!(in alloc; "sum {name} {x} {y} {x2} {y2}"),
+            28 | 29 => format!(in alloc; "list {name} {x} {y} {x2} {y2}"),
+            30 => format!(in alloc; "get {name} {id}"),
+            _ => format!(in alloc; "size {name}"),
+        }
     }
 }
 

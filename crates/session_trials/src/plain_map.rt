@@ -56,7 +56,7 @@ impl PlainMap {
         }
     }
 
-    /// Changes the map as an accepted command does.
+    /// Changes the map as an accepted command does. The map stays where memory is refused.
     pub fn change(&mut self, command: &Command) -> Result<(), AllocError> {
         match *command {
             Command::Layer { name, .. } => {
@@ -71,11 +71,10 @@ impl PlainMap {
     }
 
     fn add(&mut self, name: &Name, id: u64, x: u32, y: u32, w: u32) -> Result<(), AllocError> {
-        let stamp = self.stamps;
-        self.stamps = stamp.saturating_add(1);
         let layer = self.layers.iter_mut().find(|layer| layer.name == *name);
-        if let (Some(layer), Some(point)) = (layer, point_of(id, x, y, w, stamp)) {
+        if let (Some(layer), Some(point)) = (layer, point_of(id, x, y, w, self.stamps)) {
             layer.list.points.push(point)?;
+            self.stamps = self.stamps.saturating_add(1);
         }
         Ok(())
     }
