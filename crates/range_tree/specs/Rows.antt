@@ -1,5 +1,5 @@
 -- The rows of a range tree over points in order 0 (Bentley 1979).
-use Rattle.std.specs.Prelude.{◌≡◌, ℕ, ◌==◌, ◌+◌, ◌-◌, ◌^◌, ◌<◌, ◌≤◌, ◌&&◌, ◌||◌, Bool, false, nat_lt, IsTrue, List, Some, length, map, min, All, slice_get, slice_index_or}
+use Rattle.std.specs.Prelude.{◌≡◌, ℕ, ◌==◌, ◌+◌, ◌^◌, ◌<◌, ◌≤◌, ◌&&◌, ◌||◌, Bool, false, nat_lt, IsTrue, List, Some, length, map, min, All, slice_get, slice_index_or}
 use Rattle.std.specs.Option.{option_map, unwrap_or}
 use Rattle.query_laws.specs.Orders.{before_in}
 use Rattle.weak_delete.specs.declared.place.Place.{Place}
