@@ -11,8 +11,10 @@ use Rattle.id_chain.specs.Chain.{Entry, HandlesDiffer, item_at, before_cursor, I
 use Rattle.id_chain.proofs.Cursors.{before-append, others-append}
 use Rattle.id_chain.proofs.Entries.{Apart-parts, item_at-linked, item_at-split, linked_head}
 use Rattle.id_chain.proofs.Stamps.{StampsRise-append}
-use Rattle.level_slots.specs.Slots.{Stacked, IsPartOf, live_items, all_items, weight_of}
-use Rattle.level_slots.proofs.Marks.{All-first}
+use Rattle.stack_levels.specs.Slots.{IsPartOf}
+use Rattle.stack_levels.specs.Levels.{live_items, all_items, weight_of}
+use Rattle.level_slots.specs.Stack.{Stacked}
+use Rattle.stack_levels.proofs.Marks.{All-first}
 use Rattle.global_rebuild.specs.Index.{Shadow, Indexed, IsShadowOf, IsIndexOf, IsIndex, IsPrepared, stamp_at}
 use Rattle.global_rebuild.proofs.Weights.{ended_all}
 

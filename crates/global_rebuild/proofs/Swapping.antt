@@ -4,7 +4,8 @@ use Rattle.std.specs.Option.{is_some, option_map, option_map_or}
 use Rattle.std.proofs.lemmas.Bool.Decides.{nat_tests}
 use Rattle.builder_trait.specs.Parts.{Contents}
 use Rattle.id_chain.specs.Chain.{Entry}
-use Rattle.level_slots.specs.Slots.{Stacked, live_items, weight_of, memory_of}
+use Rattle.stack_levels.specs.Levels.{live_items, weight_of}
+use Rattle.level_slots.specs.Stack.{Stacked, memory_of}
 use Rattle.global_rebuild.specs.Index.{Shadow, Indexed, IsKept, IsIndexOf, IsInTime, IsPrepared, live_in, unwalked, walked_on, shadow_weight, retired_parts, retired_parts_on, main_weight_on, shadow_weight_on}
 use Rattle.global_rebuild.proofs.Weights.{IsInTime-kept, walked_few, ended_all}
 

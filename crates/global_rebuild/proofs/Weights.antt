@@ -9,7 +9,8 @@ use Rattle.builder_trait.specs.Parts.{Contents}
 use Rattle.id_chain.specs.Chain.{Entry, is_linked, before, IsCursor, before_cursor}
 use Rattle.query_laws.specs.Permuted.{Permuted, nothing}
 use Rattle.id_chain.specs.StampsRise.{StampsRise}
-use Rattle.level_slots.specs.Slots.{Stacked, weight_of, live_items, all_items}
+use Rattle.stack_levels.specs.Levels.{weight_of, live_items, all_items}
+use Rattle.level_slots.specs.Stack.{Stacked}
 use Rattle.global_rebuild.specs.Index.{Shadow, Indexed, IsShadowOf, IsIndexOf, IsIndex, IsInTime, live_in, stamp_at}
 
 module _ {Item : Type 0} where

@@ -5,7 +5,8 @@ use Rattle.query_laws.specs.Permuted.{Permuted}
 use Rattle.builder_trait.specs.Parts.{Contents}
 use Rattle.id_chain.specs.Chain.{Entry, HandlesDiffer, item_at, IsCursor, before_cursor}
 use Rattle.id_chain.specs.StampsRise.{StampsRise}
-use Rattle.level_slots.specs.Slots.{Stacked, live_items, all_items, weight_of, memory_of}
+use Rattle.stack_levels.specs.Levels.{live_items, all_items, weight_of}
+use Rattle.level_slots.specs.Stack.{Stacked, memory_of}
 use Rattle.level_slots.specs.Rooms.{rooms_of, forecast_of}
 
 -- the stack that is being made, and the cursor of the walk along the chain: the handle of the item that comes next

@@ -3,10 +3,11 @@ ghost use Rattle.std.specs.Prelude.{◌≡◌, ℕ, ◌+◌, ◌-◌, ◌*◌, �
 ghost use Rattle.std.specs.Option.{is_some, option_map, option_map_or};
 ghost use Rattle.query_laws.specs.StepLedger.{Spends};
 ghost use Rattle.id_chain.specs.Chain.{Entry, HandlesDiffer, is_linked, item_at, IsCursor, before_cursor, without_handle};
-ghost use Rattle.level_slots.specs.Slots.{live_items, all_items, weight_of, parts_of, memory_of};
+ghost use Rattle.stack_levels.specs.Levels.{live_items, all_items, weight_of, parts_of, touches_of};
+ghost use Rattle.level_slots.specs.Stack.{memory_of};
 ghost use Rattle.level_slots.specs.Rooms.{rooms_of};
-ghost use Rattle.level_slots.specs.Asking.{HaveAtMost, touches_of};
-ghost use Rattle.level_slots.specs.Cost.{IsWithin, quotas};
+ghost use Rattle.level_slots.specs.Height.{HaveAtMost};
+ghost use Rattle.stack_levels.specs.Cost.{IsWithin, quotas};
 ghost use Rattle.global_rebuild.specs.Index.{Shadow as Walked, live_in, unwalked, walked_on, shadow_weight, main_weight_on, shadow_weight_on, shadow_rooms, retired_parts, retired_parts_on, is_heavy, IsForecast, IsKept, IsInTime, IsIndex, IsIndexOf, IsPrepared};
 
 use crate::shadow::Shadow;

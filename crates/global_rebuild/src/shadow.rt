@@ -4,8 +4,9 @@ ghost use Rattle.query_laws.specs.Permuted.{Permuted};
 ghost use Rattle.builder_trait.specs.Parts.{without};
 ghost use Rattle.id_chain.specs.Chain.{is_linked, IsCursor, before_cursor};
 ghost use Rattle.id_chain.specs.StampsRise.{StampsRise};
-ghost use Rattle.level_slots.specs.Slots.{IsPartOf, weight_of, live_items, all_items};
-ghost use Rattle.level_slots.specs.Cost.{IsWithin, quotas};
+ghost use Rattle.stack_levels.specs.Slots.{IsPartOf};
+ghost use Rattle.stack_levels.specs.Levels.{weight_of, live_items, all_items};
+ghost use Rattle.stack_levels.specs.Cost.{IsWithin, quotas};
 ghost use Rattle.level_slots.specs.Rooms.{rooms_of};
 ghost use Rattle.global_rebuild.specs.Index.{live_in, IsForecast, IsShadowOf};
 

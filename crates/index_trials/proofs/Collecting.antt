@@ -5,8 +5,8 @@ use Rattle.query_laws.specs.StepLedger.{Counts}
 use Rattle.builder_trait.specs.Parts.{Contents}
 use Rattle.id_chain.specs.Chain.{Entry, HandlesDiffer, is_linked}
 use Rattle.id_chain.proofs.Entries.{unlinked_both, unlinked_head, unlinked_more}
-use Rattle.level_slots.specs.Cost.{IsWithin, quotas}
-use Rattle.level_slots.proofs.Spending.{IsWithin-more, IsWithin-then, quotas-fewer}
+use Rattle.stack_levels.specs.Cost.{IsWithin, quotas}
+use Rattle.stack_levels.proofs.Spending.{IsWithin-more, IsWithin-then, quotas-fewer}
 use Rattle.global_rebuild.specs.Index.{Indexed, IsIndexOf, live_in}
 use Rattle.global_rebuild.proofs.Weights.{as_many}
 

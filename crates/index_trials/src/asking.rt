@@ -1,6 +1,6 @@
 //! Questions put to an index.
 ghost use Rattle.std.specs.Prelude.{◌≡◌, IfOk, IsErr, IsTrue, map};
-ghost use Rattle.level_slots.specs.Slots.{parts_of};
+ghost use Rattle.stack_levels.specs.Levels.{parts_of};
 
 use crate::collection::Collection;
 use builder_trait::{Answers, Asking, Builder};

@@ -1,7 +1,7 @@
 //! A chain and the index of its items.
 ghost use Rattle.std.specs.Prelude.{◌≡◌, ◌≢◌, ℕ, ◌+◌, ◌*◌, ◌^◌, ◌<◌, ◌≤◌, ◌++◌, ◌∷◌, [], Some, None, IfOk, OnErr, IsTrue, length, false};
 ghost use Rattle.id_chain.specs.Chain.{HandlesDiffer, is_linked, item_at, without_handle};
-ghost use Rattle.level_slots.specs.Cost.{IsWithin, quotas};
+ghost use Rattle.stack_levels.specs.Cost.{IsWithin, quotas};
 ghost use Rattle.global_rebuild.specs.Index.{IsIndexOf, live_in};
 
 use builder_trait::{Builder, Part};

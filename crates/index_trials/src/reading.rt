@@ -1,6 +1,6 @@
 //! What an index tells of itself.
 ghost use Rattle.std.specs.Prelude.{◌≡◌, ◌+◌, ◌*◌, ◌-◌, ◌≤◌, length};
-ghost use Rattle.level_slots.specs.Slots.{weight_of, parts_of};
+ghost use Rattle.stack_levels.specs.Levels.{weight_of, parts_of};
 ghost use Rattle.global_rebuild.specs.Index.{unwalked, shadow_weight};
 ghost use Rattle.index_trials.specs.Reading.{is_light};
 

@@ -4,13 +4,13 @@ use Rattle.std.proofs.lemmas.Bool.{cases_lt}
 use Rattle.std.proofs.lemmas.List.Elements.{All-cons, All-nil}
 use Rattle.builder_trait.specs.Parts.{Contents, has_stamp}
 use Rattle.partial_build.specs.Construction.{live_of}
-use Rattle.level_slots.specs.Slots.{Slots, weight_of, parts_of, live_items, asked_in, asked}
-use Rattle.level_slots.specs.Asking.{HaveAtMost}
-use Rattle.level_slots.specs.Level.{IsOfLevel}
-use Rattle.level_slots.specs.Neighbours.{IsTower}
-use Rattle.level_slots.specs.Stack.{AreAllLevels}
-use Rattle.level_slots.proofs.MarkedLevels.{light_level}
-use Rattle.level_slots.proofs.Publishing.{higher}
+use Rattle.stack_levels.specs.Slots.{Slots, asked_in}
+use Rattle.stack_levels.specs.Levels.{weight_of, parts_of, live_items, asked}
+use Rattle.level_slots.specs.Height.{HaveAtMost}
+use Rattle.stack_levels.specs.Level.{IsOfLevel}
+use Rattle.stack_levels.specs.Towers.{IsTower, AreAllLevels}
+use Rattle.stack_levels.proofs.MarkedLevels.{light_level}
+use Rattle.stack_levels.proofs.Publishing.{higher}
 
 unless : (b : Bool) (n m : ℕ) → n ≤ m → (if b then 0 else n) ≤ m
 unless true n m few = omega arith

@@ -7,13 +7,15 @@ use Rattle.std.proofs.lemmas.Nat.{pow_pos}
 use Rattle.std.proofs.lemmas.List.Elements.{All-cons, All-head, All-push, All-tail}
 use Rattle.query_laws.specs.Orders.{AllStampsDiffer}
 use Rattle.builder_trait.specs.Parts.{Contents}
-use Rattle.level_slots.specs.Slots.{Slots, ticks_of, held_in, held_of, lowest_held, weight_in, weight_of, parts_of, live_in, items_in, live_items, all_items}
-use Rattle.level_slots.specs.Neighbours.{IsBelow, IsTower, IsPunctual, IsDue, IsDueSoon, HaveRooms, HaveRoomsAbove}
+use Rattle.stack_levels.specs.Slots.{Slots, ticks_of, held_in, weight_in, live_in, items_in}
+use Rattle.stack_levels.specs.Levels.{held_of, lowest_held, weight_of, parts_of, live_items, all_items}
+use Rattle.stack_levels.specs.Neighbours.{IsBelow, IsPunctual}
+use Rattle.stack_levels.specs.Towers.{IsTower, IsDue, IsDueSoon, HaveRooms, HaveRoomsAbove, AreAllLevels}
 use Rattle.level_slots.specs.Rooms.{rooms_in, forecast_of}
-use Rattle.level_slots.specs.Stack.{AreAllLevels, IsStack}
+use Rattle.level_slots.specs.Stack.{IsStack}
 use Rattle.level_slots.specs.Preparing.{AreNumbered, AreRising, KeepRooms, KeepRoomsAbove, AreForecast, IsHighestQuiet, AreEnough, IsBounded, IsKept}
-use Rattle.level_slots.proofs.Publishing.{doubled}
-use Rattle.level_slots.proofs.Neighbouring.{none_ticks}
+use Rattle.stack_levels.proofs.Publishing.{doubled}
+use Rattle.stack_levels.proofs.Neighbouring.{none_ticks}
 
 module _ {P Item : Type 0} where
   -- a level is as it was, but for its room and kept builders

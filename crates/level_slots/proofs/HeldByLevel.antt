@@ -1,7 +1,8 @@
 -- How many parts of each level are in memory.
 use Rattle.std.proofs.Common.{◌≡◌, ℕ, ◌+◌, ◌∙◌, List, [], ◌∷◌, map, drop, sum, ap, ap₂, sym, arith}
 use Rattle.std.proofs.lemmas.List.Sums.{sum-map, sum_by-cons}
-use Rattle.level_slots.specs.Slots.{Slots, held_in, held_of, lowest_held}
+use Rattle.stack_levels.specs.Slots.{Slots, held_in}
+use Rattle.stack_levels.specs.Levels.{held_of, lowest_held}
 
 module _ {P Item : Type 0} where
   held-summed : (levels : List (Slots P Item)) → held_of levels ≡ sum (map held_in levels)

@@ -1,15 +1,5 @@
-pub mod Distinct
-pub mod Held
-pub mod Spending
-pub mod Publishing
-pub mod Neighbouring
-pub mod Towers
 pub mod HeldByLevel
 pub mod Stacks
 pub mod FewParts
-pub mod Marks
-pub mod Noting
-pub mod MarkedLevels
-pub mod Joining
 pub mod Forecasting
 pub mod TakingOver

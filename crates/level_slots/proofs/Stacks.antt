@@ -1,30 +1,16 @@
 -- A stack after a tick.
-use Rattle.std.proofs.Common.{◌≡◌, ℕ, zero, suc, ◌+◌, ◌*◌, ◌^◌, ◌≤◌, ◌∙◌, List, [], ◌∷◌, ◌++◌, Bool, length, take, drop, All, refl, ap, sym, subst, arith}
+use Rattle.std.proofs.Common.{◌≡◌, ℕ, ◌+◌, ◌*◌, ◌^◌, ◌≤◌, [], Bool, length, All, sym, subst, arith}
 use Rattle.std.proofs.lemmas.List.Elements.{All-nil}
 use Rattle.query_laws.specs.Orders.{AllStampsDiffer}
 use Rattle.query_laws.specs.StepLedger.{Counts}
 use Rattle.builder_trait.specs.Parts.{Contents}
 use Rattle.partial_build.specs.Quota.{quota}
-use Rattle.level_slots.specs.Slots.{Stacked, weight_of, all_items, lowest_held}
-use Rattle.level_slots.specs.Cost.{IsWithin, quotas}
-use Rattle.level_slots.specs.Neighbours.{IsPunctual, IsDue, IsDueSoon, HaveRoomsAbove}
-use Rattle.level_slots.specs.Stack.{IsStack, AreAllLevels}
-use Rattle.level_slots.proofs.Spending.{quotas-first, IsWithin-then}
-
--- a slice of a whole list was written
-pub written : {A : Type 0} (n : ℕ) (old new : List A) → n ≡ length old → length new ≡ length old → take n (new ++ drop (length new) old) ≡ new
-written {A} n old new same as_long = subst (λ k. take k (new ++ drop (length new) old) ≡ new) (as_long ∙ sym same)
-    (ap (λ l. take (length new) (new ++ l)) (none_left old (length new) (omega (arith, as_long))) ∙ whole new)
-  where
-    none_left : (l : List A) (k : ℕ) → length l ≤ k → drop k l ≡ []
-    none_left [] zero few = refl
-    none_left [] (suc k) few = refl
-    none_left (x ∷ l) zero few = absurd (omega (arith, few))
-    none_left (x ∷ l) (suc k) few = none_left l k (omega (arith, few))
-
-    whole : (l : List A) → take (length l) (l ++ []) ≡ l
-    whole [] = refl
-    whole (x ∷ l) = ap (λ m. x ∷ m) (whole l)
+use Rattle.stack_levels.specs.Levels.{weight_of, all_items, lowest_held}
+use Rattle.level_slots.specs.Stack.{Stacked, IsStack}
+use Rattle.stack_levels.specs.Cost.{IsWithin, quotas}
+use Rattle.stack_levels.specs.Neighbours.{IsPunctual}
+use Rattle.stack_levels.specs.Towers.{IsDue, IsDueSoon, HaveRoomsAbove, AreAllLevels}
+use Rattle.stack_levels.proofs.Spending.{IsWithin-then, quotas-first}
 
 module _ {P Item : Type 0} {contents : P → Contents Item} {stamp : Item → ℕ} {before : ℕ → Item → Item → Bool} {slope base : ℕ} where
   pub IsStack-empty : IsStack contents stamp before slope base (record { levels = []; spare = 0; starters = 0 })

@@ -1,7 +1,8 @@
 -- Parts that are given up, and kept elsewhere.
 use Rattle.std.proofs.Common.{◌≡◌, ℕ, ◌+◌, ◌^◌, ◌<◌, ◌≤◌, ◌∙◌, List, [], ◌∷◌, ◌++◌, Option, Some, None, IfSome, if◌then◌else◌, length, ⊎_elim, refl, ap, ap₂, arith}
 use Rattle.std.proofs.lemmas.Bool.{cases_lt}
-use Rattle.level_slots.specs.Slots.{Slots, held_in, held_of}
+use Rattle.stack_levels.specs.Slots.{Slots, held_in}
+use Rattle.stack_levels.specs.Levels.{held_of}
 use Rattle.level_slots.specs.Rooms.{rooms_in}
 use Rattle.level_slots.specs.Preparing.{AreSameButKept, KeepRooms, KeepRoomsAbove}
 use Rattle.level_slots.proofs.Forecasting.{IsSame-kept}

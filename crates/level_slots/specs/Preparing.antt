@@ -1,9 +1,10 @@
 -- What a preparation keeps, and what it makes ready.
 use Rattle.std.specs.Prelude.{◌≡◌, ℕ, ◌+◌, ◌*◌, ◌^◌, ◌<◌, ◌≤◌, Bool, true, List, [], ◌∷◌, All, length, nat_le}
 use Rattle.builder_trait.specs.Parts.{Contents}
-use Rattle.level_slots.specs.Slots.{Slots, ticks_of, live_items, all_items, weight_of, parts_of}
-use Rattle.level_slots.specs.Neighbours.{IsPunctual, IsDue, IsDueSoon, HaveRoomsAbove}
-use Rattle.level_slots.specs.Stack.{AreAllLevels}
+use Rattle.stack_levels.specs.Slots.{Slots, ticks_of}
+use Rattle.stack_levels.specs.Levels.{live_items, all_items, weight_of, parts_of}
+use Rattle.stack_levels.specs.Neighbours.{IsPunctual}
+use Rattle.stack_levels.specs.Towers.{IsDue, IsDueSoon, HaveRoomsAbove, AreAllLevels}
 
 module _ {P Item : Type 0} where
   -- the levels above one have the next numbers

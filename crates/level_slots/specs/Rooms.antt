@@ -1,6 +1,7 @@
 -- Rooms for the constructions to come, made by forecast.
 use Rattle.std.specs.Prelude.{ℕ, ◌+◌, ◌*◌, ◌^◌, List, [], ◌∷◌, if◌then◌else◌, nat_le}
-use Rattle.level_slots.specs.Slots.{Slots, Stacked, ticks_of}
+use Rattle.stack_levels.specs.Slots.{Slots, ticks_of}
+use Rattle.level_slots.specs.Stack.{Stacked}
 
 module _ {P Item : Type 0} where
   -- the weight of the rooms of levels that are held for constructions to begin

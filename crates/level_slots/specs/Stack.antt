@@ -1,39 +1,30 @@
--- What holds of a stack between two ticks.
-use Rattle.std.specs.Prelude.{◌≡◌, ℕ, ◌+◌, ◌^◌, ◌<◌, ◌≤◌, Bool, List, [], ◌∷◌, None, All, length}
+-- What contracts see of a stack, and what holds of it between two ticks.
+use Rattle.std.specs.Prelude.{ℕ, ◌+◌, ◌^◌, ◌<◌, ◌≤◌, Bool, List, ◌∷◌, All, length, map, drop}
 use Rattle.query_laws.specs.Orders.{AllStampsDiffer}
 use Rattle.builder_trait.specs.Parts.{Contents}
-use Rattle.level_slots.specs.Slots.{Slots, Stacked, weight_of, all_items, lowest_held}
-use Rattle.level_slots.specs.Neighbours.{IsPunctual, IsDue, IsDueSoon, HaveRoomsAbove, HaveRoomsAhead, IsTower, IsHalfway}
+use Rattle.stack_levels.specs.Slots.{Slots, held_in}
+use Rattle.stack_levels.specs.Levels.{weight_of, all_items, lowest_held, held_of}
+use Rattle.stack_levels.specs.Neighbours.{IsPunctual}
+use Rattle.stack_levels.specs.Towers.{AreAllLevels, IsDue, IsDueSoon, HaveRoomsAbove}
+
+-- all levels, lowest first; how many ticks need no more memory; how many builders stand ready for single items
+pub record Stacked (P Item : Type 0) : Type 0 where
+  pub levels : List (Slots P Item)
+  pub spare : ℕ
+  pub starters : ℕ
 
 module _ {P Item : Type 0} where
-  -- the rooms of the levels above the lowest one, for constructions that begin in this tick
-  abbrev pub HaveRoomsNow : List (Slots P Item) → Type 0
-  HaveRoomsNow [] = Unit {0}
-  HaveRoomsNow (lowest ∷ above) = HaveRoomsAbove IsDue above
+  -- all parts of a stack that are in memory, with the builders for single items
+  abbrev pub memory_of : Stacked P Item → ℕ
+  memory_of s = s.starters + held_of s.levels
 
-  -- the same for the next tick
-  abbrev pub HaveRoomsNext : List (Slots P Item) → Type 0
-  HaveRoomsNext [] = Unit {0}
-  HaveRoomsNext (lowest ∷ above) = HaveRoomsAhead lowest above
+  -- how many parts of each level are in memory, lowest first; the builders for single items are of level 0
+  abbrev pub held_by_level : Stacked P Item → List ℕ
+  held_by_level s = (s.starters + lowest_held s.levels) ∷ drop 1 (map held_in s.levels)
 
   module _ (contents : P → Contents Item) (stamp : Item → ℕ) (before : ℕ → Item → Item → Bool) where
-    -- levels between two ticks, from any one up
-    abbrev pub AreLevels : List (Slots P Item) → Type 0
-    AreLevels [] = Unit {0}
-    AreLevels (lower ∷ above) = IsTower contents stamp before lower above
-
-    -- the levels of a stack: the lowest one is level 0, and no construction is made into it
-    abbrev pub AreAllLevels : List (Slots P Item) → Type 0
-    AreAllLevels [] = Unit {0}
-    AreAllLevels (lowest ∷ above) = (lowest.level ≡ 0) × (lowest.construction ≡ None) × IsTower contents stamp before lowest above
-
-    -- the levels of a stack within a tick that level 0 has taken
-    abbrev pub AreHalfway : List (Slots P Item) → Type 0
-    AreHalfway [] = ⊥
-    AreHalfway (lowest ∷ above) = (lowest.level ≡ 0) × (lowest.construction ≡ None) × IsHalfway contents stamp before lowest above
-
     pub record IsStack (slope base : ℕ) (s : Stacked P Item) : Type 0 where
-      pub levels : AreAllLevels s.levels
+      pub levels : AreAllLevels contents stamp before s.levels
       pub punctual : All (IsPunctual slope base) s.levels
       pub apart : AllStampsDiffer stamp (all_items contents s.levels)
       pub light : weight_of s.levels ≤ 2 ^ 31

@@ -5,13 +5,9 @@
 //! under construction is made of the two oldest of the level below. A question is put to the complete parts alone.
 #![tactic(auto)]
 
-mod asking;
-mod level;
-mod marking;
 mod preparing;
 mod retired;
 mod stack;
-mod visiting;
 
 pub use retired::Retired;
 pub use stack::Stack;

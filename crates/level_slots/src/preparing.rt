@@ -1,15 +1,15 @@
 //! The memory for the ticks to come: levels, rooms for constructions, and builders for single items.
 ghost use Rattle.std.specs.Prelude.{◌≡◌, ℕ, ◌+◌, ◌^◌, ◌<◌, ◌≤◌, true, false, All, IfOk, OnErr, None, length};
 ghost use Rattle.builder_trait.specs.Builders.{begun};
-ghost use Rattle.level_slots.specs.Slots.{weight_of, held_in, held_of, lowest_held};
-ghost use Rattle.level_slots.specs.Neighbours.{IsDueSoon, HaveRoomsAbove};
-ghost use Rattle.level_slots.specs.Stack.{AreAllLevels};
+ghost use Rattle.stack_levels.specs.Slots.{held_in};
+ghost use Rattle.stack_levels.specs.Levels.{weight_of, held_of, lowest_held};
+ghost use Rattle.stack_levels.specs.Towers.{IsDueSoon, HaveRoomsAbove, AreAllLevels};
 ghost use Rattle.level_slots.specs.Rooms.{rooms_in, kept_in, forecast_of};
 ghost use Rattle.level_slots.specs.Preparing.{AreNumbered, AreRising, KeepRooms, AreForecast, AreEnough, IsBounded, IsKept};
 
-use crate::level::Level;
 use builder_trait::{Builder, Part};
 use query_laws::{Item, NoMemory};
+use stack_levels::Level;
 use std::alloc::Global;
 
 /// The most levels that a stack has.

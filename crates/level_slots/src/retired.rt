@@ -1,13 +1,13 @@
 //! What is left of a stack that isn't asked any more: memory, given up part by part.
 ghost use Rattle.std.specs.Prelude.{◌≡◌, ◌==◌, ◌+◌, ◌-◌, ◌*◌, ◌<◌, ◌≤◌, All, IfSome, length};
 ghost use Rattle.builder_trait.specs.Builders.{begun};
-ghost use Rattle.level_slots.specs.Slots.{held_of, lowest_held};
+ghost use Rattle.stack_levels.specs.Levels.{held_of, lowest_held};
 ghost use Rattle.level_slots.specs.Rooms.{rooms_in};
 ghost use Rattle.level_slots.specs.Preparing.{AreSameButKept, IsKept};
 
-use crate::level::Level;
 use builder_trait::{Builder, Part};
 use query_laws::Item;
+use stack_levels::Level;
 use std::marker::Model;
 
 /// The memory of a retired stack. Contracts see it as the number of parts in memory, in whatever use they were.
@@ -23,7 +23,7 @@ pub struct Retired<B: Builder> {
 impl<B: Builder> Model for Retired<B> {
     ghost use Rattle.std.specs.Prelude.{ℕ, ◌≡◌, ◌≤◌, ◌+◌, All, length};
     ghost use Rattle.builder_trait.specs.Builders.{begun};
-    ghost use Rattle.level_slots.specs.Slots.{held_of};
+    ghost use Rattle.stack_levels.specs.Levels.{held_of};
 
     ghost Value = { ℕ };
 

@@ -6,21 +6,20 @@ ghost use Rattle.builder_trait.specs.Parts.{without};
 ghost use Rattle.builder_trait.specs.Builders.{begun};
 ghost use Rattle.partial_build.specs.Construction.{live_of};
 ghost use Rattle.partial_build.specs.Quota.{quota};
-ghost use Rattle.level_slots.specs.Slots.{Stacked, IsPartOf, live_items, all_items, weight_of, parts_of, held_in, held_by_level, memory_of, asked};
-ghost use Rattle.level_slots.specs.Asking.{IsHeight, HaveAtMost, touches_of};
-ghost use Rattle.level_slots.specs.Level.{IsOfLevel};
-ghost use Rattle.level_slots.specs.Cost.{IsWithin, quotas};
+ghost use Rattle.stack_levels.specs.Slots.{IsPartOf, held_in};
+ghost use Rattle.stack_levels.specs.Levels.{live_items, all_items, weight_of, parts_of, asked, touches_of};
+ghost use Rattle.level_slots.specs.Stack.{Stacked, held_by_level, memory_of};
+ghost use Rattle.level_slots.specs.Height.{IsHeight, HaveAtMost};
+ghost use Rattle.stack_levels.specs.Level.{IsOfLevel};
+ghost use Rattle.stack_levels.specs.Cost.{IsWithin, quotas};
 ghost use Rattle.level_slots.specs.Rooms.{rooms_of, kept_in, forecast_of};
 
-use crate::asking::ask_levels;
-use crate::level::Level;
-use crate::marking::take_out;
 use crate::preparing::{builders_kept, rooms_held, take_memory};
 use crate::retired::{Retired, keep};
-use crate::visiting::take_in;
 use builder_trait::{Answers, Asking, Builder, Part, part_of_one};
 use query_laws::step_ledger::Steps;
 use query_laws::{Item, NoMemory, Question};
+use stack_levels::{Level, ask_levels, take_in, take_out};
 use std::alloc::Global;
 use std::marker::Model;
 use std::sync::ledger::Ledger;
@@ -43,7 +42,8 @@ pub struct Stack<B: Builder> {
 impl<B: Builder> Model for Stack<B> {
     ghost use Rattle.std.specs.Prelude.{◌≡◌, ◌≤◌, All, length};
     ghost use Rattle.builder_trait.specs.Builders.{begun};
-    ghost use Rattle.level_slots.specs.Slots.{Stacked, live_items, weight_of};
+    ghost use Rattle.stack_levels.specs.Levels.{live_items, weight_of};
+    ghost use Rattle.level_slots.specs.Stack.{Stacked};
     ghost use Rattle.level_slots.specs.Stack.{IsStack};
 
     ghost Value = { Stacked B.Part B.Item };

@@ -1,6 +1,6 @@
 //! Twelve inserts, a delete after five, and the rooms that are held.
 ghost use Rattle.std.specs.Prelude.{◌≡◌, ◌<◌, ◌≤◌, ◌^◌, [], Contains, OnOk};
-ghost use Rattle.level_slots.specs.Slots.{weight_of, live_items};
+ghost use Rattle.stack_levels.specs.Levels.{weight_of, live_items};
 
 mod item;
 

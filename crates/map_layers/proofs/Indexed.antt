@@ -8,8 +8,9 @@ use Rattle.query_laws.specs.Permuted.{nothing}
 use Rattle.query_laws.specs.StepLedger.{Counts}
 use Rattle.builder_trait.specs.Parts.{Contents}
 use Rattle.partial_build.specs.Construction.{live_of}
-use Rattle.level_slots.specs.Slots.{Slots, parts_of, live_in, live_items}
-use Rattle.level_slots.specs.Cost.{IsWithin}
+use Rattle.stack_levels.specs.Slots.{Slots, live_in}
+use Rattle.stack_levels.specs.Levels.{parts_of, live_items}
+use Rattle.stack_levels.specs.Cost.{IsWithin}
 use Rattle.global_rebuild.specs.Index.{Indexed, IsIndexOf}
 use Rattle.map_layers.specs.Indexing.{if_there}
 

@@ -7,7 +7,7 @@ use Rattle.std.proofs.lemmas.List.{length-append, length-set, map-append}
 use Rattle.std.proofs.lemmas.List.Elements.{All-set}
 use Rattle.std.proofs.lemmas.List.Folds.{list_any-append}
 use Rattle.std.proofs.lemmas.Slice.Eq.{bytes_eq-Decides}
-use Rattle.level_slots.proofs.Stacks.{written}
+use Rattle.stack_levels.proofs.Held.{written}
 use Rattle.map_model.specs.State.{Item, layer_named, changed, with_items}
 use Rattle.map_model.specs.Shape.{Points}
 use Rattle.map_model.specs.Index.{no_indexes}

@@ -10,9 +10,10 @@ use Rattle.query_laws.specs.StepLedger.{Counts, Spends, lap_of}
 use Rattle.builder_trait.specs.Parts.{Contents}
 use Rattle.id_chain.specs.Chain.{Entry}
 use Rattle.partial_build.specs.Construction.{live_of}
-use Rattle.level_slots.specs.Slots.{Slots, parts_of, live_in, live_items}
-use Rattle.level_slots.specs.Asking.{HaveAtMost, touches_of}
-use Rattle.level_slots.proofs.Publishing.{higher}
+use Rattle.stack_levels.specs.Slots.{Slots, live_in}
+use Rattle.stack_levels.specs.Levels.{parts_of, live_items, touches_of}
+use Rattle.level_slots.specs.Height.{HaveAtMost}
+use Rattle.stack_levels.proofs.Publishing.{higher}
 use Rattle.global_rebuild.specs.Index.{Indexed, IsIndexOf}
 use Rattle.map_shapes.specs.declared.point.Point.{Point}
 use Rattle.map_shapes.specs.declared.rect.Rect.{Rect}

@@ -3,8 +3,8 @@ use Rattle.std.proofs.Common.{◌≡◌, ℕ, zero, suc, ◌+◌, ◌-◌, ◌*�
 use Rattle.std.specs.List.{range_with_len}
 use Rattle.std.specs.Option.{is_some}
 use Rattle.query_laws.specs.StepLedger.{Counts, lap_begun, lap_of}
-use Rattle.level_slots.specs.Cost.{IsWithin, quotas}
-use Rattle.level_slots.proofs.Spending.{IsWithin-more, IsWithin-then, quotas-first, quotas-fewer}
+use Rattle.stack_levels.specs.Cost.{IsWithin, quotas}
+use Rattle.stack_levels.proofs.Spending.{IsWithin-more, IsWithin-then, quotas-first, quotas-fewer}
 use Rattle.partial_build.specs.Quota.{quota}
 use Rattle.global_rebuild.specs.Index.{Indexed}
 use Rattle.map_model.specs.Index.{one_if, index_count}

@@ -2,9 +2,9 @@
 use Rattle.std.specs.Prelude.{◌≡◌, ℕ, ◌+◌, ◌*◌, ◌^◌, ◌≤◌, IfSome, Bool, Option, None, Some, Result, Ok, Err}
 use Rattle.query_laws.specs.StepLedger.{Counts, Spends, lap_of}
 use Rattle.builder_trait.specs.Parts.{Contents}
-use Rattle.level_slots.specs.Slots.{parts_of}
-use Rattle.level_slots.specs.Asking.{HaveAtMost, touches_of}
-use Rattle.level_slots.specs.Cost.{IsWithin}
+use Rattle.stack_levels.specs.Levels.{parts_of, touches_of}
+use Rattle.level_slots.specs.Height.{HaveAtMost}
+use Rattle.stack_levels.specs.Cost.{IsWithin}
 use Rattle.global_rebuild.specs.Index.{Indexed}
 use Rattle.map_model.specs.State.{Layer, live_count}
 use Rattle.map_model.specs.Cost.{bounds_at, turn_bound, mark_bound, IsSpent, IsAsked}

@@ -2,7 +2,7 @@
 ghost use Rattle.std.specs.Prelude.{◌≡◌, ℕ, ◌+◌, ◌*◌, ◌^◌, ◌<◌, ◌≤◌, ◌++◌, ◌∷◌, [], List, IsTrue, OnOk, length};
 ghost use Rattle.std.specs.Option.{is_some};
 ghost use Rattle.id_chain.specs.Chain.{Entry, HandlesDiffer, is_linked, without_handle};
-ghost use Rattle.level_slots.specs.Cost.{IsWithin, quotas};
+ghost use Rattle.stack_levels.specs.Cost.{IsWithin, quotas};
 ghost use Rattle.map_layers.specs.Indexing.{if_there, IsOf, IsReady, IsBelow};
 
 use builder_trait::{Builder, Part};

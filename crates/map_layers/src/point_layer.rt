@@ -2,8 +2,8 @@
 ghost use Rattle.std.specs.Prelude.{◌≡◌, ℕ, ◌+◌, ◌*◌, ◌<◌, ◌≤◌, ◌^◌, true, false, [], IfOk, OnOk, IfSome, bytes_eq, length, map};
 ghost use Rattle.std.specs.Option.{is_some, option_map};
 ghost use Rattle.query_laws.specs.StepLedger.{Spends, lap_begun};
-ghost use Rattle.level_slots.specs.Slots.{parts_of};
-ghost use Rattle.level_slots.specs.Asking.{HaveAtMost, touches_of};
+ghost use Rattle.stack_levels.specs.Levels.{parts_of, touches_of};
+ghost use Rattle.level_slots.specs.Height.{HaveAtMost};
 ghost use Rattle.map_model.specs.Index.{index_count};
 ghost use Rattle.map_model.specs.Shape as model;
 ghost use Rattle.map_model.specs.State as state;

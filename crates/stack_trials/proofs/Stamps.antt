@@ -6,7 +6,7 @@ use Rattle.std.proofs.lemmas.List.Sorted.{All-permutation}
 use Rattle.std.proofs.lemmas.List.Sums.{length-filter, count_by-le-length}
 use Rattle.query_laws.proofs.Permutations.{IsPermutation-from_Permuted, Permuted-sym}
 use Rattle.builder_trait.specs.Parts.{without}
-use Rattle.level_slots.specs.Slots.{IsPartOf}
+use Rattle.stack_levels.specs.Slots.{IsPartOf}
 use Rattle.stack_trials.specs.Trial.{AreBelow}
 
 All-first : {A : Type 0} (Q : A → Type 0) (xs ys : List A) → All Q (xs ++ ys) → All Q xs

@@ -3,7 +3,8 @@ use Rattle.std.specs.Prelude.{◌≡◌, ℕ, ◌<◌, ◌≤◌, List, All, len
 use Rattle.query_laws.specs.Permuted.{Permuted}
 use Rattle.builder_trait.specs.Parts.{Contents}
 use Rattle.map_shapes.specs.declared.point.Point.{Point}
-use Rattle.level_slots.specs.Slots.{Slots, live_items, all_items, weight_of}
+use Rattle.stack_levels.specs.Slots.{Slots}
+use Rattle.stack_levels.specs.Levels.{live_items, all_items, weight_of}
 
 -- the stamps of the items are below a number
 pub record AreBelow {Item : Type 0} (stamp : Item → ℕ) (limit : ℕ) (items : List Item) : Type 0 where

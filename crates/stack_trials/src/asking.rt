@@ -1,6 +1,6 @@
 //! Questions put to a stack.
 ghost use Rattle.std.specs.Prelude.{◌≡◌, IfOk, IsErr, IsTrue};
-ghost use Rattle.level_slots.specs.Slots.{live_items, parts_of};
+ghost use Rattle.stack_levels.specs.Levels.{live_items, parts_of};
 
 use builder_trait::{Answers, Asking, Builder, Part};
 use level_slots::Stack;

@@ -1,6 +1,6 @@
 //! A stack into which points are inserted, and what that took.
 ghost use Rattle.std.specs.Prelude.{◌≡◌, ◌+◌, ◌<◌, ◌≤◌, ◌^◌, ℕ, Some, IfOk, OnOk, length, slice_get};
-ghost use Rattle.level_slots.specs.Slots.{weight_of};
+ghost use Rattle.stack_levels.specs.Levels.{weight_of};
 ghost use Rattle.map_shapes.specs.declared.point.Point.{Point};
 ghost use Rattle.stack_trials.specs.Trial.{AreNumbered};
 

@@ -1,7 +1,7 @@
 //! Items that are inserted in the order of their stamps.
 ghost use Rattle.std.specs.Prelude.{◌≡◌, ◌+◌, ◌^◌, ◌<◌, ◌≤◌, ◌∷◌};
 ghost use Rattle.query_laws.specs.Permuted.{Permuted};
-ghost use Rattle.level_slots.specs.Slots.{live_items, weight_of};
+ghost use Rattle.stack_levels.specs.Levels.{live_items, weight_of};
 ghost use Rattle.stack_trials.specs.Trial.{AreNumbered};
 
 use builder_trait::{Builder, Part};

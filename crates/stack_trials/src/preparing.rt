@@ -1,6 +1,6 @@
 //! Memory that is asked for twice.
 ghost use Rattle.std.specs.Prelude.{◌≡◌, ◌≤◌, IfOk};
-ghost use Rattle.level_slots.specs.Slots.{live_items, all_items, weight_of};
+ghost use Rattle.stack_levels.specs.Levels.{live_items, all_items, weight_of};
 
 use builder_trait::{Builder, Part};
 use level_slots::Stack;

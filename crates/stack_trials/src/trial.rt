@@ -1,7 +1,7 @@
 //! A stack beside a plain list.
 ghost use Rattle.std.specs.Prelude.{◌≡◌, ◌+◌, ◌<◌, ◌^◌, OnOk, IfOk, length};
 ghost use Rattle.query_laws.specs.Sums.{capped_sum};
-ghost use Rattle.level_slots.specs.Slots.{parts_of, weight_of};
+ghost use Rattle.stack_levels.specs.Levels.{parts_of, weight_of};
 ghost use Rattle.map_shapes.specs.Questions.{count_in, ids_in};
 ghost use Rattle.stack_trials.specs.Trial.{AreAlike, live_points};
 

@@ -1,10 +1,10 @@
 use Rattle.std.proofs.Common.{◌≡◌, ℕ, ◌+◌, ◌*◌, ◌^◌, ◌≤◌, All, refl, ap, sym, subst, arith, pow_mono}
 use Rattle.std.proofs.Math.Nat.{mul-le-mul_right}
 use Rattle.std.proofs.lemmas.List.Elements.{All-cons}
-use Rattle.level_slots.specs.Slots.{held_in}
+use Rattle.stack_levels.specs.Slots.{held_in}
 use Rattle.level_slots.specs.Rooms.{kept_in}
 use Rattle.level_slots.specs.Preparing.{AreRising, IsBounded}
-use Rattle.level_slots.proofs.Publishing.{none_of}
+use Rattle.stack_levels.proofs.Publishing.{none_of}
 use Rattle.level_slots.proofs.Forecasting.{rising-rest, IsBounded-more, IsBounded-fits}
 use Rattle.level_slots.proofs.preparing.+builders_kept.Goals as goal
 

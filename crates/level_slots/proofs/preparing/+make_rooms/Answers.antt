@@ -1,5 +1,5 @@
 use Rattle.std.proofs.Common.{◌+◌, ◌^◌, ◌∙◌, ◌∷◌, sym, subst, ap, arith, le-leb}
-use Rattle.level_slots.specs.Slots.{ticks_of}
+use Rattle.stack_levels.specs.Slots.{ticks_of}
 use Rattle.level_slots.specs.Preparing.{AreNumbered, KeepRooms}
 use Rattle.level_slots.proofs.Forecasting.{KeepRooms-refl, KeepRooms-from, numbered-from, when_ok}
 use Rattle.level_slots.proofs.preparing.+make_rooms.Goals as goal

@@ -1,7 +1,7 @@
 use Rattle.std.proofs.Common.{◌+◌, ◌^◌, ◌≤◌, refl, ap, sym, subst, arith, pow_mono}
 use Rattle.level_slots.specs.Rooms.{rooms_in}
 use Rattle.level_slots.specs.Preparing.{AreRising, IsBounded}
-use Rattle.level_slots.proofs.Publishing.{none_of}
+use Rattle.stack_levels.proofs.Publishing.{none_of}
 use Rattle.level_slots.proofs.Forecasting.{rising-rest, IsBounded-more, IsBounded-fits}
 use Rattle.level_slots.proofs.preparing.+rooms_held.Goals as goal
 

@@ -1,6 +1,6 @@
 use Rattle.std.proofs.Common.{◌∙◌, ◌^◌, ◌<◌, ◌≤◌, length, sym, subst}
-use Rattle.level_slots.specs.Slots.{weight_of}
-use Rattle.level_slots.specs.Stack.{AreAllLevels}
+use Rattle.stack_levels.specs.Levels.{weight_of}
+use Rattle.stack_levels.specs.Towers.{AreAllLevels}
 use Rattle.level_slots.specs.Preparing.{AreEnough}
 use Rattle.level_slots.proofs.Forecasting.{IsKept-then}
 use Rattle.level_slots.proofs.preparing.add_levels.Goals as goal

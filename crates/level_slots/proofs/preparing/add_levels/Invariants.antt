@@ -1,5 +1,5 @@
 use Rattle.std.proofs.Common.{◌≡◌, ◌-◌, length}
-use Rattle.level_slots.specs.Slots.{held_of, lowest_held}
+use Rattle.stack_levels.specs.Levels.{held_of, lowest_held}
 use Rattle.level_slots.specs.Preparing.{IsKept}
 use Rattle.level_slots.proofs.preparing.add_levels.Given as goal
 

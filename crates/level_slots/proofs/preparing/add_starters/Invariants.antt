@@ -1,6 +1,6 @@
 use Rattle.std.proofs.Common.{◌≡◌, ◌+◌, ◌-◌, ◌≤◌, All, length}
 use Rattle.builder_trait.specs.Builders.{begun}
-use Rattle.level_slots.specs.Slots.{held_of, lowest_held}
+use Rattle.stack_levels.specs.Levels.{held_of, lowest_held}
 use Rattle.level_slots.specs.Preparing.{IsKept}
 use Rattle.level_slots.proofs.preparing.add_starters.Given as goal
 

@@ -1,5 +1,5 @@
 use Rattle.std.proofs.Common.{◌∷◌, refl, sym, subst, ap}
-use Rattle.level_slots.specs.Stack.{AreAllLevels}
+use Rattle.stack_levels.specs.Towers.{AreAllLevels}
 use Rattle.level_slots.specs.Preparing.{AreNumbered, IsKept}
 use Rattle.level_slots.proofs.Forecasting.{KeepRooms-from, IsKept-rooms, numbered-from, numbered-kept, numbered-tower, rooms-few, rooms-ready, when_ok}
 use Rattle.level_slots.proofs.preparing.forecast_rooms.Goals as goal

@@ -1,5 +1,5 @@
 use Rattle.std.proofs.Common.{◌+◌, ◌^◌, ◌<◌, ◌∙◌, length, sym, arith, leb-false, ltb-false}
-use Rattle.level_slots.specs.Slots.{ticks_of}
+use Rattle.stack_levels.specs.Slots.{ticks_of}
 use Rattle.level_slots.proofs.Forecasting.{enough-highest, enough-light}
 use Rattle.level_slots.proofs.preparing.is_short.Goals as goal
 

@@ -1,9 +1,8 @@
 use Rattle.std.proofs.Common.{◌^◌, ◌<◌, ◌≤◌, length, drop, ap, sym, subst, arith, IfOk}
 use Rattle.std.proofs.lemmas.List.{take_at}
-use Rattle.level_slots.specs.Slots.{weight_of, held_of, lowest_held}
-use Rattle.level_slots.specs.Neighbours.{IsDueSoon, HaveRoomsAbove}
+use Rattle.stack_levels.specs.Levels.{weight_of, held_of, lowest_held}
+use Rattle.stack_levels.specs.Towers.{IsDueSoon, HaveRoomsAbove, AreAllLevels}
 use Rattle.level_slots.specs.Rooms.{rooms_in, forecast_of}
-use Rattle.level_slots.specs.Stack.{AreAllLevels}
 use Rattle.level_slots.specs.Preparing.{AreEnough, IsKept}
 use Rattle.level_slots.proofs.Forecasting.{IsKept-then, anyway_ok, when_ok}
 use Rattle.level_slots.proofs.preparing.take_memory.Goals as goal

@@ -1,7 +1,7 @@
 use Rattle.std.proofs.Common.{◌≡◌, ◌-◌, ⊎_elim, IfOk, ap, subst, arith}
 use Rattle.std.proofs.lemmas.Bool.{cases_lt}
 use Rattle.builder_trait.specs.Builders.{begun}
-use Rattle.level_slots.specs.Slots.{held_in}
+use Rattle.stack_levels.specs.Slots.{held_in}
 use Rattle.level_slots.proofs.Forecasting.{IsSame-kept, IsKept-lowest, lowest_level, lowest_construction, held-lowest, when_err}
 use Rattle.level_slots.proofs.preparing.take_starter.Goals as goal
 

@@ -1,5 +1,5 @@
 use Rattle.std.proofs.Common.{◌≡◌, ◌<◌, ◌∙◌, [], ◌∷◌, ◌++◌, IfSome, option_to_list, ap, subst, arith}
-use Rattle.level_slots.specs.Slots.{held_of}
+use Rattle.stack_levels.specs.Levels.{held_of}
 use Rattle.level_slots.proofs.TakingOver.{held-pushed, anyway_some}
 use Rattle.level_slots.proofs.retired.+give_up_in.Goals as goal
 

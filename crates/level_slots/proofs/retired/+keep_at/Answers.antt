@@ -1,5 +1,5 @@
 use Rattle.std.proofs.Common.{◌∷◌, sym, subst, ap, arith}
-use Rattle.level_slots.specs.Slots.{held_of, lowest_held}
+use Rattle.stack_levels.specs.Levels.{held_of, lowest_held}
 use Rattle.level_slots.specs.Preparing.{AreSameButKept}
 use Rattle.level_slots.proofs.TakingOver.{AreSameButKept-refl, grown}
 use Rattle.level_slots.proofs.retired.+keep_at.Goals as goal

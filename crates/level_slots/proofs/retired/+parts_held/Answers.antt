@@ -1,6 +1,6 @@
 use Rattle.std.proofs.Common.{ap, sym, arith}
-use Rattle.level_slots.specs.Slots.{held_of}
-use Rattle.level_slots.proofs.Publishing.{none_of}
+use Rattle.stack_levels.specs.Levels.{held_of}
+use Rattle.stack_levels.proofs.Publishing.{none_of}
 use Rattle.level_slots.proofs.retired.+parts_held.Goals as goal
 
 pub returns-in-None-clause-value : goal.returns-in-None-clause-value

@@ -1,8 +1,8 @@
 use Rattle.std.proofs.Common.{◌≡◌, ◌+◌, ◌≤◌, ◌∙◌, length, ap, sym, subst, arith}
-use Rattle.level_slots.specs.Slots.{held_of, lowest_held}
+use Rattle.stack_levels.specs.Levels.{held_of, lowest_held}
 use Rattle.level_slots.specs.Rooms.{rooms_in}
 use Rattle.level_slots.specs.Preparing.{AreSameButKept, IsKept}
-use Rattle.level_slots.proofs.Stacks.{written}
+use Rattle.stack_levels.proofs.Held.{written}
 use Rattle.level_slots.proofs.Forecasting.{IsKept-rooms}
 use Rattle.level_slots.proofs.TakingOver.{KeepRoomsAbove-same, length-same, rooms-same}
 use Rattle.level_slots.proofs.retired.keep.Goals as goal

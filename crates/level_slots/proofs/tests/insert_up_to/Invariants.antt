@@ -1,5 +1,5 @@
 use Rattle.std.proofs.Common.{◌≡◌, ◌<◌, All, Contains}
-use Rattle.level_slots.specs.Slots.{weight_of, live_items, all_items}
+use Rattle.stack_levels.specs.Levels.{weight_of, live_items, all_items}
 use Rattle.level_slots.proofs.tests.insert_up_to.Given as goal
 
 abbrev pub invariant-loop-stamp : goal.invariant-loop-stamp

@@ -1,5 +1,5 @@
 use Rattle.std.proofs.Common.{ℕ, suc, ◌+◌, ◌*◌, ◌^◌, ◌<◌, ◌≤◌, ⊎_elim, arith, pow-suc}
-use Rattle.level_slots.proofs.Publishing.{higher}
+use Rattle.stack_levels.proofs.Publishing.{higher}
 use Rattle.std.proofs.lemmas.Bool.{cases_lt}
 use Rattle.map_model.specs.Cost.{greatest_level}
 use Rattle.map_model.proofs.Levels.{IsLog-halvings}

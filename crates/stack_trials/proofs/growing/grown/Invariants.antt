@@ -1,5 +1,5 @@
 use Rattle.std.proofs.Common.{◌≡◌}
-use Rattle.level_slots.specs.Slots.{weight_of}
+use Rattle.stack_levels.specs.Levels.{weight_of}
 use Rattle.stack_trials.specs.Trial.{AreNumbered}
 use Rattle.stack_trials.proofs.growing.grown.Given as goal
 

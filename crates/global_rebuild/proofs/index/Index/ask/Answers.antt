@@ -1,7 +1,7 @@
 use Rattle.std.proofs.Common.{◌+◌, ◌∙◌, map, ap}
 use Rattle.query_laws.proofs.Values.{value-Permuted}
 use Rattle.level_slots.proofs.Forecasting.{when_ok}
-use Rattle.level_slots.specs.Slots.{live_items, parts_of}
+use Rattle.stack_levels.specs.Levels.{live_items, parts_of}
 use Rattle.global_rebuild.proofs.index.Index.ask.Goals as goal
 
 pub returns-clause-joined : goal.returns-clause-joined

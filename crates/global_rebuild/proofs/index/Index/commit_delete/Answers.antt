@@ -1,6 +1,6 @@
 use Rattle.std.proofs.Common.{rules, ◌≡◌, ◌≢◌, [], ◌+◌, ◌^◌, ◌<◌, ◌∙◌, true, false, Some, None, ap, sym, subst, arith}
 use Rattle.id_chain.specs.Chain.{is_linked, after, first_handle, IsCursor, before_cursor, without_handle}
-use Rattle.level_slots.specs.Slots.{weight_of}
+use Rattle.stack_levels.specs.Levels.{weight_of}
 use Rattle.global_rebuild.specs.Index.{IsIndex, IsIndexOf, live_in}
 use Rattle.global_rebuild.proofs.Dropping.{ready_of, dropped_live, main_light, main_few, live_light, one_dropped, walked_light, walked_few_enough, walked_item, starts, stays_quiet, goes_on_without, goes_on_moved, goes_on_after, left_without, left_after, one_walked, one_delete, at_most_two, both_deletes}
 use Rattle.global_rebuild.proofs.index.Index.commit_delete.Goals as goal

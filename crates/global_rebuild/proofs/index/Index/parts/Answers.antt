@@ -1,6 +1,6 @@
 use Rattle.std.proofs.Common.{◌+◌, ◌*◌, ◌≤◌, ◌^◌, ap, subst, arith}
-use Rattle.level_slots.specs.Slots.{parts_of}
-use Rattle.level_slots.specs.Asking.{HaveAtMost}
+use Rattle.stack_levels.specs.Levels.{parts_of}
+use Rattle.level_slots.specs.Height.{HaveAtMost}
 use Rattle.global_rebuild.specs.Index.{live_in}
 use Rattle.global_rebuild.proofs.Weights.{main_within}
 use Rattle.global_rebuild.proofs.index.Index.parts.Goals as goal

@@ -1,6 +1,7 @@
 use Rattle.std.proofs.Common.{rules, ◌≡◌, None, ◌∙◌, Some, Result, Ok, Err, IfOk, ap, sym, subst, arith}
 use Rattle.level_slots.proofs.Forecasting.{when_ok, anyway_ok}
-use Rattle.level_slots.specs.Slots.{weight_of, memory_of}
+use Rattle.stack_levels.specs.Levels.{weight_of}
+use Rattle.level_slots.specs.Stack.{memory_of}
 use Rattle.global_rebuild.specs.Index.{Shadow, live_in}
 use Rattle.global_rebuild.proofs.Swapping.{IsSwapped, ended, not_swapped, prepared, walked, weights, given_up}
 use Rattle.global_rebuild.proofs.index.Index.prepare.Given.{Over}

@@ -1,5 +1,5 @@
 use Rattle.std.proofs.Common.{arith}
-use Rattle.level_slots.proofs.Spending.{IsWithin-more}
+use Rattle.stack_levels.proofs.Spending.{IsWithin-more}
 use Rattle.global_rebuild.proofs.shadow.Shadow.delete.Goals as goal
 
 pub returns-clause-cost : goal.returns-clause-cost

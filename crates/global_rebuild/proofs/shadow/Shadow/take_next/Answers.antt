@@ -1,7 +1,8 @@
 use Rattle.std.proofs.Common.{◌≡◌, ◌+◌, ◌∙◌, ◌∷◌, inr, length, ap, sym, subst, arith}
 use Rattle.query_laws.specs.Permuted.{Permuted}
 use Rattle.query_laws.proofs.Permutations.{Permuted-length}
-use Rattle.level_slots.specs.Slots.{IsPartOf, live_items, all_items, weight_of}
+use Rattle.stack_levels.specs.Slots.{IsPartOf}
+use Rattle.stack_levels.specs.Levels.{live_items, all_items, weight_of}
 use Rattle.global_rebuild.specs.Index.{live_in}
 use Rattle.global_rebuild.proofs.Walking.{IsShadowOf-next}
 use Rattle.global_rebuild.proofs.shadow.Shadow.take_next.Given.{Over}

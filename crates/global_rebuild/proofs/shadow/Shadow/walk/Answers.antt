@@ -1,7 +1,7 @@
 use Rattle.std.proofs.Common.{◌≡◌, ℕ, ◌+◌, ◌*◌, ◌<◌, ◌≤◌, ◌∙◌, ⊎_elim, inl, inr, ap, subst, arith}
-use Rattle.level_slots.specs.Cost.{IsWithin, quotas}
+use Rattle.stack_levels.specs.Cost.{IsWithin, quotas}
 use Rattle.query_laws.specs.StepLedger.{Counts}
-use Rattle.level_slots.proofs.Spending.{IsWithin-more, IsWithin-then}
+use Rattle.stack_levels.proofs.Spending.{IsWithin-more, IsWithin-then}
 use Rattle.global_rebuild.proofs.shadow.Shadow.walk.Goals as goal
 
 lighter : {a b m : ℕ} → a ≤ b → b < m → a < m

@@ -1,5 +1,5 @@
 use Rattle.std.proofs.Common.{ap, arith}
-use Rattle.level_slots.specs.Slots.{held_of}
+use Rattle.stack_levels.specs.Levels.{held_of}
 use Rattle.level_slots.proofs.retired.Retired.len.Goals as goal
 
 pub returns : goal.returns

@@ -1,6 +1,6 @@
 use Rattle.std.proofs.Common.{◌≡◌, ◌∙◌, IfOk, ap, subst}
-use Rattle.level_slots.specs.Slots.{live_items, parts_of}
-use Rattle.level_slots.proofs.Joining.{asked_over}
+use Rattle.stack_levels.specs.Levels.{live_items, parts_of}
+use Rattle.stack_levels.proofs.Joining.{asked_over}
 use Rattle.level_slots.proofs.stack.Stack.ask.Goals as goal
 
 pub returns-clause-joined : goal.returns-clause-joined

@@ -3,11 +3,13 @@ use Rattle.query_laws.specs.Orders.{AllStampsDiffer}
 use Rattle.query_laws.specs.Permuted.{Permuted}
 use Rattle.query_laws.proofs.Permutations.{Permuted-length}
 use Rattle.builder_trait.specs.Builders.{begun}
-use Rattle.level_slots.specs.Slots.{Stacked, IsPartOf, held_in, held_of, lowest_held, held_by_level, memory_of, weight_of, live_items, all_items}
-use Rattle.level_slots.specs.Neighbours.{IsDue, IsDueSoon, HaveRoomsAbove}
-use Rattle.level_slots.specs.Stack.{IsStack, AreAllLevels}
-use Rattle.level_slots.proofs.Distinct.{AllStampsDiffer-push, AllStampsDiffer-part}
-use Rattle.level_slots.proofs.Stacks.{written, IsStack-ticked, IsWithin-first}
+use Rattle.stack_levels.specs.Slots.{IsPartOf, held_in}
+use Rattle.stack_levels.specs.Levels.{held_of, lowest_held, weight_of, live_items, all_items}
+use Rattle.level_slots.specs.Stack.{Stacked, held_by_level, memory_of, IsStack}
+use Rattle.stack_levels.specs.Towers.{IsDue, IsDueSoon, HaveRoomsAbove, AreAllLevels}
+use Rattle.stack_levels.proofs.Distinct.{AllStampsDiffer-push, AllStampsDiffer-part}
+use Rattle.stack_levels.proofs.Held.{written}
+use Rattle.level_slots.proofs.Stacks.{IsStack-ticked, IsWithin-first}
 use Rattle.level_slots.proofs.HeldByLevel.{each_level-same, held-split}
 use Rattle.level_slots.proofs.stack.Stack.insert.Goals as goal
 

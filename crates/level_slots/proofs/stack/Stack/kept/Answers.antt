@@ -1,5 +1,5 @@
 use Rattle.std.proofs.Common.{◌≤◌, ◌∙◌, All, sym, subst, ap}
-use Rattle.level_slots.specs.Slots.{held_in}
+use Rattle.stack_levels.specs.Slots.{held_in}
 use Rattle.level_slots.specs.Rooms.{kept_in}
 use Rattle.level_slots.specs.Preparing.{AreRising}
 use Rattle.level_slots.proofs.Forecasting.{rising}

@@ -1,5 +1,5 @@
 use Rattle.std.proofs.Common.{◌≤◌, length, drop, All}
-use Rattle.level_slots.specs.Asking.{IsIdle}
+use Rattle.stack_levels.specs.Slots.{IsIdle}
 use Rattle.level_slots.proofs.stack.Stack.levels.Given as goal
 
 abbrev pub invariant-loop-height : goal.invariant-loop-height

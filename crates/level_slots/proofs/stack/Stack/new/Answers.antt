@@ -1,7 +1,8 @@
 use Rattle.std.proofs.Common.{◌≡◌, ◌≤◌, List, [], length, All, refl, sym, subst, arith}
 use Rattle.std.proofs.lemmas.List.Elements.{All-nil}
 use Rattle.builder_trait.specs.Builders.{begun}
-use Rattle.level_slots.specs.Slots.{Slots, weight_of, live_items}
+use Rattle.stack_levels.specs.Slots.{Slots}
+use Rattle.stack_levels.specs.Levels.{weight_of, live_items}
 use Rattle.level_slots.specs.Stack.{IsStack}
 use Rattle.level_slots.proofs.Stacks.{IsStack-empty}
 use Rattle.level_slots.proofs.stack.Stack.new.Goals as goal

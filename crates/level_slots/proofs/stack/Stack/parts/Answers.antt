@@ -5,8 +5,9 @@ use Rattle.std.proofs.lemmas.List.Elements.{All-more}
 use Rattle.std.proofs.lemmas.List.Sums.{sum_by_more}
 use Rattle.std.proofs.lemmas.List.Recursion.{is_sum_by}
 use Rattle.builder_trait.specs.Parts.{Contents}
-use Rattle.level_slots.specs.Slots.{Slots, weight_of, parts_of}
-use Rattle.level_slots.specs.Level.{IsOfLevel}
+use Rattle.stack_levels.specs.Slots.{Slots}
+use Rattle.stack_levels.specs.Levels.{weight_of, parts_of}
+use Rattle.stack_levels.specs.Level.{IsOfLevel}
 use Rattle.level_slots.proofs.FewParts.{parts-few, parts-small}
 use Rattle.level_slots.proofs.stack.Stack.parts.Goals as goal
 

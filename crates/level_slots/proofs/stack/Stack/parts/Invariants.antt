@@ -1,5 +1,5 @@
 use Rattle.std.proofs.Common.{◌≡◌, ◌*◌, ◌≤◌, All, length, sum_by, take}
-use Rattle.level_slots.specs.Level.{IsOfLevel}
+use Rattle.stack_levels.specs.Level.{IsOfLevel}
 use Rattle.level_slots.proofs.stack.Stack.parts.Given as goal
 
 abbrev pub invariant-loop-level : goal.invariant-loop-level

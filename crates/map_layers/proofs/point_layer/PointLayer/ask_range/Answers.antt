@@ -1,7 +1,7 @@
 use Rattle.std.proofs.Common.{rules, Some, ◌≡◌, ◌+◌, ◌*◌, ◌^◌, ◌≤◌, length, ap, subst, sym, arith}
 use Rattle.std.specs.Prelude.{IfSome}
-use Rattle.level_slots.specs.Slots.{parts_of}
-use Rattle.level_slots.specs.Asking.{HaveAtMost}
+use Rattle.stack_levels.specs.Levels.{parts_of}
+use Rattle.level_slots.specs.Height.{HaveAtMost}
 use Rattle.global_rebuild.specs.Index.{IsIndexOf}
 use Rattle.global_rebuild.proofs.Weights.{as_many}
 use Rattle.map_model.specs.Cost.{greatest_level}

@@ -1,0 +1,15 @@
+-- How large the complete parts of levels are, and how high they stand.
+use Rattle.std.specs.Prelude.{◌≡◌, ℕ, ◌+◌, ◌≤◌, List, Some, All, length, drop, slice_get}
+use Rattle.builder_trait.specs.Parts.{Contents}
+use Rattle.stack_levels.specs.Slots.{Slots, IsIdle}
+
+module _ {P Item : Type 0} where
+  -- no complete part has more than so many items, dead ones included
+  abbrev pub HaveAtMost : (P → Contents Item) → ℕ → List (Slots P Item) → Type 0
+  HaveAtMost contents n levels = All (λ l. All (λ p. length (contents p).items ≤ n) l.parts) levels
+
+  -- the levels from a height on are idle, and the one right below it, if there is one, isn't
+  pub record IsHeight (levels : List (Slots P Item)) (height : ℕ) : Type 0 where
+    pub within : height ≤ length levels
+    pub idle : All IsIdle (drop height levels)
+    pub least : (k : ℕ) (l : Slots P Item) → height ≡ k + 1 → slice_get levels k ≡ Some l → IsIdle l → ⊥

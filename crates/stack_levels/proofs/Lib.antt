@@ -1,0 +1,10 @@
+pub mod Distinct
+pub mod Held
+pub mod Spending
+pub mod Publishing
+pub mod Neighbouring
+pub mod Towers
+pub mod Marks
+pub mod Noting
+pub mod MarkedLevels
+pub mod Joining

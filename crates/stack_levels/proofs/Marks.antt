@@ -1,0 +1,180 @@
+-- An item that is marked as dead, in lists of parts.
+use Rattle.std.proofs.Common.{◌≡◌, ◌≢◌, ℕ, suc, ◌+◌, ◌*◌, ◌<◌, ◌==◌, ◌||◌, Bool, true, false, not, cond, if◌then◌else◌, Option, Some, List, [], ◌∷◌, ◌++◌, ◌∙◌, length, get_or, All, slice_get, refl, sym, ap, ap₂, subst, arith}
+use Rattle.std.specs.List.{flat_map, items_where_true}
+use Rattle.std.proofs.lemmas.Bool.Decides.{nat_tests}
+use Rattle.std.proofs.lemmas.List.{get_or_append_left, get_or-append-add, length-append}
+use Rattle.std.proofs.lemmas.List.Elements.{All-cons, All-head, All-nil, All-tail}
+use Rattle.std.proofs.lemmas.Option.{get_or_from_slice_get, slice_get_within, slice_get-get_or}
+use Rattle.query_laws.specs.Orders.{AllStampsDiffer}
+use Rattle.query_laws.specs.StepLedger.{Counts, Spends}
+use Rattle.query_laws.proofs.Counting.{Spends-then, Spends-within}
+use Rattle.builder_trait.specs.Parts.{Contents, OwnsStamp, has_stamp, without, marked}
+use Rattle.builder_trait.proofs.Marking.{fallen, items-fallen, has_stamp_none, marked-same}
+use Rattle.partial_build.specs.Construction.{live_of}
+use Rattle.stack_levels.specs.Slots.{asked_in}
+use Rattle.stack_levels.specs.Level.{IsOfLevel}
+use Rattle.stack_levels.specs.Marking.{IsLiveIn, Lacks, AreMarkedAt, nowhere, here, later}
+use Rattle.stack_levels.proofs.Distinct.{StampsDiffer-parts}
+
+module _ {A : Type 0} (Q : A → Type 0) where
+  pub All-first : (xs ys : List A) → All Q (xs ++ ys) → All Q xs
+  All-first xs ys h = λ k d within. subst Q (get_or_append_left xs ys d k within) (h k d (omega (arith, within, length-append xs ys)))
+
+  pub All-second : (xs ys : List A) → All Q (xs ++ ys) → All Q ys
+  All-second xs ys h = λ k d within. subst Q (get_or-append-add xs ys k d) (h (length xs + k) d (omega (arith, within, length-append xs ys)))
+
+  pub All-each : {P : Type 0} (f : P → List A) (ps : List P) → All Q (flat_map f ps) → All (λ p. All Q (f p)) ps
+  All-each f [] h = All-nil (λ p. All Q (f p))
+  All-each f (p ∷ ps) h = All-cons (λ q. All Q (f q)) p ps (All-first (f p) (flat_map f ps) h) (All-each f ps (All-second (f p) (flat_map f ps) h))
+
+or_first : (a b : Bool) → (a || b) ≡ false → a ≡ false
+or_first true b off = off
+or_first false b off = refl
+
+or_second : (a b : Bool) → (a || b) ≡ false → b ≡ false
+or_second true b off = absurd cc
+or_second false b off = off
+
+module _ {Item : Type 0} (stamp : Item → ℕ) (s : ℕ) where
+  pub has_stamp-append : (xs ys : List Item) → has_stamp stamp s (xs ++ ys) ≡ (has_stamp stamp s xs || has_stamp stamp s ys)
+  has_stamp-append [] ys = refl
+  has_stamp-append (x ∷ xs) ys = by (stamp x == s) (has_stamp-append xs ys)
+    where
+      by : (b : Bool) → has_stamp stamp s (xs ++ ys) ≡ (has_stamp stamp s xs || has_stamp stamp s ys)
+          → (b || has_stamp stamp s (xs ++ ys)) ≡ ((b || has_stamp stamp s xs) || has_stamp stamp s ys)
+      by true rest = refl
+      by false rest = rest
+
+  pub without-append : (xs ys : List Item) → without stamp s (xs ++ ys) ≡ without stamp s xs ++ without stamp s ys
+  without-append [] ys = refl
+  without-append (x ∷ xs) ys = by (not (stamp x == s)) (without-append xs ys)
+    where
+      by : (b : Bool) → without stamp s (xs ++ ys) ≡ without stamp s xs ++ without stamp s ys
+          → cond b (x ∷ without stamp s (xs ++ ys)) (without stamp s (xs ++ ys)) ≡ cond b (x ∷ without stamp s xs) (without stamp s xs) ++ without stamp s ys
+      by true rest = ap (λ l. x ∷ l) rest
+      by false rest = rest
+
+  -- no item has the stamp
+  pub without-lacking : (xs : List Item) → has_stamp stamp s xs ≡ false → without stamp s xs ≡ xs
+  without-lacking [] off = refl
+  without-lacking (x ∷ xs) off =
+      let here : (stamp x == s) ≡ false = or_first (stamp x == s) (has_stamp stamp s xs) off in
+      ap (λ b. cond (not b) (x ∷ without stamp s xs) (without stamp s xs)) here
+      ∙ ap (λ l. x ∷ l) (without-lacking xs (or_second (stamp x == s) (has_stamp stamp s xs) off))
+
+  -- no live item has it: no flag falls
+  pub fallen-lacking : (xs : List Item) (flags : List Bool) → length flags ≡ length xs → has_stamp stamp s (items_where_true flags xs) ≡ false
+      → fallen stamp s xs flags ≡ flags
+  fallen-lacking [] [] same off = refl
+  fallen-lacking [] (flag ∷ flags) same off = absurd (omega (arith, same))
+  fallen-lacking (x ∷ xs) [] same off = absurd (omega (arith, same))
+  fallen-lacking (x ∷ xs) (true ∷ flags) same off =
+      let here : (stamp x == s) ≡ false = or_first (stamp x == s) (has_stamp stamp s (items_where_true flags xs)) off in
+      ap₂ (λ b l. not b ∷ l) here
+      (fallen-lacking xs flags (omega (arith, same)) (or_second (stamp x == s) (has_stamp stamp s (items_where_true flags xs)) off))
+  fallen-lacking (x ∷ xs) (false ∷ flags) same off = ap (λ l. false ∷ l) (fallen-lacking xs flags (omega (arith, same)) off)
+
+  -- a live item that has it
+  pub live_at : (xs : List Item) (flags : List Bool) → has_stamp stamp s (items_where_true flags xs) ≡ true
+      → (k : ℕ) × (y : Item) × (slice_get xs k ≡ Some y) × (slice_get flags k ≡ Some true) × (stamp y ≡ s)
+  live_at xs [] on = absurd cc
+  live_at [] (flag ∷ flags) on = absurd cc
+  live_at (x ∷ xs) (true ∷ flags) on = by (stamp x == s) refl (live_at xs flags)
+    where
+      by : (b : Bool) → (stamp x == s) ≡ b
+          → (has_stamp stamp s (items_where_true flags xs) ≡ true
+          → (k : ℕ) × (y : Item) × (slice_get xs k ≡ Some y) × (slice_get flags k ≡ Some true) × (stamp y ≡ s))
+          → (k : ℕ) × (y : Item) × (slice_get (x ∷ xs) k ≡ Some y) × (slice_get (true ∷ flags) k ≡ Some true) × (stamp y ≡ s)
+      by true test rest_of = (0, x, refl, refl, grind (arith, nat_tests, test))
+      by false test rest_of =
+          let rest = rest_of (sym (ap (λ b. b || has_stamp stamp s (items_where_true flags xs)) test) ∙ on) in
+          (suc rest.0, rest.1, rest.2, rest.3, rest.4)
+  live_at (x ∷ xs) (false ∷ flags) on = let rest = live_at xs flags on in (suc rest.0, rest.1, rest.2, rest.3, rest.4)
+
+module _ {P Item : Type 0} (contents : P → Contents Item) (stamp : Item → ℕ) (x : Item) where
+  -- the part has it, and no other one of the list
+  pub others_lack : (p : P) (ps : List P) → AllStampsDiffer stamp ((contents p).items ++ flat_map (λ q. (contents q).items) ps)
+      → IsLiveIn (contents p) x → All (λ q. Lacks stamp (stamp x) (contents q)) ps
+  others_lack p ps apart live =
+      let rest = flat_map (λ q. (contents q).items) ps in
+      let differ : All (λ y. stamp y ≢ stamp x) rest =
+      λ l d within same. StampsDiffer-parts stamp (contents p).items rest apart live.0 l x (get_or rest l d) live.1 (slice_get-get_or rest l d within) (sym same) in
+      let each = All-each (λ y. stamp y ≢ stamp x) (λ q. (contents q).items) ps differ in
+      λ k d within. has_stamp_none stamp (stamp x) (contents (get_or ps k d)).items (contents (get_or ps k d)).flags (each k d within)
+
+  pub live_of-marked : (p p' : P) → contents p' ≡ marked stamp (stamp x) (contents p)
+      → live_of (contents p') ≡ without stamp (stamp x) (live_of (contents p))
+  live_of-marked p p' same = ap live_of same ∙ items-fallen stamp (stamp x) (contents p).items (contents p).flags
+
+  lacking : (ps : List P) → All (λ q. Lacks stamp (stamp x) (contents q)) ps
+      → without stamp (stamp x) (flat_map (λ q. live_of (contents q)) ps) ≡ flat_map (λ q. live_of (contents q)) ps
+  lacking [] lacks = refl
+  lacking (p ∷ ps) lacks =
+      without-append stamp (stamp x) (live_of (contents p)) (flat_map (λ q. live_of (contents q)) ps)
+      ∙ ap₂ (λ l m. l ++ m) (without-lacking stamp (stamp x) (live_of (contents p)) (All-head (λ q. Lacks stamp (stamp x) (contents q)) p ps lacks))
+      (lacking ps (All-tail (λ q. Lacks stamp (stamp x) (contents q)) p ps lacks))
+
+  pub live-marked : {place : Option ℕ} {ps ps' : List P} → AreMarkedAt contents stamp x place ps ps'
+      → flat_map (λ q. live_of (contents q)) ps' ≡ without stamp (stamp x) (flat_map (λ q. live_of (contents q)) ps)
+  live-marked nowhere = refl
+  live-marked (here p p' ps live same lacks) =
+      ap₂ (λ l m. l ++ m) (live_of-marked p p' same) (sym (lacking ps lacks))
+      ∙ sym (without-append stamp (stamp x) (live_of (contents p)) (flat_map (λ q. live_of (contents q)) ps))
+  live-marked (later place p p' ps ps' lacks same rest) =
+      ap₂ (λ l m. l ++ m) (live_of-marked p p' same) (live-marked rest)
+      ∙ sym (without-append stamp (stamp x) (live_of (contents p)) (flat_map (λ q. live_of (contents q)) ps))
+
+  pub items-marked : {place : Option ℕ} {ps ps' : List P} → AreMarkedAt contents stamp x place ps ps'
+      → flat_map (λ q. (contents q).items) ps' ≡ flat_map (λ q. (contents q).items) ps
+  items-marked nowhere = refl
+  items-marked (here p p' ps live same lacks) = ap (λ c. c.items ++ flat_map (λ q. (contents q).items) ps) same
+  items-marked (later place p p' ps ps' lacks same rest) = ap₂ (λ c l. c.items ++ l) same (items-marked rest)
+
+  pub length-marked : {place : Option ℕ} {ps ps' : List P} → AreMarkedAt contents stamp x place ps ps' → length ps' ≡ length ps
+  length-marked nowhere = refl
+  length-marked (here p p' ps live same lacks) = refl
+  length-marked (later place p p' ps ps' lacks same rest) = ap (λ n. suc n) (length-marked rest)
+
+  -- a part in which it isn't live is as it was
+  pub unmarked : (p p' : P) → contents p' ≡ marked stamp (stamp x) (contents p) → length (contents p).flags ≡ length (contents p).items
+      → Lacks stamp (stamp x) (contents p) → contents p' ≡ contents p
+  unmarked p p' same flagged lacks =
+      same ∙ sym (marked-same stamp (stamp x) (contents p) (fallen-lacking stamp (stamp x) (contents p).items (contents p).flags flagged lacks))
+
+  -- the item itself lives there
+  pub lives : (p : P) → OwnsStamp stamp x (contents p).items → has_stamp stamp (stamp x) (live_of (contents p)) ≡ true → IsLiveIn (contents p) x
+  lives p owner on =
+      let found = live_at stamp (stamp x) (contents p).items (contents p).flags on in
+      let inside : found.0 < length (contents p).items = slice_get_within (contents p).items found.0 found.1 found.2 in
+      let is : found.1 ≡ x =
+      sym (get_or_from_slice_get (contents p).items found.0 found.1 x found.2)
+      ∙ owner found.0 x inside (ap stamp (get_or_from_slice_get (contents p).items found.0 found.1 x found.2) ∙ found.4) in
+      (found.0, found.2 ∙ ap (λ y. Some y) is, found.3)
+
+  -- the marks of one part and of the others
+  pub asked-here : (p : P) (ps : List P) → has_stamp stamp (stamp x) (live_of (contents p)) ≡ true → asked_in contents stamp (stamp x) (p ∷ ps) ≡ 1
+  asked-here p ps on = ap (λ b. 1 + (if b then 0 else asked_in contents stamp (stamp x) ps)) on
+
+  pub asked-later : (p : P) (ps : List P) → has_stamp stamp (stamp x) (live_of (contents p)) ≡ false
+      → asked_in contents stamp (stamp x) (p ∷ ps) ≡ 1 + asked_in contents stamp (stamp x) ps
+  asked-later p ps off = ap (λ b. 1 + (if b then 0 else asked_in contents stamp (stamp x) ps)) off
+
+  of_level : (level : ℕ) (p p' : P) → contents p' ≡ marked stamp (stamp x) (contents p) → IsOfLevel level (contents p) → IsOfLevel level (contents p')
+  of_level level p p' same h = subst (IsOfLevel level) (sym same) (record { at_level = h.at_level; fits = h.fits })
+
+  pub of_level-marked : (level : ℕ) {place : Option ℕ} {ps ps' : List P} → AreMarkedAt contents stamp x place ps ps'
+      → All (λ q. IsOfLevel level (contents q)) ps → All (λ q. IsOfLevel level (contents q)) ps'
+  of_level-marked level nowhere each = each
+  of_level-marked level (here p p' ps live same lacks) each =
+      All-cons (λ q. IsOfLevel level (contents q)) p' ps (of_level level p p' same (All-head (λ q. IsOfLevel level (contents q)) p ps each))
+      (All-tail (λ q. IsOfLevel level (contents q)) p ps each)
+  of_level-marked level (later place p p' ps ps' lacks same rest) each =
+      All-cons (λ q. IsOfLevel level (contents q)) p' ps' (of_level level p p' same (All-head (λ q. IsOfLevel level (contents q)) p ps each))
+      (of_level-marked level rest (All-tail (λ q. IsOfLevel level (contents q)) p ps each))
+
+pub Spends-here : {old new : Counts} {t : ℕ} (n : ℕ) → Spends old new 0 1 t → n ≡ 1 → Spends old new 0 n (n * t)
+Spends-here {old} {new} {t} n spent one = subst (λ m. Spends old new 0 m (m * t)) (sym one) (Spends-within spent refl refl (omega arith))
+
+pub Spends-later : {old mid new : Counts} {t : ℕ} (n m : ℕ) → Spends old mid 0 1 t → Spends mid new 0 m (m * t) → n ≡ 1 + m → Spends old new 0 n (n * t)
+Spends-later {old} {mid} {new} {t} n m first rest sum =
+    subst (λ k. Spends old new 0 k (k * t)) (sym sum) (Spends-within (Spends-then first rest) refl refl (omega arith))

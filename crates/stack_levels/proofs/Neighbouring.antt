@@ -1,0 +1,106 @@
+-- Neighbouring levels through a tick.
+use Rattle.std.proofs.Common.{◌≡◌, ℕ, suc, ◌+◌, ◌*◌, ◌^◌, ◌<◌, ◌≤◌, ◌⊎◌, ◌∙◌, Bool, Option, [], ◌∷◌, ◌++◌, Some, None, false, length, drop, inl, inr, refl, ap, ap₂, sym, subst, arith}
+use Rattle.std.specs.List.{flat_map}
+use Rattle.std.specs.Option.{option_map_or, is_some}
+use Rattle.std.proofs.lemmas.Nat.{pow_pos}
+use Rattle.query_laws.specs.Permuted.{Permuted}
+use Rattle.query_laws.proofs.Permutations.{Permuted-refl}
+use Rattle.builder_trait.specs.Parts.{Contents}
+use Rattle.partial_build.specs.Construction.{Builds, live_of}
+use Rattle.stack_levels.specs.Slots.{Slots, IsPartOf, ticks_of, weight_in, live_in, items_in}
+use Rattle.stack_levels.specs.Neighbours.{IsBelow, IsVisited, IsConstructionOf, IsFed, stays, arrives, IsPublication}
+use Rattle.stack_levels.proofs.Distinct.{IsPartOf-refl}
+use Rattle.stack_levels.proofs.Publishing.{doubled, live-published, items-published, weight-published}
+
+pub none_ticks : {P Item : Type 0} (l : Slots P Item) → l.construction ≡ None → ticks_of l ≡ 0
+none_ticks l none = ap (λ o. option_map_or (λ c. c.ticks) o 0) none
+
+pub not_some : {A : Type 0} (o : Option A) → is_some o ≡ false → o ≡ None
+not_some None none = refl
+not_some (Some x) none = absurd cc
+
+module _ {P Item : Type 0} (contents : P → Contents Item) (stamp : Item → ℕ) (before : ℕ → Item → Item → Bool) where
+  pub fed_by : (lower mid : Slots P Item) {a b : P} → lower.parts ≡ a ∷ b ∷ drop 2 lower.parts
+      → IsConstructionOf contents stamp before a b mid → IsFed contents stamp before lower mid
+  fed_by lower mid {a} {b} are h x y rest others c is =
+      let same : a ∷ b ∷ drop 2 lower.parts ≡ x ∷ y ∷ rest = sym are ∙ others in
+      let first : a ≡ x = cc in
+      let second : b ≡ y = cc in
+      let built : P → P → Type 0 = λ p q. Builds stamp before c (contents p) (contents q) in
+      subst (λ p. built p y) first (subst (λ p. built a p) second (h c is))
+
+  -- where the level below has fewer than two parts, nothing is done
+  pub visited-idle : {lower old : Slots P Item} → IsBelow contents stamp before 0 lower old → length lower.parts < 2
+      → IsVisited contents stamp before old lower old lower
+  visited-idle {lower} {old} h few = record {
+    below = record {
+      next_level = h.next_level;
+      few = h.few;
+      idle = h.idle;
+      fed = h.fed;
+      early = h.early;
+      clock = λ two. absurd (omega (arith, few, two));
+    };
+    advances = stays refl (omega arith);
+    live = Permuted-refl (live_in contents old ++ live_in contents lower);
+    items = IsPartOf-refl (items_in contents old ++ items_in contents lower);
+    weight = refl;
+    rooms = inr refl;
+  }
+
+  module _ {old lower mid : Slots P Item} (h : IsBelow contents stamp before 0 lower old) (two : 2 ≤ length lower.parts)
+      (same : mid.parts ≡ old.parts) (level : mid.level ≡ old.level) (ticked : ticks_of mid ≡ ticks_of old + 1)
+      (rooms : (old.construction ≡ None) ⊎ (mid.has_room ≡ old.has_room)) where
+    -- a construction took its tick, and isn't at its end
+    pub visited-ticked : IsFed contents stamp before lower mid → ticks_of mid < 2 ^ mid.level → IsVisited contents stamp before old lower mid lower
+    visited-ticked fed early = record {
+      below = record {
+        next_level = level ∙ h.next_level;
+        few = h.few;
+        idle = λ less. absurd (omega (arith, two, less));
+        fed = fed;
+        early = early;
+        clock = λ _. omega (arith, h.clock two, ticked);
+      };
+      advances = stays same (omega (arith, ticked));
+      live = subst (λ ps. Permuted (flat_map (λ p. live_of (contents p)) ps ++ live_in contents lower) (live_in contents old ++ live_in contents lower))
+          (sym same) (Permuted-refl (live_in contents old ++ live_in contents lower));
+      items = subst (λ ps. IsPartOf (flat_map (λ p. (contents p).items) ps ++ items_in contents lower) (items_in contents old ++ items_in contents lower))
+          (sym same) (IsPartOf-refl (items_in contents old ++ items_in contents lower));
+      weight = ap₂ (λ n k. n * 2 ^ k + weight_in lower) (ap length same) level;
+      rooms = inl two;
+    }
+
+    -- it was at its end, and its part was published
+    pub visited-published : (new lower' : Slots P Item) → 2 ^ old.level ≡ ticks_of mid → IsPublication contents mid lower new lower' → new.level ≡ old.level
+        → lower'.level ≡ lower.level → new.has_room ≡ mid.has_room → IsVisited contents stamp before old lower new lower'
+    visited-published new lower' ended p same_level same_below same_room = record {
+      below = record {
+        next_level = same_level ∙ h.next_level ∙ ap (λ k. k + 1) (sym same_below);
+        few = omega (arith, h.few, fewer);
+        idle = λ _. p.none;
+        fed = λ a b rest _ c some. absurd cc;
+        early = omega (arith, none_ticks new p.none, powers);
+        clock = λ more. absurd (omega (arith, more, h.few, fewer));
+      };
+      advances = arrives p.fresh (p.arrived ∙ ap (λ ps. ps ++ p.fresh ∷ []) same) (none_ticks new p.none) (ended ∙ ticked);
+      live = subst (λ ps. Permuted (live_in contents new ++ live_in contents lower') (flat_map (λ q. live_of (contents q)) ps ++ live_in contents lower))
+          same (live-published contents p);
+      items = subst (λ ps. IsPartOf (items_in contents new ++ items_in contents lower') (flat_map (λ q. (contents q).items) ps ++ items_in contents lower))
+          same (items-published contents p);
+      weight = weight-published contents p (level ∙ h.next_level) (same_level ∙ sym level) same_below
+          ∙ ap₂ (λ n k. n * 2 ^ k + weight_in lower) (ap length same) level;
+      rooms = elim rooms [
+        | inl none ↦ absurd (omega (arith, ended, ticked, none_ticks old none, bigger))
+        | inr kept ↦ inr (same_room ∙ kept)
+      ];
+    }
+      where
+        fewer : length lower.parts ≡ suc (suc (length lower'.parts))
+        fewer = ap length p.retired
+
+        powers : 0 < 2 ^ new.level
+        powers = pow_pos new.level
+
+        bigger : 2 ≤ 2 ^ old.level
+        bigger = subst (λ k. 2 ≤ 2 ^ k) (sym h.next_level) (omega (arith, doubled lower.level, pow_pos lower.level))

@@ -1,0 +1,16 @@
+use Rattle.std.proofs.Common.{◌≡◌, ◌+◌, sum_by, take}
+use Rattle.std.specs.List.{flat_map}
+use Rattle.query_laws.specs.StepLedger.{Spends}
+use Rattle.partial_build.specs.Construction.{live_of}
+use Rattle.stack_levels.proofs.level.Level.ask.Given as goal
+
+abbrev pub invariant-loop-part : goal.invariant-loop-part
+invariant-loop-part g l = record {
+  asked : l.asking ≡ record l.initial.asking {
+    so_far = g.Q.Question.join l.initial.asking.question l.initial.asking.so_far
+        (g.Q.Question.value l.initial.asking.question (flat_map (λ p. live_of (g.B.Part.Part.contents p)) (take l.part-index l.self.parts)));
+    parts = l.initial.asking.parts + l.part-index;
+  };
+  lawful : g.Q.Question.lawful l.initial.asking.question l.asking.so_far;
+  spent : Spends l.initial.steps l.steps 0 0 (sum_by (g.B.Part.Answers.ask_touches l.initial.asking.question) (take l.part-index l.self.parts));
+}

@@ -1,0 +1,29 @@
+use Rattle.std.proofs.Common.{◌≡◌, ◌∙◌, Some, ap, sym, subst, arith}
+use Rattle.partial_build.specs.Construction.{Builds}
+use Rattle.stack_levels.proofs.Held.{IsLevel-building, counted}
+use Rattle.stack_levels.proofs.level.Level.note.Goals as goal
+
+pub invariant_of-self-2 : goal.invariant_of-self-2
+invariant_of-self-2 g c =
+    IsLevel-building c.self.invariant c.note.new.self (ap (λ v. v.level) c.note.ensures.noted ∙ c.self.invariant.builds c.in-Some.construction c.in-Some.is)
+    (omega (arith, c.self.invariant.few, counted c.in-Some.is))
+
+pub returns-clause-of_a : goal.returns-clause-of_a
+returns-clause-of_a g c a b new live same old c' is =
+    let contents = g.B.Part.Part.contents in
+    let built = Builds g.B.Item.Item.stamp g.B.Item.Item.before in
+    let was : c.args.self.now.construction ≡ Some c.in-Some.construction = sym (ap (λ v. v.construction) c.self.view_is) ∙ c.in-Some.is in
+    let e : c.note.new.self ≡ c' = cc in
+    subst (λ d. built d (contents new) (contents b)) e
+    (subst (λ p. built c.note.new.self p (contents b)) (sym same)
+    (c.note.ensures.of_a (contents a) (contents b) live.0 (old c.in-Some.construction was) live.1 live.2))
+
+pub returns-clause-of_b : goal.returns-clause-of_b
+returns-clause-of_b g c a b new live same old c' is =
+    let contents = g.B.Part.Part.contents in
+    let built = Builds g.B.Item.Item.stamp g.B.Item.Item.before in
+    let was : c.args.self.now.construction ≡ Some c.in-Some.construction = sym (ap (λ v. v.construction) c.self.view_is) ∙ c.in-Some.is in
+    let e : c.note.new.self ≡ c' = cc in
+    subst (λ d. built d (contents a) (contents new)) e
+    (subst (λ p. built c.note.new.self (contents a) p) (sym same)
+    (c.note.ensures.of_b (contents a) (contents b) live.0 (old c.in-Some.construction was) live.1 live.2))

@@ -1,0 +1,25 @@
+use Rattle.std.proofs.Common.{◌≡◌, ℕ, ◌≤◌, ◌∙◌, ap, sym, subst, arith, Bool, true, false, if◌then◌else◌, min, length}
+use Rattle.partial_build.specs.Quota.{quota}
+use Rattle.stack_levels.specs.Cost.{IsWithin}
+use Rattle.stack_levels.proofs.Held.{IsLevel-building, counted}
+use Rattle.stack_levels.proofs.level.Level.tick.Goals as goal
+
+at_most_two : (b : Bool) (n : ℕ) → (if b then min 2 n else 0) ≤ 2
+at_most_two true n = omega arith
+at_most_two false n = omega arith
+
+pub tick-requires-clause-builds : goal.tick-requires-clause-builds
+tick-requires-clause-builds g c = c.requires.fed c.in-Some.construction (sym (ap (λ v. v.construction) c.self.view_is) ∙ c.in-Some.is)
+
+pub invariant_of-self : goal.invariant_of-self
+invariant_of-self g c =
+    IsLevel-building c.self.invariant c.tick.new.self (c.tick.ensures.ticked.0 ∙ c.self.invariant.builds c.in-Some.construction c.in-Some.is)
+    (omega (arith, c.self.invariant.few, counted c.in-Some.is))
+
+pub returns-clause-cost : goal.returns-clause-cost
+returns-clause-cost g c =
+    let h = c.tick.ensures in
+    let of_level : c.in-Some.construction.level ≡ c.args.self.now.level =
+    c.self.invariant.builds c.in-Some.construction c.in-Some.is ∙ ap (λ v. v.level) c.self.view_is in
+    subst (λ k. IsWithin (quota g.B.Builder.SLOPE g.B.Builder.BASE k) 2 (g.B.Part.Part.mark_touches k) c.args.steps.now c.tick.new.steps) of_level
+    (record { few_turns = h.turns; few_marks = subst (λ n. n ≤ 2) (sym h.marks) (at_most_two c.tick.new.self.part.is_built (length c.in-Some.construction.waiting)); spent = h.cost })

@@ -1,0 +1,28 @@
+use Rattle.std.proofs.Common.{◌++◌, ◌∙◌}
+use Rattle.query_laws.specs.Permuted.{composed}
+use Rattle.stack_levels.specs.Levels.{all_items}
+use Rattle.stack_levels.proofs.Distinct.{AllStampsDiffer-part, IsPartOf-permuted, IsPartOf-then}
+use Rattle.stack_levels.proofs.visiting.take_in.Goals as goal
+
+pub take_tick-requires-clause-apart : goal.take_tick-requires-clause-apart
+take_tick-requires-clause-apart g c =
+    let contents = g.B.Part.Part.contents in
+    AllStampsDiffer-part g.B.Item.Item.stamp (all_items contents c.arrive.new.levels)
+    ((contents c.args.part).items ++ all_items contents c.args.levels.now)
+    (IsPartOf-permuted (all_items contents c.arrive.new.levels) c.arrive.ensures.items) c.requires.apart
+
+pub returns-clause-live : goal.returns-clause-live
+returns-clause-live g c = composed c.take_tick.ensures.live c.arrive.ensures.live
+
+pub returns-clause-items : goal.returns-clause-items
+returns-clause-items g c =
+    let contents = g.B.Part.Part.contents in
+    IsPartOf-then (all_items contents c.take_tick.new.levels) (all_items contents c.arrive.new.levels)
+    ((contents c.args.part).items ++ all_items contents c.args.levels.now) c.take_tick.ensures.items
+    (IsPartOf-permuted (all_items contents c.arrive.new.levels) c.arrive.ensures.items)
+
+pub returns-clause-rooms : goal.returns-clause-rooms
+returns-clause-rooms g c soon = c.take_tick.ensures.rooms (c.arrive.ensures.rooms_ahead soon)
+
+pub returns-clause-held_above : goal.returns-clause-held_above
+returns-clause-held_above g c = c.take_tick.ensures.held_above ∙ c.arrive.ensures.held_above

@@ -1,0 +1,7 @@
+pub mod Slots
+pub mod Levels
+pub mod Level
+pub mod Neighbours
+pub mod Towers
+pub mod Cost
+pub mod Marking

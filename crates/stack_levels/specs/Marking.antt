@@ -1,0 +1,36 @@
+-- An item that is marked as dead, in parts and levels.
+use Rattle.std.specs.Prelude.{◌≡◌, ℕ, ◌+◌, Option, Some, None, List, [], ◌∷◌, true, false, All, slice_get}
+use Rattle.std.specs.Option.{option_map, is_some}
+use Rattle.builder_trait.specs.Parts.{Contents, has_stamp, marked}
+use Rattle.partial_build.specs.Construction.{live_of}
+use Rattle.stack_levels.specs.Slots.{Slots, ticks_of}
+
+module _ {Item : Type 0} where
+  -- the item is live in a part
+  abbrev pub IsLiveIn : Contents Item → Item → Type 0
+  IsLiveIn part x = (k : ℕ) × (slice_get part.items k ≡ Some x) × (slice_get part.flags k ≡ Some true)
+
+  -- no item with the stamp is live in a part
+  abbrev pub Lacks : (Item → ℕ) → ℕ → Contents Item → Type 0
+  Lacks stamp s part = has_stamp stamp s (live_of part) ≡ false
+
+module _ {P Item : Type 0} where
+  -- parts are asked one by one to mark an item as dead, up to the one in which it lives, whose place this is
+  pub data AreMarkedAt (contents : P → Contents Item) (stamp : Item → ℕ) (x : Item) : Option ℕ → List P → List P → Type 0 where
+    nowhere : AreMarkedAt contents stamp x None [] []
+    here : (p p' : P) (ps : List P) → IsLiveIn (contents p) x → contents p' ≡ marked stamp (stamp x) (contents p)
+        → All (λ q. Lacks stamp (stamp x) (contents q)) ps → AreMarkedAt contents stamp x (Some 0) (p ∷ ps) (p' ∷ ps)
+    later : (place : Option ℕ) (p p' : P) (ps ps' : List P) → Lacks stamp (stamp x) (contents p)
+        → contents p' ≡ marked stamp (stamp x) (contents p) → AreMarkedAt contents stamp x place ps ps'
+        → AreMarkedAt contents stamp x (option_map (λ k. k + 1) place) (p ∷ ps) (p' ∷ ps')
+
+  -- levels are as they were, but that an item was noted in the construction into the lowest one
+  abbrev pub AreNoted : List (Slots P Item) → List (Slots P Item) → Type 0
+  AreNoted [] new = new ≡ []
+  AreNoted (l ∷ above) new = (l' : Slots P Item) × (new ≡ l' ∷ above) × (l' ≡ record l { construction = l'.construction })
+      × (ticks_of l' ≡ ticks_of l) × (is_some l'.construction ≡ is_some l.construction)
+
+  -- the lowest level is as it was, but for its parts
+  abbrev pub IsSameBelow : List (Slots P Item) → List (Slots P Item) → Type 0
+  IsSameBelow [] new = new ≡ []
+  IsSameBelow (l ∷ above) new = (l' : Slots P Item) × (above' : List (Slots P Item)) × (new ≡ l' ∷ above') × (l' ≡ record l { parts = l'.parts })

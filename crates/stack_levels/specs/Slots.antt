@@ -1,0 +1,54 @@
+-- What contracts see of one level of a stack.
+use Rattle.std.specs.Prelude.{◌≡◌, ℕ, ◌+◌, ◌*◌, ◌^◌, Bool, List, [], ◌∷◌, ◌++◌, Option, None, if◌then◌else◌, length}
+use Rattle.std.specs.List.{flat_map}
+use Rattle.std.specs.Option.{option_map_or, is_some}
+use Rattle.query_laws.specs.Permuted.{Permuted}
+use Rattle.builder_trait.specs.Parts.{Contents, has_stamp}
+use Rattle.partial_build.specs.Construction.{Construction, live_of}
+
+-- the complete parts of a level, oldest first; the construction of its next part, which is made of the two oldest parts of the level
+-- below; whether there is room for the one after that; and how many builders are kept, each made of a part that was retired
+pub record Slots (P Item : Type 0) : Type 0 where
+  pub level : ℕ
+  pub parts : List P
+  pub construction : Option (Construction Item)
+  pub has_room : Bool
+  pub kept : ℕ
+
+abbrev pub one_if : Bool → ℕ
+one_if b = if b then 1 else 0
+
+-- every item of the first list is one of the second, and none more often
+abbrev pub IsPartOf : {Item : Type 0} → List Item → List Item → Type 0
+IsPartOf {Item} xs ys = (others : List Item) × Permuted (xs ++ others) ys
+
+module _ {P Item : Type 0} where
+  -- the ticks done of the construction into a level, 0 where none runs
+  abbrev pub ticks_of : Slots P Item → ℕ
+  ticks_of l = option_map_or (λ c. c.ticks) l.construction 0
+
+  -- the parts of a level that are in memory: the complete ones, the one under construction, and empty ones, in the room and in the
+  -- builders that are kept
+  abbrev pub held_in : Slots P Item → ℕ
+  held_in l = length l.parts + one_if (is_some l.construction) + one_if l.has_room + l.kept
+
+  -- a part of level i weighs 2^i
+  abbrev pub weight_in : Slots P Item → ℕ
+  weight_in l = length l.parts * 2 ^ l.level
+
+  -- the level has neither a complete part nor a construction
+  pub record IsIdle (l : Slots P Item) : Type 0 where
+    pub no_parts : l.parts ≡ []
+    pub no_construction : l.construction ≡ None
+
+  module _ (contents : P → Contents Item) where
+    abbrev pub live_in : Slots P Item → List Item
+    live_in l = flat_map (λ p. live_of (contents p)) l.parts
+
+    abbrev pub items_in : Slots P Item → List Item
+    items_in l = flat_map (λ p. (contents p).items) l.parts
+
+    -- how many parts are asked for the live item with a stamp, up to the one that has it
+    abbrev pub asked_in : (Item → ℕ) → ℕ → List P → ℕ
+    asked_in stamp s [] = 0
+    asked_in stamp s (p ∷ ps) = 1 + (if has_stamp stamp s (live_of (contents p)) then 0 else asked_in stamp s ps)

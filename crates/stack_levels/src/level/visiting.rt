@@ -1,0 +1,43 @@
+//! What one tick does at a level.
+ghost use Rattle.std.specs.Prelude.{◌≡◌, ◌+◌, ◌^◌, ◌<◌, ◌≤◌, true, None, length};
+ghost use Rattle.query_laws.specs.Orders.{AllStampsDiffer};
+ghost use Rattle.partial_build.specs.Quota.{quota};
+ghost use Rattle.stack_levels.specs.Slots.{ticks_of, held_in, items_in};
+ghost use Rattle.stack_levels.specs.Neighbours.{IsBelow, IsVisited, IsPunctual};
+ghost use Rattle.stack_levels.specs.Cost.{IsWithin};
+
+use crate::level::Level;
+use builder_trait::{Builder, Part};
+use query_laws::Item;
+use query_laws::step_ledger::Steps;
+use std::sync::ledger::Ledger;
+
+impl<B: Builder> Level<B> {
+    /// Visits the level, above one that has taken its tick: where that one has two parts or more, a construction of the two oldest begins,
+    /// takes its tick, or ends.
+    pub fn visit<L: Ledger>(&mut self, lower: &mut Level<B>, steps: &mut Steps<L>)
+        requires below { IsBelow B.Part.Part.contents B.Item.stamp B.Item.before 0 lower.old self.old }
+        requires roomy { 2 ≤ length lower.old.parts → self.old.construction ≡ None → self.old.has_room ≡ true }
+        requires place { ticks_of self.old + 1 ≡ 2 ^ self.old.level → length self.old.parts < 3 }
+        requires apart { AllStampsDiffer B.Item.stamp (items_in B.Part.Part.contents lower.old) }
+        ensures visited { IsVisited B.Part.Part.contents B.Item.stamp B.Item.before self.old lower.old self.new lower.new }
+        ensures punctual { IsPunctual B.SLOPE B.BASE self.new }
+        ensures same { self.new ≡ record self.old {
+          parts = self.new.parts;
+          construction = self.new.construction;
+          has_room = self.new.has_room;
+        } }
+        ensures same_below { lower.new ≡ record lower.old { parts = lower.new.parts; kept = lower.new.kept } }
+        ensures held { held_in self.new ≡ held_in self.old }
+        ensures held_below { held_in lower.new ≡ held_in lower.old }
+        ensures idle { length lower.old.parts < 2 → steps.new ≡ steps.old }
+        ensures cost { IsWithin (quota B.SLOPE B.BASE self.old.level) 2 (B.Part.Part.mark_touches self.old.level) steps.old steps.new }
+    {
+        let [a, b, ..] = lower.parts() else {
+            return;
+        };
+        self.begin(a, b);
+        self.tick(a, b, steps);
+        self.publish(lower);
+    }
+}

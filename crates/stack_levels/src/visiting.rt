@@ -1,0 +1,116 @@
+//! One tick: the levels are visited from the lowest one up.
+ghost use Rattle.std.specs.Prelude.{◌≡◌, ℕ, ◌+◌, ◌-◌, ◌*◌, ◌^◌, ◌<◌, ◌≤◌, true, None, ◌∷◌, ◌++◌, ◌⊎◌, All, length, map, drop};
+ghost use Rattle.query_laws.specs.Orders.{AllStampsDiffer};
+ghost use Rattle.query_laws.specs.Permuted.{Permuted};
+ghost use Rattle.partial_build.specs.Construction.{live_of};
+ghost use Rattle.partial_build.specs.Quota.{quota};
+ghost use Rattle.stack_levels.specs.Slots.{Slots, IsPartOf, ticks_of, held_in, weight_in, live_in, items_in};
+ghost use Rattle.stack_levels.specs.Levels.{lowest_held, weight_of, live_items, all_items};
+ghost use Rattle.stack_levels.specs.Neighbours.{IsBelow, IsVisited, IsPunctual};
+ghost use Rattle.stack_levels.specs.Towers.{IsTower, IsHalfway, IsDue, IsDueSoon, HaveRooms, HaveRoomsAbove, HaveRoomsAhead, AreAllLevels, AreHalfway, HaveRoomsNow, HaveRoomsNext};
+ghost use Rattle.stack_levels.specs.Level.{IsOfLevel};
+ghost use Rattle.stack_levels.specs.Cost.{IsWithin, quotas};
+
+use crate::level::Level;
+use builder_trait::{Builder, Part};
+use query_laws::Item;
+use query_laws::step_ledger::Steps;
+use std::sync::ledger::Ledger;
+
+/// Visits the levels above one that has taken its tick, in rising order.
+fn walk<B: Builder, L: Ledger>(lower: &mut Level<B>, above: &mut [Level<B>], steps: &mut Steps<L>)
+    requires halfway { IsHalfway B.Part.Part.contents B.Item.stamp B.Item.before lower.old above.old }
+    requires rooms { HaveRoomsAbove IsDue above.old }
+    requires apart { AllStampsDiffer B.Item.stamp (all_items B.Part.Part.contents (lower.old ∷ above.old)) }
+    ensures tower { IsTower B.Part.Part.contents B.Item.stamp B.Item.before lower.new above.new }
+    ensures punctual { All (IsPunctual B.SLOPE B.BASE) above.new }
+    ensures live { Permuted (live_items B.Part.Part.contents (lower.new ∷ above.new)) (live_items B.Part.Part.contents (lower.old ∷ above.old)) }
+    ensures items { IsPartOf (all_items B.Part.Part.contents (lower.new ∷ above.new)) (all_items B.Part.Part.contents (lower.old ∷ above.old)) }
+    ensures weight { weight_of (lower.new ∷ above.new) ≡ weight_of (lower.old ∷ above.old) }
+    ensures same { lower.new ≡ record lower.old { parts = lower.new.parts; kept = lower.new.kept } }
+    ensures as_many { length above.new ≡ length above.old }
+    ensures rooms { HaveRoomsAhead lower.old above.old → HaveRooms IsDue lower.new above.new }
+    ensures held { map held_in above.new ≡ map held_in above.old }
+    ensures held_below { held_in lower.new ≡ held_in lower.old }
+    ensures cost { (g : ℕ) → weight_of (lower.old ∷ above.old) < 2 ^ (g + 1)
+        → IsWithin (quotas B.SLOPE B.BASE (lower.old.level + 1) g) (2 * (g - lower.old.level)) (B.Part.Part.mark_touches g) steps.old steps.new }
+{
+    if let Some((level, above)) = above.split_first_mut() {
+        level.visit(lower, steps);
+        walk(level, above, steps);
+    }
+}
+
+/// Takes in a part of level 0: level 0 has then taken its tick.
+fn arrive<B: Builder>(levels: &mut [Level<B>], part: B::Part)
+    requires some { 0 < length levels.old }
+    requires levels { AreAllLevels B.Part.Part.contents B.Item.stamp B.Item.before levels.old }
+    requires rooms { HaveRoomsAbove IsDue levels.old }
+    requires of_level { IsOfLevel 0 (B.Part.Part.contents part) }
+    requires place { lowest_held levels.old < 5 }
+    ensures halfway { AreHalfway B.Part.Part.contents B.Item.stamp B.Item.before levels.new }
+    ensures rooms { HaveRoomsNow levels.new }
+    ensures rooms_ahead { HaveRoomsAbove IsDueSoon levels.old → HaveRoomsNext levels.new }
+    ensures live { Permuted (live_items B.Part.Part.contents levels.new)
+        (live_of (B.Part.Part.contents part) ++ live_items B.Part.Part.contents levels.old) }
+    ensures items { Permuted (all_items B.Part.Part.contents levels.new)
+        ((B.Part.Part.contents part).items ++ all_items B.Part.Part.contents levels.old) }
+    ensures weight { weight_of levels.new ≡ weight_of levels.old + 1 }
+    ensures held_above { drop 1 (map held_in levels.new) ≡ drop 1 (map held_in levels.old) }
+    ensures lowest { lowest_held levels.new ≡ lowest_held levels.old + 1 }
+    ensures as_many { length levels.new ≡ length levels.old }
+{
+    match levels.split_first_mut() {
+        Some((lowest, _above)) => lowest.arrive(part),
+        None => unreachable!(),
+    }
+}
+
+/// The rest of a tick that level 0 has taken: all levels above are visited.
+pub(crate) fn take_tick<B: Builder, L: Ledger>(levels: &mut [Level<B>], steps: &mut Steps<L>)
+    requires halfway { AreHalfway B.Part.Part.contents B.Item.stamp B.Item.before levels.old }
+    requires rooms { HaveRoomsNow levels.old }
+    requires apart { AllStampsDiffer B.Item.stamp (all_items B.Part.Part.contents levels.old) }
+    ensures levels { AreAllLevels B.Part.Part.contents B.Item.stamp B.Item.before levels.new }
+    ensures punctual { All (IsPunctual B.SLOPE B.BASE) levels.new }
+    ensures live { Permuted (live_items B.Part.Part.contents levels.new) (live_items B.Part.Part.contents levels.old) }
+    ensures items { IsPartOf (all_items B.Part.Part.contents levels.new) (all_items B.Part.Part.contents levels.old) }
+    ensures weight { weight_of levels.new ≡ weight_of levels.old }
+    ensures rooms { HaveRoomsNext levels.old → HaveRoomsAbove IsDue levels.new }
+    ensures held_above { drop 1 (map held_in levels.new) ≡ drop 1 (map held_in levels.old) }
+    ensures lowest { lowest_held levels.new ≡ lowest_held levels.old }
+    ensures as_many { length levels.new ≡ length levels.old }
+    ensures cost { (g : ℕ) → weight_of levels.old < 2 ^ (g + 1)
+        → IsWithin (quotas B.SLOPE B.BASE 1 g) (2 * g) (B.Part.Part.mark_touches g) steps.old steps.new }
+{
+    match levels.split_first_mut() {
+        Some((lowest, above)) => walk(lowest, above, steps),
+        None => unreachable!(),
+    }
+}
+
+/// One tick in which a part of level 0 arrives.
+pub fn take_in<B: Builder, L: Ledger>(levels: &mut [Level<B>], part: B::Part, steps: &mut Steps<L>)
+    requires some { 0 < length levels.old }
+    requires levels { AreAllLevels B.Part.Part.contents B.Item.stamp B.Item.before levels.old }
+    requires rooms { HaveRoomsAbove IsDue levels.old }
+    requires of_level { IsOfLevel 0 (B.Part.Part.contents part) }
+    requires place { lowest_held levels.old < 5 }
+    requires apart { AllStampsDiffer B.Item.stamp ((B.Part.Part.contents part).items ++ all_items B.Part.Part.contents levels.old) }
+    ensures levels { AreAllLevels B.Part.Part.contents B.Item.stamp B.Item.before levels.new }
+    ensures punctual { All (IsPunctual B.SLOPE B.BASE) levels.new }
+    ensures live { Permuted (live_items B.Part.Part.contents levels.new)
+        (live_of (B.Part.Part.contents part) ++ live_items B.Part.Part.contents levels.old) }
+    ensures items { IsPartOf (all_items B.Part.Part.contents levels.new)
+        ((B.Part.Part.contents part).items ++ all_items B.Part.Part.contents levels.old) }
+    ensures weight { weight_of levels.new ≡ weight_of levels.old + 1 }
+    ensures rooms { HaveRoomsAbove IsDueSoon levels.old → HaveRoomsAbove IsDue levels.new }
+    ensures held_above { drop 1 (map held_in levels.new) ≡ drop 1 (map held_in levels.old) }
+    ensures lowest { lowest_held levels.new ≡ lowest_held levels.old + 1 }
+    ensures as_many { length levels.new ≡ length levels.old }
+    ensures cost { (g : ℕ) → weight_of levels.new < 2 ^ (g + 1)
+        → IsWithin (quotas B.SLOPE B.BASE 1 g) (2 * g) (B.Part.Part.mark_touches g) steps.old steps.new }
+{
+    arrive(levels, part);
+    take_tick(levels, steps);
+}
