@@ -1,15 +1,14 @@
 -- The growth as it begins.
-use Rattle.std.proofs.Common.{◌≡◌, ℕ, zero, suc, ◌+◌, ◌-◌, ◌*◌, ◌^◌, ◌<◌, ◌≤◌, true, false, List, [], length, map, take, replicate, refl, sym, ap, ◌∙◌, arith, subst, Some, slice_get}
+use Rattle.std.proofs.Common.{◌≡◌, ℕ, zero, suc, ◌-◌, ◌*◌, ◌^◌, ◌<◌, ◌≤◌, true, false, List, [], length, map, take, replicate, refl, sym, ap, ◌∙◌, arith, subst, Some, slice_get}
 use Rattle.std.proofs.Math.Nat.{mul-le-mul_right, pow-le-pow_right}
 use Rattle.weak_delete.specs.Places.{nothing_put}
 use Rattle.builder_trait.specs.Builders.{Progress, IsUnderway}
 use Rattle.map_shapes.specs.declared.point.Point.{Point}
 use Rattle.range_tree.specs.declared.level.Level.{Level}
-use Rattle.range_tree.specs.declared.tree.Tree.{Tree}
 use Rattle.row_blocks.specs.Heights.{height_of}
 use Rattle.range_tree.specs.Heights.{levels_for, levels_to, height_at}
 use Rattle.range_tree.specs.Rows.{before, IsRow, counted}
-use Rattle.range_tree.specs.Growing.{IsPutting, IsEmptyLevel, IsCounting, IsComing, IsGrowing, turned}
+use Rattle.range_tree.specs.Growing.{IsPutting, IsEmptyLevel, IsCounting, IsComing, turned, IsGrown}
 use Rattle.range_tree.proofs.Begins.{IsRow-top}
 use Rattle.range_tree.proofs.HeightLemmas.{height_of-above, height_of-least, levels_for-some, levels_for-few, levels_for-small}
 
@@ -64,48 +63,36 @@ some_points (suc n) used is some = omega arith
 small_work : (levels n : ℕ) → levels ≤ 32 → n ≤ 2 ^ 31 → levels * (2 * n) < 2 ^ 38
 small_work levels n few small = let le : levels * (2 * n) ≤ 32 * (2 * n) = mul-le-mul_right (2 * n) few in omega arith
 
-module _ (b : Progress Point) (tree : Tree) (underway : IsUnderway before b) (complete : length b.reordered ≡ length b.items)
-    (putting : IsPutting b tree.levels.items) (used : tree.used ≡ levels_for (length b.items)) (at : tree.at ≡ 0) (lower : tree.lower ≡ 0)
-    (left : tree.left ≡ levels_for (length b.items) * (2 * length b.items)) where
-  top : {level : Level} → slice_get tree.levels.items tree.at ≡ Some level → slice_get tree.levels.items 0 ≡ Some level
-  top {level} found = subst (λ q. slice_get tree.levels.items q ≡ Some level) at found
+module _ (b : Progress Point) (levels : List Level) (underway : IsUnderway before b) (complete : length b.reordered ≡ length b.items)
+    (putting : IsPutting b levels) (used : ℕ) (used_is : used ≡ levels_for (length b.items)) where
+  small_part : length b.items ≤ 2 ^ 31
+  small_part = few_points (length b.items) b.at_level putting.small underway.few
 
-  few : length b.items ≤ 2 ^ 31
-  few = few_points (length b.items) b.at_level putting.small underway.few
-
-  whole : {level : Level} → tree.at < tree.used → slice_get tree.levels.items 0 ≡ Some level → IsRow b.items (height_at tree.used tree.at) level.entries.items
+  whole : {level : Level} → 0 < used → slice_get levels 0 ≡ Some level → IsRow b.items (height_at used 0) level.entries.items
   whole {level} some found =
-      let height : height_at tree.used tree.at ≡ height_of (length b.items) =
-      omega (arith, levels_for-some (length b.items) (omega arith)) in
-      IsRow-top b level.entries.items underway complete (putting.places level found) (putting.known level found) (height_at tree.used tree.at)
-      (subst (λ h. length b.items ≤ 2 ^ h) (sym height) (height_of-above (length b.items) (omega (arith, few))))
+      let height : height_at used 0 ≡ height_of (length b.items) = omega (arith, levels_for-some (length b.items) (omega arith)) in
+      IsRow-top b level.entries.items underway complete (putting.places level found) (putting.known level found) (height_at used 0)
+      (subst (λ h. length b.items ≤ 2 ^ h) (sym height) (height_of-above (length b.items) (omega (arith, small_part))))
 
-  pub IsGrowing-begun : IsGrowing b tree
-  IsGrowing-begun = record {
-    small = putting.small;
-    few = underway.few;
-    used = used;
-    made = omega (arith, levels_for-within (length b.items) b.at_level putting.small underway.few, putting.made);
-    all_made = putting.made;
-    room = putting.room;
+  pub IsGrown-begun : IsGrown b.items b.at_level levels used 0 0 (used * (2 * length b.items))
+  IsGrown-begun = record {
+    tree = record {
+      small = putting.small;
+      few = underway.few;
+      used_is = used_is;
+      made = omega (arith, levels_for-within (length b.items) b.at_level putting.small underway.few, putting.made);
+      all_made = putting.made;
+      room = putting.room;
+      built = λ q level before found. absurd (omega arith);
+      beyond = λ q level past found. putting.below q level (omega arith) found;
+    };
     at_within = omega arith;
-    built = λ q level before found. absurd (omega arith);
-    here = λ level some found.
-        IsCounting-begun (whole some (top found)) (putting.uncounted level (top found)) (some_points (length b.items) tree.used used (omega arith));
-    next = λ level next more found below.
-        subst (IsComing level next (height_at tree.used (tree.at + 1))) (sym lower)
-        (IsComing-begun (height_at tree.used (tree.at + 1)) (putting.uncounted level (top found)) (putting.below (tree.at + 1) next (omega arith) below));
-    known = λ next more below.
-        let none = (putting.below (tree.at + 1) next (omega arith) below).entries in
-        λ k d within. absurd (omega (arith, ap length none));
-    beyond = λ q level past found. putting.below q level (omega arith) found;
-    left = λ level some found.
-        let none = putting.uncounted level (top found) in
-        let all : (tree.used - tree.at) * (2 * length b.items) ≡ levels_for (length b.items) * (2 * length b.items) =
-        ap (λ u. u * (2 * length b.items)) (omega arith) in
-        omega (arith, ap length (no_places level none), none_turned level none, left, all);
-    ended = λ none.
-        let zero_levels : levels_for (length b.items) ≡ 0 = omega arith in
-        left ∙ ap (λ u. u * (2 * length b.items)) zero_levels ∙ (omega arith);
-    few_left = omega (arith, left, small_work (levels_for (length b.items)) (length b.items) (omega (arith, levels_for-small (length b.items) few)) few);
+    here = λ level some found. IsCounting-begun (whole some found) (putting.uncounted level found) (some_points (length b.items) used used_is some);
+    next = λ level next more found below. IsComing-begun (height_at used 1) (putting.uncounted level found) (putting.below 1 next (omega arith) below);
+    known = λ next more below. λ k d within. absurd (omega (arith, ap length (putting.below 1 next (omega arith) below).entries));
+    left_is = λ level some found.
+        let all : (used - 0) * (2 * length b.items) ≡ used * (2 * length b.items) = ap (λ u. u * (2 * length b.items)) (omega arith) in
+        omega (arith, all, ap length (no_places level (putting.uncounted level found)), none_turned level (putting.uncounted level found));
+    ended = λ none. omega (arith, ap (λ u. u * (2 * length b.items)) (sym none));
+    few_left = small_work used (length b.items) (omega (arith, levels_for-small (length b.items) small_part)) small_part;
   }

@@ -1,10 +1,10 @@
 -- Runs and blocks of a row: different places between two bounds are at most as many as there are, and as many are all.
-use Rattle.std.proofs.Common.{◌≡◌, ◌≢◌, ℕ, ◌+◌, ◌-◌, ◌<◌, ◌≤◌, IsTrue, List, ◌∷◌, length, map, drop, get_or, slice_get, slice_range, All, refl, sym, ap, ◌∙◌, subst, arith, length-take, length-drop}
+use Rattle.std.proofs.Common.{◌≡◌, ◌≢◌, ℕ, ◌+◌, ◌-◌, ◌<◌, ◌≤◌, IsTrue, List, ◌∷◌, length, map, get_or, slice_get, slice_range, All, refl, sym, ap, ◌∙◌, subst, arith}
 use Rattle.std.specs.List.{range_with_len}
 use Rattle.std.specs.Option.{option_map}
 use Rattle.std.proofs.lemmas.Bool.Decides.{nat_tests}
 use Rattle.std.proofs.lemmas.Option.{same_Some}
-use Rattle.std.proofs.lemmas.List.{length-map, same_lists, get_or-map, get_or-take, get_or-drop}
+use Rattle.std.proofs.lemmas.List.{length-map, same_lists, get_or-map}
 use Rattle.std.proofs.lemmas.List.Elements.{All-cons}
 use Rattle.std.proofs.lemmas.List.Kept.{AllPairs-cons}
 use Rattle.std.proofs.lemmas.List.FromFn.{length-range_with_len, get_or-range_with_len, length-map-range_with_len, get_or-map-range_with_len}
@@ -15,6 +15,7 @@ use Rattle.builder_trait.proofs.Places.{AllApart, all_places}
 use Rattle.map_shapes.specs.declared.point.Point.{Point}
 use Rattle.range_tree.specs.declared.entry.Entry.{Entry}
 use Rattle.range_tree.specs.Rows.{precedes, no_entry, entry_at, IsRun, IsBlock, IsEntryOf}
+use Rattle.row_blocks.proofs.Lists.{length-slice_range, get_or-slice_range}
 
 -- entries of one list of points, one before the other, have different places
 pub precedes-apart : (points : List Point) (a b : Entry) → IsEntryOf points a → IsEntryOf points b → IsTrue (precedes a b) → a.place ≢ b.place
@@ -122,14 +123,6 @@ block_has points {entries} {start} {end} block known within place above below =
     all (place - start) 0 (omega (arith, length-range_with_len 0 (end - start))) in
     let at : get_or (range_with_len 0 (end - start)) (place - start) 0 ≡ place - start = omega (arith, get_or-range_with_len 0 (end - start) (place - start) 0 inside) in
     (found.0, found.1, found.2, raised (entry_at entries found.0).place place start (block.lower found.0 found.1 found.2) above (found.3 ∙ at))
-
--- the entries from one index on and below another
-pub length-slice_range : {X : Type 0} (xs : List X) (from to : ℕ) → from ≤ to → to ≤ length xs → length (slice_range xs from to) ≡ to - from
-length-slice_range xs from to ordered within = omega (arith, length-take (to - from) (drop from xs), length-drop from xs)
-
-pub get_or-slice_range : {X : Type 0} (xs : List X) (from to k : ℕ) (d : X) → k < to - from
-    → get_or (slice_range xs from to) k d ≡ get_or xs (from + k) d
-get_or-slice_range xs from to k d inside = get_or-take (to - from) (drop from xs) k d inside ∙ get_or-drop from xs k d
 
 -- numbers from 0 on, each raised
 range-raised : (a n : ℕ) → map (λ p. p + a) (range_with_len 0 n) ≡ range_with_len a n

@@ -6,37 +6,17 @@ use Rattle.std.proofs.lemmas.Option.{slice_get_within, slice_get_cases, slice_ge
 use Rattle.std.proofs.lemmas.List.{get_or-take, get_or-map, length-map}
 use Rattle.std.proofs.lemmas.List.Elements.{All-nil}
 use Rattle.weak_delete.specs.Places.{nothing_put}
-use Rattle.builder_trait.specs.Builders.{Progress, begun, sealed_with, all_live, IsQuota}
+use Rattle.builder_trait.specs.Builders.{Progress, begun, all_live, IsQuota}
 use Rattle.map_shapes.specs.declared.point.Point.{Point}
 use Rattle.range_tree.specs.declared.entry.Entry.{Entry}
 use Rattle.range_tree.specs.declared.level.Level.{Level}
 use Rattle.range_tree.specs.declared.tree.Tree.{Tree}
 use Rattle.range_tree.specs.Heights.{levels_for, levels_to, height_at}
-use Rattle.range_tree.specs.Rows.{IsEntryOf, AreLevels, IsLevel}
+use Rattle.range_tree.specs.Rows.{IsEntryOf, IsLevel}
 use Rattle.range_tree.specs.Growing.{HasRoom, IsPutting, IsCounting, IsGrowing, AreKept, emptied, turned}
 use Rattle.range_tree.proofs.Beginnings.{few_points, levels_for-within}
 use Rattle.row_blocks.proofs.Lists.{All-slots}
 use Rattle.range_tree.proofs.Putting.{empty_level}
-
--- the growth doesn't see how many turns the points have left
-pub IsGrowing-sealed : (b : Progress Point) (tree : Tree) (n : ℕ) → IsGrowing b tree → IsGrowing (sealed_with n b) tree
-IsGrowing-sealed b tree n growing = record {
-  small = growing.small;
-  few = growing.few;
-  used = growing.used;
-  made = growing.made;
-  all_made = growing.all_made;
-  room = growing.room;
-  at_within = growing.at_within;
-  built = growing.built;
-  here = growing.here;
-  next = growing.next;
-  known = growing.known;
-  beyond = growing.beyond;
-  left = growing.left;
-  ended = growing.ended;
-  few_left = growing.few_left;
-}
 
 -- the flat kind's turns are at most as many as places
 pub left-sealed : (n level left : ℕ) → IsQuota 0 2 level n left → left ≤ 2 ^ level
@@ -75,8 +55,8 @@ at_end b tree growing none =
         (λ (level, within, found, read).
         let work = busy level (growing.here level less found) in
         let one : 1 * (2 * length b.items) ≤ (tree.used - tree.at) * (2 * length b.items) = mul-le-mul_right (2 * length b.items) (omega arith) in
-        omega (arith, work, one, growing.left level less found))
-        (λ (past, none). omega (arith, growing.made))
+        omega (arith, work, one, growing.left_is level less found))
+        (λ (past, none). omega (arith, growing.tree.made))
         (slice_get_cases tree.levels.items tree.at).1
 
 -- what stands below a bound stands in the first items
@@ -86,27 +66,24 @@ slice_get-take n xs k x at =
     let long : length (take n xs) ≡ min n (length xs) = length-take n xs in
     (omega arith, slice_get-get_or xs k x (omega arith) ∙ ap Some (sym (get_or-take n xs k x (omega arith)) ∙ get_or_from_slice_get (take n xs) k x x at))
 
-pub AreLevels-grown : (b : Progress Point) (tree : Tree) → IsGrowing b tree → tree.left ≡ 0 → AreLevels (all_live b) (take tree.used tree.levels.items)
-AreLevels-grown b tree growing none =
-    let many : length (take tree.used tree.levels.items) ≡ tree.used = omega (arith, length-take tree.used tree.levels.items, growing.made) in
-    record {
-      few = few_points (length b.items) b.at_level growing.small growing.few;
-      as_many = many ∙ growing.used;
-      each = λ q level found.
-          let there = slice_get-take tree.used tree.levels.items q level found in
-          subst (λ h. IsLevel b.items (replicate (length b.items) true) h level) (ap (λ n. height_at n q) (sym many))
-          (growing.built q level (omega (arith, at_end b tree growing none, there.0)) there.1);
-    }
-
--- so the part keeps its levels, and those that it doesn't need
+-- the part keeps its levels, and those that it doesn't need
 pub AreKept-grown : (b : Progress Point) (tree : Tree) → IsGrowing b tree → tree.left ≡ 0 → AreKept (all_live b) tree.levels.items tree.used
-AreKept-grown b tree growing none = record {
-  small = growing.small;
-  made = growing.all_made;
-  within = growing.made;
-  room = growing.room;
-  tree = AreLevels-grown b tree growing none;
-}
+AreKept-grown b tree growing none =
+    let many : length (take tree.used tree.levels.items) ≡ tree.used = omega (arith, length-take tree.used tree.levels.items, growing.tree.made) in
+    record {
+      small = growing.tree.small;
+      made = growing.tree.all_made;
+      within = growing.tree.made;
+      room = growing.tree.room;
+      tree = record {
+        few = few_points (length b.items) b.at_level growing.tree.small growing.tree.few;
+        as_many = many ∙ growing.tree.used_is;
+        each = λ q level found.
+            let there = slice_get-take tree.used tree.levels.items q level found in
+            subst (λ h. IsLevel b.items (replicate (length b.items) true) h level) (ap (λ n. height_at n q) (sym many))
+            (growing.tree.built q level (omega (arith, at_end b tree growing none, there.0)) there.1);
+      };
+    }
 
 -- an emptied level with room is as one that was just made
 emptied_at : (cap : ℕ) (levels : List Level) → All (HasRoom cap) levels → (k : ℕ) (level : Level) → slice_get (map emptied levels) k ≡ Some level

@@ -1,10 +1,8 @@
 -- What the live counts over a row say of the live points of its entries.
-use Rattle.std.proofs.Common.{◌≡◌, ℕ, ◌+◌, ◌<◌, ◌≤◌, Bool, true, false, List, [], ◌∷◌, ◌++◌, length, take, drop, map, cond, refl, sym, ap, ◌∙◌, arith, zero-add, append-nil, take-append-drop, length-append, slice_range, slice_get, get_or, Option, Some, None, All}
+use Rattle.std.proofs.Common.{◌≡◌, ℕ, ◌+◌, ◌≤◌, Bool, true, false, List, [], ◌∷◌, ◌++◌, length, take, drop, map, cond, refl, sym, ap, ◌∙◌, arith, zero-add, append-nil, length-append, slice_range, slice_get, get_or, Option, Some, None, All}
 use Rattle.std.specs.Option.{option_map, option_to_list, unwrap_or}
 use Rattle.std.specs.List.{flat_map, sum_by, count_by}
-use Rattle.std.proofs.lemmas.List.{take-take, length-map, take-map, drop-map}
-use Rattle.std.proofs.lemmas.Slice.{between_is}
-use Rattle.std.proofs.lemmas.Option.{slice_get-get_or}
+use Rattle.std.proofs.lemmas.List.{length-map}
 use Rattle.std.proofs.lemmas.List.Elements.{All-head, All-tail, All-take, All-drop}
 use Rattle.std.proofs.lemmas.List.Sums.{sum_by-cons, sum_by-append}
 use Rattle.weak_delete.specs.declared.place.Place.{Place}
@@ -16,22 +14,7 @@ use Rattle.range_tree.specs.declared.level.Level.{Level}
 use Rattle.range_tree.specs.declared.span.Span.{Span}
 use Rattle.range_tree.specs.Rows.{IsEntryOf, AreLevels, counted}
 use Rattle.range_tree.specs.Queries.{live_at, live_in_slice, live_in_span}
-
-module _ {X : Type 0} where
-  -- a front is a shorter front, and what stands behind it
-  pub take-split : (xs : List X) (i j : ℕ) → i ≤ j → take j xs ≡ take i xs ++ slice_range xs i j
-  take-split xs i j le =
-      sym (take-append-drop i (take j xs))
-      ∙ ap (λ ys. ys ++ drop i (take j xs)) (take-take i j xs le)
-      ∙ ap (λ ys. take i xs ++ ys) (sym (between_is xs i j))
-
-  -- what is read within a list stands there
-  pub slice_get-from_read : (xs : List X) (i : ℕ) (x : X) → i < length xs → x ≡ get_or xs i x → slice_get xs i ≡ Some x
-  slice_get-from_read xs i x below read = slice_get-get_or xs i x below ∙ ap Some (sym read)
-
--- a part of a list that a function makes of another
-slice-map : {X Y : Type 0} (f : X → Y) (xs : List X) (i j : ℕ) → slice_range (map f xs) i j ≡ map f (slice_range xs i j)
-slice-map f xs i j = ap (take _) (drop-map f i xs) ∙ take-map f _ (drop i xs)
+use Rattle.row_blocks.proofs.Lists.{take-split, slice_range-map}
 
 -- a live point counts for one, and weighs what it weighs
 one_live : (o : Option Point) (y : ℕ) (b : Bool) → option_map (λ p. p.y) o ≡ Some y
@@ -92,7 +75,7 @@ module _ (m : List Point → ℕ) (none : m [] ≡ 0) (both : (xs ys : List Poin
       ap (sum_by f) (take-split (map count entries) from to le)
       ∙ sum_by-append f (take from (map count entries)) (slice_range (map count entries) from to)
       ∙ ap (λ n. sum_by f (take from (map count entries)) + n)
-      (ap (sum_by f) (slice-map count entries from to) ∙ sym (measured (slice_range entries from to) some))
+      (ap (sum_by f) (slice_range-map count entries from to) ∙ sym (measured (slice_range entries from to) some))
 
   -- so it does for the entries of a span
   pub measured_span : (levels : List Level) (span : Span) (level : Level) → AreLevels part levels → slice_get levels span.row ≡ Some level

@@ -1,12 +1,11 @@
 -- Steps of a cover: a span at the front, a span at the back, none at a level, the beginning and the end.
-use Rattle.std.proofs.Common.{◌≡◌, ◌≢◌, ℕ, ◌+◌, ◌-◌, ◌*◌, ◌/◌, ◌%◌, ◌^◌, ◌<◌, ◌≤◌, ◌⊎◌, inl, inr, List, [], ◌∷◌, ◌++◌, length, get_or, Option, Some, None, slice_get, take, drop, min, refl, sym, ap, ◌∙◌, arith, subst, append-nil, append_assoc, All}
+use Rattle.std.proofs.Common.{◌≡◌, ◌≢◌, ℕ, ◌+◌, ◌-◌, ◌*◌, ◌/◌, ◌%◌, ◌^◌, ◌<◌, ◌≤◌, ◌⊎◌, inl, inr, List, [], ◌∷◌, ◌++◌, length, get_or, Some, slice_get, take, drop, min, refl, sym, ap, ◌∙◌, arith, subst, append-nil, append_assoc, All}
 use Rattle.std.specs.List.{flat_map, items_where_true, filter}
-use Rattle.std.specs.Option.{option_to_list}
-use Rattle.std.proofs.Math.Nat.{mul-le-mul_right, min-eq_left, pow-le-pow_right}
+use Rattle.std.proofs.Math.Nat.{pow-le-pow_right}
 use Rattle.std.proofs.lemmas.Nat.{pow_pos, mul-le}
 use Rattle.std.proofs.lemmas.Bool.{cases_lt}
 use Rattle.std.proofs.lemmas.Option.{slice_get-get_or, same_Some}
-use Rattle.std.proofs.lemmas.List.{length-map, length_push}
+use Rattle.std.proofs.lemmas.List.{length_push}
 use Rattle.std.proofs.lemmas.List.Concat.{flat_map-append}
 use Rattle.std.proofs.lemmas.List.Elements.{All-push, All-nil}
 use Rattle.query_laws.specs.Permuted.{Permuted, composed}
@@ -21,22 +20,16 @@ use Rattle.map_shapes.specs.declared.point.Point.{Point}
 use Rattle.map_shapes.specs.declared.rect.Rect.{Rect}
 use Rattle.map_shapes.specs.Questions.{is_in}
 use Rattle.range_tree.specs.Heights.{levels_to, leaf_height, height_at}
-use Rattle.range_tree.specs.declared.entry.Entry.{Entry}
 use Rattle.range_tree.specs.declared.level.Level.{Level}
 use Rattle.range_tree.specs.declared.span.Span.{Span}
 use Rattle.range_tree.specs.declared.cover.Cover.{Cover}
 use Rattle.row_blocks.specs.Heights.{height_of}
 use Rattle.range_tree.specs.Rows.{AreLevels, IsLevel, IsRow, IsBlock}
-use Rattle.range_tree.specs.Queries.{live_at, live_between, live_in_slice, live_in_span, IsSpan, HasRow, IsCovering, IsCover, IsFrontCovered, AreWithinAbscissas, AbscissasBelow, AbscissasFrom}
+use Rattle.range_tree.specs.Queries.{live_at, live_between, live_in_slice, live_in_span, IsSpan, HasRow, IsCovering, IsCover, AreWithinAbscissas, AbscissasBelow, AbscissasFrom, IsTaken}
 use Rattle.range_tree.proofs.HeightLemmas.{height_of-above, levels_for-few, levels_for-small}
 use Rattle.range_tree.proofs.Between.{live_in-split, live_in-all, live_between-none}
-
--- two different multiples of a length are at least that far apart
-pub multiples_apart : {a b height : ℕ} → IsMultiple a height → IsMultiple b height → a < b → a + 2 ^ height ≤ b
-multiples_apart {a} {b} {height} first second before =
-    let less : first.times < second.times = times_below first.times second.times (2 ^ height) (omega (arith, first.is, second.is)) in
-    let step : (first.times + 1) * 2 ^ height ≤ second.times * 2 ^ height = mul-le-mul_right (2 ^ height) (omega arith) in
-    omega (arith, first.is, second.is)
+use Rattle.range_tree.proofs.Counted.{level_is, live_in_span-is}
+use Rattle.row_blocks.proofs.Partitioning.{blocks_apart}
 
 -- a block behind none begins one length before
 pub multiple_before : {b height : ℕ} → IsMultiple b height → 2 ^ height ≤ b → IsMultiple (b - 2 ^ height) height
@@ -54,122 +47,69 @@ multiple_back {to} {len} {height} multiple is some odd =
     let same : to + len - 2 ^ (height + 1) ≡ to - len = omega arith in
     subst (λ n. IsMultiple n (height + 1)) same (multiple_before longer (omega arith))
 
--- the level at a height
-pub level_at : {part : Contents Point} {levels : List Level} → AreLevels part levels → (height : ℕ) → HasRow levels height
-    → (d : Level) → IsLevel part.items part.flags height (get_or levels (height_at (length levels) height) d)
-level_at {part} {levels} tree height within d =
-    let row : ℕ = height_at (length levels) height in
-    let inside : row < length levels = omega arith in
-    let back : height_at (length levels) row ≡ height = omega arith in
-    subst (λ h. IsLevel part.items part.flags h (get_or levels row d)) back (tree.each row (get_or levels row d) (slice_get-get_or levels row d inside))
+module _ {part : Contents Point} {levels : List Level} (tree : AreLevels part levels) {height : ℕ} (within : HasRow levels height) (d : Level) where
+  -- the level at a height
+  abbrev level : Level
+  level = get_or levels (height_at (length levels) height) d
 
--- a whole block of a row
-pub block_at : {points : List Point} {height start end : ℕ} {entries : List Entry} → IsRow points height entries → IsMultiple start height
-    → start + 2 ^ height ≡ end → end ≤ length points → IsBlock entries start end
-block_at {points} {height} {start} {end} {entries} row multiple is within =
-    let pos : 0 < 2 ^ height = pow_pos height in
-    let inside : start + 2 ^ height ≤ length entries = omega (arith, row.entry_each) in
-    let short : min (start + 2 ^ height) (length entries) ≡ end = min-eq_left inside ∙ is in
-    subst (IsBlock entries start) short (row.blocks start multiple (omega arith))
+  there : slice_get levels (height_at (length levels) height) ≡ Some level
+  there = slice_get-get_or levels (height_at (length levels) height) d (omega arith)
 
--- what a span takes of a rectangle's places
-pub record IsTaken (part : Contents Point) (levels : List Level) (rect : Rect) (start end : ℕ) (span : Span) : Type 0 where
-  pub is_span : IsSpan levels span
-  pub points : Permuted (live_in_span part levels span) (filter (is_in rect) (live_between part start end))
+  level_at : IsLevel part.items part.flags height level
+  level_at =
+      let back : height_at (length levels) (height_at (length levels) height) ≡ height = omega arith in
+      subst (λ h. IsLevel part.items part.flags h level) back (tree.each (height_at (length levels) height) level there)
 
--- what the search in a block has found
-pub taken : {part : Contents Point} {levels : List Level} {rect : Rect} {height start end : ℕ} {span : Span} (d : Level) → AreLevels part levels
-    → HasRow levels height → span.row ≡ height_at (length levels) height → span.from ≤ span.to → span.to ≤ end → end ≤ length part.items
-    → AreWithinAbscissas part start end rect
-    → ((p : Contents Point) (h : ℕ) → IsRow p.items h (get_or levels (height_at (length levels) height) d).entries.items
-    → AreWithinAbscissas p start end rect
-    → Permuted (live_in_slice p (get_or levels (height_at (length levels) height) d).entries.items span.from span.to)
-    (filter (is_in rect) (live_between p start end)))
-    → IsTaken part levels rect start end span
-taken {part} {levels} {rect} {height} {start} {end} {span} d tree within row ordered inside most abscissas found =
-    let level : Level = get_or levels (height_at (length levels) height) d in
-    let is_level : IsLevel part.items part.flags height level = level_at tree height within d in
-    let there : slice_get levels span.row ≡ Some level =
-    ap (slice_get levels) row ∙ slice_get-get_or levels (height_at (length levels) height) d (omega arith) in
-    let as_many : length level.counts.places ≡ length part.items =
-    ap length is_level.counts ∙ length-map level.entries.items _ ∙ is_level.row.entry_each in
-    let only : live_in_span part levels span ≡ live_in_slice part level.entries.items span.from span.to =
-    ap (λ o. flat_map (λ l. live_in_slice part l.entries.items span.from span.to) (option_to_list o)) there
-    ∙ append-nil (live_in_slice part level.entries.items span.from span.to) in
-    record {
-      is_span = record {
-        row = omega arith;
-        ordered = ordered;
-        within = λ l at. let same : level ≡ l = same_Some level l (sym there ∙ at) in
-            subst (λ m. span.to ≤ length m.counts.places) same (omega arith);
-        built = λ l at. let same : level ≡ l = same_Some level l (sym there ∙ at) in
-            subst (λ m. IsBuilt m.counts) same is_level.built;
-      };
-      points = subst (λ l. Permuted l (filter (is_in rect) (live_between part start end))) (sym only) (found part height is_level.row abscissas);
+  -- a whole block of it
+  pub block_at : {start end : ℕ} → IsMultiple start height → start + 2 ^ height ≡ end → end ≤ length part.items
+      → (end ≤ length level.entries.items) × IsBlock level.entries.items start end
+  block_at {start} {end} multiple is few =
+      let row = level_at.row in
+      let short : min (start + 2 ^ height) (length level.entries.items) ≡ end = omega (arith, row.entry_each) in
+      (omega (arith, row.entry_each), subst (IsBlock level.entries.items start) short (row.blocks start multiple (omega (arith, row.entry_each, pow_pos height))))
+
+  -- what the search in a block has found
+  module _ (rect : Rect) {start end : ℕ} (span : Span) (row : span.row ≡ height_at (length levels) height) (ordered : span.from ≤ span.to)
+      (inside : span.to ≤ end) (most : end ≤ length part.items) (abscissas : AreWithinAbscissas part start end rect)
+      (found : (p : Contents Point) (h : ℕ) → IsRow p.items h level.entries.items → AreWithinAbscissas p start end rect
+      → Permuted (live_in_slice p level.entries.items span.from span.to) (filter (is_in rect) (live_between p start end))) where
+    here : slice_get levels span.row ≡ Some level
+    here = ap (slice_get levels) row ∙ there
+
+    is_span : IsSpan levels span
+    is_span = record {
+      row = omega arith;
+      ordered = ordered;
+      within = λ l at. subst (λ m. span.to ≤ length m.counts.places) (same_Some level l (sym here ∙ at)) (omega (arith, (level_is tree span.row level here).2));
+      built = λ l at. subst (λ m. IsBuilt m.counts) (same_Some level l (sym here ∙ at)) level_at.built;
     }
 
-module _ {A B : Type 0} where
-  -- one more span
-  flat_map-push : (f : A → List B) (xs : List A) (x : A) → flat_map f (xs ++ x ∷ []) ≡ flat_map f xs ++ f x
-  flat_map-push f xs x = flat_map-append f xs (x ∷ []) ∙ ap (λ l. flat_map f xs ++ l) (append-nil (f x))
+    points : Permuted (live_in_span part levels span) (filter (is_in rect) (live_between part start end))
+    points = rw (live_in_span-is part levels span level here) (found part height level_at.row abscissas)
 
-  -- it has the front of what is left, or the back
-  joined_front : (f : A → List B) (xs ys : List A) (x : A) (first second : List B) {whole all : List B} → flat_map f ys ≡ flat_map f xs ++ f x
-      → Permuted (f x) first → whole ≡ first ++ second → Permuted (flat_map f xs ++ whole) all → Permuted (flat_map f ys ++ second) all
-  joined_front f xs ys x first second {whole} {all} more p is q =
-      let moved : flat_map f ys ++ second ≡ flat_map f xs ++ (f x ++ second) =
-      ap (λ l. l ++ second) more ∙ append_assoc (flat_map f xs) (f x) second in
-      let same : Permuted (flat_map f xs ++ (f x ++ second)) (flat_map f xs ++ whole) =
-      subst (λ l. Permuted (flat_map f xs ++ (f x ++ second)) (flat_map f xs ++ l)) (sym is)
-      (Permuted-append_right (flat_map f xs) (Permuted-append_left second p)) in
-      subst (λ l. Permuted l all) (sym moved) (composed same q)
+    -- it is pushed where it isn't empty
+    pub IsTaken-pushed : {old new : List Span} → new ≡ old ++ span ∷ [] → IsTaken part levels rect start end old new
+    IsTaken-pushed {old} pushed = record {
+      valid = λ spans. subst (All (IsSpan levels)) (sym pushed) (All-push (IsSpan levels) old span spans is_span);
+      many = omega (arith, ap length pushed ∙ length_push old span);
+      points = subst (λ l. Permuted l (flat_map (live_in_span part levels) old ++ filter (is_in rect) (live_between part start end)))
+          (sym (ap (flat_map (live_in_span part levels)) pushed ∙ flat_map-append (live_in_span part levels) old (span ∷ [])
+          ∙ ap (λ l. flat_map (live_in_span part levels) old ++ l) (append-nil (live_in_span part levels span))))
+          (Permuted-append_right (flat_map (live_in_span part levels) old) points);
+    }
 
-  joined_back : (f : A → List B) (xs ys : List A) (x : A) (first second : List B) {whole all : List B} → flat_map f ys ≡ flat_map f xs ++ f x
-      → Permuted (f x) second → whole ≡ first ++ second → Permuted (flat_map f xs ++ whole) all → Permuted (flat_map f ys ++ first) all
-  joined_back f xs ys x first second {whole} {all} more p is q =
-      let moved : flat_map f ys ++ first ≡ flat_map f xs ++ (f x ++ first) =
-      ap (λ l. l ++ first) more ∙ append_assoc (flat_map f xs) (f x) first in
-      let same : Permuted (flat_map f xs ++ (f x ++ first)) (flat_map f xs ++ whole) =
-      subst (λ l. Permuted (flat_map f xs ++ (f x ++ first)) (flat_map f xs ++ l)) (sym is)
-      (Permuted-append_right (flat_map f xs) (composed (Permuted-append_left first p) (Permuted-append_comm second first))) in
-      subst (λ l. Permuted l all) (sym moved) (composed same q)
-
--- the spans as before, and one more where it isn't empty
-pub record IsKept (part : Contents Point) (levels : List Level) (span : Span) (old new : List Span) : Type 0 where
-  pub valid : All (IsSpan levels) old → All (IsSpan levels) new
-  pub many : length new ≤ length old + 1
-  pub points : flat_map (live_in_span part levels) new ≡ flat_map (live_in_span part levels) old ++ live_in_span part levels span
-
-pub IsKept-pushed : {part : Contents Point} {levels : List Level} {old new : List Span} (span : Span) → IsSpan levels span → new ≡ old ++ span ∷ []
-    → IsKept part levels span old new
-IsKept-pushed {part} {levels} {old} {new} span is_span pushed = record {
-  valid = λ spans. subst (λ l. All (IsSpan levels) l) (sym pushed) (All-push (IsSpan levels) old span spans is_span);
-  many = omega (arith, ap length pushed ∙ length_push old span);
-  points = ap (flat_map (live_in_span part levels)) pushed ∙ flat_map-push (live_in_span part levels) old span;
-}
-
--- no entries stand between a place and itself
-nothing_between : (part : Contents Point) (levels : List Level) (span : Span) → span.to ≤ span.from → live_in_span part levels span ≡ []
-nothing_between part levels span none = by (slice_get levels span.row)
-  where
-    empty : (level : Level) → live_in_slice part level.entries.items span.from span.to ≡ []
-    empty level =
-        let zero_apart : span.to - span.from ≡ 0 = omega arith in
-        ap (λ n. flat_map (λ e. live_at part e.place) (take n (drop span.from level.entries.items))) zero_apart
-
-    by : (o : Option Level) → flat_map (λ level. live_in_slice part level.entries.items span.from span.to) (option_to_list o) ≡ []
-    by None = refl
-    by (Some level) = append-nil (live_in_slice part level.entries.items span.from span.to) ∙ empty level
-
-pub IsKept-empty : {part : Contents Point} {levels : List Level} {old new : List Span} (span : Span) → span.to ≤ span.from → new ≡ old
-    → IsKept part levels span old new
-IsKept-empty {part} {levels} {old} {new} span none same = record {
-  valid = λ spans. subst (λ l. All (IsSpan levels) l) (sym same) spans;
-  many = omega (arith, ap length same);
-  points = ap (flat_map (live_in_span part levels)) same
-      ∙ sym (append-nil (flat_map (live_in_span part levels) old))
-      ∙ ap (λ l. flat_map (live_in_span part levels) old ++ l) (sym (nothing_between part levels span none));
-}
+    pub IsTaken-empty : {old : List Span} → span.to ≤ span.from → IsTaken part levels rect start end old old
+    IsTaken-empty {old} empty =
+        let none : span.to - span.from ≡ 0 = omega arith in
+        let nothing : live_in_span part levels span ≡ [] =
+        live_in_span-is part levels span level here ∙ ap (λ n. flat_map (λ e. live_at part e.place) (take n (drop span.from level.entries.items))) none in
+        record {
+          valid = λ spans. spans;
+          many = omega arith;
+          points = subst (λ l. Permuted l (flat_map (live_in_span part levels) old ++ filter (is_in rect) (live_between part start end)))
+              (ap (λ l. flat_map (live_in_span part levels) old ++ l) nothing ∙ append-nil (flat_map (live_in_span part levels) old))
+              (Permuted-append_right (flat_map (live_in_span part levels) old) points);
+        }
 
 -- more spans may be there
 pub IsCovering-weaker : {part : Contents Point} {levels : List Level} {rect : Rect} {most more : ℕ} {cover : Cover} → most ≤ more
@@ -183,132 +123,81 @@ IsCovering-weaker le old = record {
   points = old.points;
 }
 
--- a span is pushed that takes the front of what is left
-pub IsCovering-front : {part : Contents Point} {levels : List Level} {rect : Rect} {most mid : ℕ} {old new : Cover} (span : Span)
-    → IsCovering part levels rect most old → old.from ≤ mid → mid ≤ old.to → IsTaken part levels rect old.from mid span
-    → IsKept part levels span old.spans.items new.spans.items → new.from ≡ mid → new.to ≡ old.to → new.low ≡ old.low → new.high ≡ old.high → IsCovering part levels rect (most + 1) new
-IsCovering-front {part} {levels} {rect} {most} {mid} {old} {new} span cover after before is_taken kept from to low high = record {
-  ordered = omega arith;
+-- a block is taken at one of its ends
+IsCovering-taken : {part : Contents Point} {levels : List Level} {rect : Rect} {most start end : ℕ} {old new : Cover} → IsCovering part levels rect most old
+    → IsTaken part levels rect start end old.spans.items new.spans.items
+    → old.from ≤ new.from → new.from ≤ new.to → new.to ≤ old.to → new.low ≡ old.low → new.high ≡ old.high
+    → Permuted (filter (is_in rect) (live_between part start end) ++ filter (is_in rect) (live_between part new.from new.to)) (filter (is_in rect) (live_between part old.from old.to))
+    → IsCovering part levels rect (most + 1) new
+IsCovering-taken {part} {levels} {rect} {most} {start} {end} {old} {new} cover taken after ordered before low high rest = record {
+  ordered = ordered;
   within = omega (arith, cover.within);
-  abscissas = λ k p low high at. cover.abscissas k p (omega arith) (omega arith) at;
-  spans = kept.valid cover.spans;
-  few = omega (arith, kept.many, cover.few);
+  abscissas = λ k p from to at. cover.abscissas k p (omega arith) (omega arith) at;
+  spans = taken.valid cover.spans;
+  few = omega (arith, taken.many, cover.few);
   points =
-      let split : filter (is_in rect) (live_between part old.from old.to)
-      ≡ filter (is_in rect) (live_between part old.from mid) ++ filter (is_in rect) (live_between part mid old.to) =
-      live_in-split part rect old.from mid old.to after before in
-      let done = joined_front (live_in_span part levels) old.spans.items new.spans.items span _ _ kept.points is_taken.points split cover.points in
-      rw (from, to, low, high) done;
-}
-
--- or the back
-pub IsCovering-back : {part : Contents Point} {levels : List Level} {rect : Rect} {most mid : ℕ} {old new : Cover} (span : Span)
-    → IsCovering part levels rect most old → old.from ≤ mid → mid ≤ old.to → IsTaken part levels rect mid old.to span
-    → IsKept part levels span old.spans.items new.spans.items → new.from ≡ old.from → new.to ≡ mid → new.low ≡ old.low → new.high ≡ old.high → IsCovering part levels rect (most + 1) new
-IsCovering-back {part} {levels} {rect} {most} {mid} {old} {new} span cover after before is_taken kept from to low high = record {
-  ordered = omega arith;
-  within = omega (arith, cover.within);
-  abscissas = λ k p low high at. cover.abscissas k p (omega arith) (omega arith) at;
-  spans = kept.valid cover.spans;
-  few = omega (arith, kept.many, cover.few);
-  points =
-      let split : filter (is_in rect) (live_between part old.from old.to)
-      ≡ filter (is_in rect) (live_between part old.from mid) ++ filter (is_in rect) (live_between part mid old.to) =
-      live_in-split part rect old.from mid old.to after before in
-      let done = joined_back (live_in_span part levels) old.spans.items new.spans.items span _ _ kept.points is_taken.points split cover.points in
-      rw (from, to, low, high) done;
+      let spans = flat_map (live_in_span part levels) old.spans.items in
+      let left = filter (is_in rect) (live_between part new.from new.to) in
+      let block = filter (is_in rect) (live_between part start end) in
+      let joined : Permuted ((spans ++ block) ++ left) (filter (is_in rect) (live_between part old.low old.high)) =
+      rw (append_assoc spans block left) (composed (Permuted-append_right spans rest) cover.points) in
+      rw (low, high) (composed (Permuted-append_left left taken.points) joined);
 }
 
 -- what is left has room for a block
-pub front_apart : {part : Contents Point} {levels : List Level} {rect : Rect} {height : ℕ} {cover : Cover}
-    → IsCover part levels rect height cover → cover.from < cover.to → cover.from + 2 ^ height ≤ cover.to
-front_apart old some = multiples_apart (old.front some) (old.back some) some
+pub blocks_left : {part : Contents Point} {levels : List Level} {rect : Rect} {first last : ℕ} {cover : Cover} → IsCover part levels rect first last cover
+    → (first ≡ last) ⊎ (first ≡ last + 1) → cover.from < cover.to → cover.from + 2 ^ last ≤ cover.to
+blocks_left {cover = cover} old (inl is) some = blocks_apart (subst (IsMultiple cover.from) is (old.front some)) (old.back some) some
+blocks_left {last = last} {cover = cover} old (inr is) some =
+    blocks_apart (first_half cover.from last (subst (IsMultiple cover.from) is (old.front some))) (old.back some) some
 
-pub back_apart : {part : Contents Point} {levels : List Level} {rect : Rect} {height : ℕ} {cover : Cover}
-    → IsFrontCovered part levels rect height cover → cover.from < cover.to → cover.from + 2 ^ height ≤ cover.to
-back_apart {part} {levels} {rect} {height} {cover} old some =
-    multiples_apart (first_half cover.from height (old.front some)) (old.back some) some
-
--- a level at which nothing is taken at the front
-pub IsFrontCovered-skip : {part : Contents Point} {levels : List Level} {rect : Rect} {height len : ℕ} {cover : Cover} → len ≡ 2 ^ height
-    → IsCover part levels rect height cover → (cover.from < cover.to → cover.from / len % 2 ≢ 1) → IsFrontCovered part levels rect height cover
-IsFrontCovered-skip {part} {levels} {rect} {height} {len} {cover} is old even = record {
+-- a level at which nothing is taken at the front, or at the back
+pub IsCover-skip_front : {part : Contents Point} {levels : List Level} {rect : Rect} {height len : ℕ} {cover : Cover} → len ≡ 2 ^ height
+    → IsCover part levels rect height height cover → (cover.from < cover.to → cover.from / len % 2 ≢ 1) → IsCover part levels rect (height + 1) height cover
+IsCover-skip_front {height = height} {len = len} {cover = cover} is old even = record {
   covering = IsCovering-weaker (omega arith) old.covering;
   front = λ some. let no : cover.from / len % 2 ≢ 1 = even some in even_block cover.from height len (old.front some) is (omega arith);
   back = old.back;
 }
 
--- or at the back
-pub IsCover-skip : {part : Contents Point} {levels : List Level} {rect : Rect} {height len : ℕ} {cover : Cover} → len ≡ 2 ^ height
-    → IsFrontCovered part levels rect height cover → (cover.from < cover.to → cover.to / len % 2 ≢ 1) → IsCover part levels rect (height + 1) cover
-IsCover-skip {part} {levels} {rect} {height} {len} {cover} is old even = record {
+pub IsCover-skip_back : {part : Contents Point} {levels : List Level} {rect : Rect} {height len : ℕ} {cover : Cover} → len ≡ 2 ^ height
+    → IsCover part levels rect (height + 1) height cover → (cover.from < cover.to → cover.to / len % 2 ≢ 1) → IsCover part levels rect (height + 1) (height + 1) cover
+IsCover-skip_back {height = height} {len = len} {cover = cover} is old even = record {
   covering = IsCovering-weaker (omega arith) old.covering;
   front = old.front;
   back = λ some. let no : cover.to / len % 2 ≢ 1 = even some in even_block cover.to height len (old.back some) is (omega arith);
 }
 
 -- the block at the front, where it is a second half
-pub IsFrontCovered-push : {part : Contents Point} {levels : List Level} {rect : Rect} {height len : ℕ} {old new : Cover} (span : Span) → len ≡ 2 ^ height
-    → IsCover part levels rect height old → old.from < old.to → old.from / len % 2 ≡ 1
-    → IsTaken part levels rect old.from (old.from + len) span → IsKept part levels span old.spans.items new.spans.items
-    → new.from ≡ old.from + len → new.to ≡ old.to → new.low ≡ old.low → new.high ≡ old.high → IsFrontCovered part levels rect height new
-IsFrontCovered-push {part} {levels} {rect} {height} {len} {old} {new} span is cover some odd is_taken kept from to low high =
-    let apart : old.from + 2 ^ height ≤ old.to = front_apart cover some in
-    let next : IsMultiple (old.from + len) (height + 1) = odd_block old.from height len (cover.front some) is (λ e. omega arith) in
+pub IsCover-front : {part : Contents Point} {levels : List Level} {rect : Rect} {height len : ℕ} {old new : Cover} → len ≡ 2 ^ height
+    → IsCover part levels rect height height old → old.from < old.to → old.from / len % 2 ≡ 1
+    → IsTaken part levels rect old.from new.from old.spans.items new.spans.items
+    → new.from ≡ old.from + len → new.to ≡ old.to → new.low ≡ old.low → new.high ≡ old.high → IsCover part levels rect (height + 1) height new
+IsCover-front {part} {levels} {rect} {height} {len} {old} {new} is cover some odd taken from to low high =
+    let apart = blocks_left cover (inl refl) some in
     record {
-      covering = IsCovering-front span cover.covering (omega arith) (omega arith) is_taken kept from to low high;
-      front = λ more. subst (λ n. IsMultiple n (height + 1)) (sym from) next;
-      back = λ more. subst (λ n. IsMultiple n height) (sym to) (cover.back some);
+      covering = IsCovering-weaker (omega arith) (IsCovering-taken cover.covering taken (omega arith) (omega arith) (omega arith) low high (rw (live_in-split part rect old.from new.from old.to (omega arith) (omega arith), to) (Permuted-refl _)));
+      front = λ more. rw from (odd_block old.from height len (cover.front some) is (λ e. omega arith));
+      back = λ more. rw to (cover.back some);
     }
 
 -- the block at the back, where it is a first half
-pub IsCover-push : {part : Contents Point} {levels : List Level} {rect : Rect} {height len : ℕ} {old new : Cover} (span : Span) → len ≡ 2 ^ height
-    → IsFrontCovered part levels rect height old → old.from < old.to → old.to / len % 2 ≡ 1
-    → IsTaken part levels rect (old.to - len) old.to span → IsKept part levels span old.spans.items new.spans.items
-    → new.from ≡ old.from → new.to ≡ old.to - len → new.low ≡ old.low → new.high ≡ old.high → IsCover part levels rect (height + 1) new
-IsCover-push {part} {levels} {rect} {height} {len} {old} {new} span is cover some odd is_taken kept from to low high =
-    let apart : old.from + 2 ^ height ≤ old.to = back_apart cover some in
-    let next : IsMultiple (old.to - len) (height + 1) = multiple_back (cover.back some) is (omega arith) odd in
+pub IsCover-back : {part : Contents Point} {levels : List Level} {rect : Rect} {height len : ℕ} {old new : Cover} → len ≡ 2 ^ height
+    → IsCover part levels rect (height + 1) height old → old.from < old.to → old.to / len % 2 ≡ 1
+    → IsTaken part levels rect new.to old.to old.spans.items new.spans.items
+    → new.from ≡ old.from → new.to ≡ old.to - len → new.low ≡ old.low → new.high ≡ old.high → IsCover part levels rect (height + 1) (height + 1) new
+IsCover-back {part} {levels} {rect} {height} {len} {old} {new} is cover some odd taken from to low high =
+    let apart = blocks_left cover (inr refl) some in
     record {
-      covering = IsCovering-weaker (omega arith) (IsCovering-back span cover.covering (omega arith) (omega arith) is_taken kept from to low high);
-      front = λ more. subst (λ n. IsMultiple n (height + 1)) (sym from) (cover.front some);
-      back = λ more. subst (λ n. IsMultiple n (height + 1)) (sym to) next;
-    }
-
--- what the search in the block at the front needs, or at the back
-pub record IsNextBlock (entries : List Entry) (start end : ℕ) : Type 0 where
-  pub within : end ≤ length entries
-  pub block : IsBlock entries start end
-
-pub block_front : {part : Contents Point} {levels : List Level} {rect : Rect} {height len : ℕ} {cover : Cover} (d : Level) → len ≡ 2 ^ height
-    → HasRow levels height → AreLevels part levels → IsCover part levels rect height cover → cover.from < cover.to
-    → IsNextBlock (get_or levels (height_at (length levels) height) d).entries.items cover.from (cover.from + len)
-block_front {part} {levels} {rect} {height} {len} {cover} d is within tree old some =
-    let level = level_at tree height within d in
-    let apart : cover.from + 2 ^ height ≤ cover.to = front_apart old some in
-    let inside : cover.from + len ≤ length part.items = omega (arith, old.covering.within) in
-    record {
-      within = omega (arith, level.row.entry_each);
-      block = block_at level.row (old.front some) (omega arith) inside;
-    }
-
-pub block_back : {part : Contents Point} {levels : List Level} {rect : Rect} {height len : ℕ} {cover : Cover} (d : Level) → len ≡ 2 ^ height
-    → HasRow levels height → AreLevels part levels → IsFrontCovered part levels rect height cover → cover.from < cover.to
-    → IsNextBlock (get_or levels (height_at (length levels) height) d).entries.items (cover.to - len) cover.to
-block_back {part} {levels} {rect} {height} {len} {cover} d is within tree old some =
-    let level = level_at tree height within d in
-    let apart : cover.from + 2 ^ height ≤ cover.to = back_apart old some in
-    let start : IsMultiple (cover.to - 2 ^ height) height = multiple_before (old.back some) (omega arith) in
-    let same : cover.to - 2 ^ height ≡ cover.to - len = omega arith in
-    record {
-      within = omega (arith, level.row.entry_each, old.covering.within);
-      block = block_at level.row (subst (λ n. IsMultiple n height) same start) (omega arith) old.covering.within;
+      covering = IsCovering-weaker (omega arith) (IsCovering-taken cover.covering taken (omega arith) (omega arith) (omega arith) low high (rw (live_in-split part rect old.from new.to old.to (omega arith) (omega arith), from) (Permuted-append_comm (filter (is_in rect) (live_between part new.to old.to)) (filter (is_in rect) (live_between part old.from new.to)))));
+      front = λ more. rw from (cover.front some);
+      back = λ more. rw to (multiple_back (cover.back some) is (omega arith) odd);
     }
 
 -- before the loop nothing is covered
 pub IsCover-init : {part : Contents Point} {levels : List Level} {rect : Rect} {cover : Cover} → cover.spans.items ≡ [] → cover.from ≡ cover.low → cover.to ≡ cover.high
     → cover.low ≤ cover.high → cover.high ≤ length part.items → AreWithinAbscissas part cover.low cover.high rect
-    → (cover.low < cover.high → IsMultiple cover.low leaf_height) → (cover.low < cover.high → IsMultiple cover.high leaf_height) → IsCover part levels rect leaf_height cover
+    → (cover.low < cover.high → IsMultiple cover.low leaf_height) → (cover.low < cover.high → IsMultiple cover.high leaf_height) → IsCover part levels rect leaf_height leaf_height cover
 IsCover-init {part} {levels} {rect} {cover} none from to ordered within abscissas front back = record {
   covering = record {
     ordered = omega arith;
@@ -324,32 +213,32 @@ IsCover-init {part} {levels} {rect} {cover} none from to ordered within abscissa
 
 -- at the end nothing is left: no two places of a part are so far apart
 pub none_left : {part : Contents Point} {levels : List Level} {rect : Rect} {height : ℕ} {cover : Cover} → AreLevels part levels
-    → height ≡ length levels + leaf_height → IsCover part levels rect height cover → cover.to ≤ cover.from
-none_left {part} {levels} {rect} {height} {cover} tree is old =
-    elim (cases_lt cover.from cover.to) [ inl some ↦ absurd (far some) | inr none ↦ none ]
-  where
-    far : cover.from < cover.to → ⊥
-    far some =
-        let apart : cover.from + 2 ^ height ≤ cover.to = front_apart old some in
-        let inside : cover.to ≤ length part.items = old.covering.within in
-        let tall : height_of (length part.items) + 1 ≤ height = omega (arith, is, tree.as_many) in
-        let fits : length part.items ≤ 2 ^ height_of (length part.items) = height_of-above (length part.items) (omega (arith, tree.few)) in
-        let twice = pow_next (height_of (length part.items)) in
-        let larger : 2 ^ (height_of (length part.items) + 1) ≤ 2 ^ height = pow-le-pow_right (omega arith) tall in
-        let pos : 0 < 2 ^ height_of (length part.items) = pow_pos (height_of (length part.items)) in
-        omega arith
+    → height ≡ length levels + leaf_height → IsCover part levels rect height height cover → cover.to ≤ cover.from
+none_left {part} {levels} {rect} {height} {cover} tree is old = elim (cases_lt cover.from cover.to) [
+  | inl some ↦
+      let h = height_of (length part.items) in
+      let tall : h + 1 ≤ height = omega (arith, is, tree.as_many) in
+      let larger : 2 ^ (h + 1) ≤ 2 ^ height = pow-le-pow_right (omega arith) tall in
+      absurd (omega (
+        arith,
+        larger,
+        blocks_left old (inl refl) some,
+        old.covering.within,
+        height_of-above (length part.items) (omega (arith, tree.few)),
+        pow_next h,
+        pow_pos h,
+      ))
+  | inr none ↦ none
+]
 
 -- then the spans hold all points of the rectangle among the leaves that were to be covered
 pub points_covered : {part : Contents Point} {levels : List Level} {rect : Rect} {height : ℕ} {cover : Cover} → AreLevels part levels
-    → height ≡ length levels + leaf_height → IsCover part levels rect height cover
+    → height ≡ length levels + leaf_height → IsCover part levels rect height height cover
     → Permuted (flat_map (live_in_span part levels) cover.spans.items) (filter (is_in rect) (live_between part cover.low cover.high))
 points_covered {part} {levels} {rect} {height} {cover} tree is old =
-    let nothing_more : flat_map (live_in_span part levels) cover.spans.items ++ filter (is_in rect) (live_between part cover.from cover.to)
-    ≡ flat_map (live_in_span part levels) cover.spans.items =
-    ap (λ l. flat_map (live_in_span part levels) cover.spans.items ++ filter (is_in rect) l)
-    (live_between-none part cover.from cover.to (none_left tree is old))
-    ∙ append-nil (flat_map (live_in_span part levels) cover.spans.items) in
-    subst (λ l. Permuted l (filter (is_in rect) (live_between part cover.low cover.high))) nothing_more old.covering.points
+    let spans = flat_map (live_in_span part levels) cover.spans.items in
+    subst (λ l. Permuted l (filter (is_in rect) (live_between part cover.low cover.high)))
+    (ap (λ l. spans ++ filter (is_in rect) l) (live_between-none part cover.from cover.to (none_left tree is old)) ∙ append-nil spans) old.covering.points
 
 -- and with the places before and behind these all of the rectangle
 pub points_cut : (part : Contents Point) (levels : List Level) (rect : Rect) (spans : List Span) (from low high behind to : ℕ) → behind ≡ high → length part.flags ≡ length part.items

@@ -5,14 +5,14 @@ use Rattle.std.proofs.lemmas.Bool.{cases_lt, ltb-true, ltb-false, eqb-true, eqb-
 use Rattle.std.proofs.lemmas.List.{get_or-set_same, get_or-set_other, length-set, get_or_past}
 use Rattle.std.proofs.lemmas.List.Elements.{All-get_or, All-set}
 use Rattle.std.proofs.Math.ListN.{set}
-use Rattle.std.proofs.Math.Nat.{mul-le-mul_right}
 use Rattle.row_blocks.specs.Blocks.{IsMultiple}
-use Rattle.row_blocks.proofs.Blocks.{pow_next, first_half, second_half, times_below}
+use Rattle.row_blocks.proofs.Blocks.{pow_next, first_half, second_half}
 use Rattle.map_shapes.specs.declared.point.Point.{Point}
 use Rattle.range_tree.specs.declared.entry.Entry.{Entry}
 use Rattle.range_tree.specs.Rows.{IsEntryOf, no_entry, entry_at, precedes, IsRun, IsBlock, AreBlocks, IsRow}
-use Rattle.range_tree.specs.Growing.{start_of, IsParting, target_of, lower_after}
+use Rattle.range_tree.specs.Growing.{start_of, IsSplitting, IsParting, target_of, lower_after}
 use Rattle.range_tree.proofs.Blocks.{run_fits, run_has_room}
+use Rattle.row_blocks.proofs.Partitioning.{blocks_apart}
 
 -- a run of places above 0 ends within the list
 run_within : {entries : List Entry} {from to low high : ℕ} → IsRun entries from to low high → 0 < low → from < to → to ≤ length entries
@@ -72,18 +72,6 @@ run_more {entries = entries} {from = from} {to = to} {low = low} {high = high} e
 
     here : (k : ℕ) → k ≡ to → entry_at (set entries to e) k ≡ e
     here k is = ap (entry_at (set entries to e)) is ∙ get_or-set_same entries to e no_entry inside
-
--- what a parting says of the block that begins at `start`
-record IsSplitting (source target : List Entry) (start half k lower : ℕ) : Type 0 where
-  pub same_length : length target ≡ length source
-  pub lower_few : lower ≤ k - start
-  pub first : IsRun target start (start + lower) start (min (start + half) (length source))
-  pub second : IsRun target (start + half) (start + half + (k - start - lower)) (start + half) (min (start + half + half) (length source))
-  pub ahead : (q l : ℕ) → start ≤ q → q < start + lower
-      → k ≤ l → l < min (start + 2 * half) (length source) → IsTrue (precedes (entry_at target q) (entry_at source l))
-  pub ahead_second : (q l : ℕ) → start + half ≤ q
-      → q < start + half + (k - start - lower) → k ≤ l → l < min (start + 2 * half) (length source)
-      → IsTrue (precedes (entry_at target q) (entry_at source l))
 
 module _ {source target : List Entry} {start half k lower : ℕ} (split : IsSplitting source target start half k lower) where
   module _ (points : List Point) (some : 0 < half) (known_there : All (IsEntryOf points) target) where
@@ -254,18 +242,11 @@ start_next half k some =
 start_of-zero : (half : ℕ) → 0 < half → start_of half 0 ≡ 0
 start_of-zero half some = let le : start_of half 0 ≤ 0 = (start_of-around half 0 some).0 in omega arith
 
--- blocks don't overlap
-apart : (s t height : ℕ) → IsMultiple s height → IsMultiple t height → s < t → s + 2 ^ height ≤ t
-apart s t height first second lower =
-    let more : first.times < second.times = times_below first.times second.times (2 ^ height) (omega (arith, first.is, second.is)) in
-    let le : (first.times + 1) * 2 ^ height ≤ second.times * 2 ^ height = mul-le-mul_right (2 ^ height) (omega arith) in
-    omega (arith, first.is, second.is)
-
 -- a write behind blocks leaves them
 AreBlocks-kept : (target : List Entry) (height start j : ℕ) (e : Entry) → AreBlocks target height start → IsMultiple start height → start ≤ j
     → AreBlocks (set target j e) height start
 AreBlocks-kept target height start j e done multiple behind s at before =
-    let ends : s + 2 ^ height ≤ start = apart s start height at multiple before in
+    let ends : s + 2 ^ height ≤ start = blocks_apart at multiple before in
     subst (λ n. IsBlock (set target j e) s (min (s + 2 ^ height) n)) (sym (length-set target j e))
     (run_kept j e (done s at before) (λ q after inside. omega arith))
 
@@ -282,45 +263,26 @@ module _ (points : List Point) {source target : List Entry} {start height k lowe
           subst (λ n. IsBlock target n (min (n + 2 ^ height) (length target))) is
           (whole_first split points (pow_pos height) known_there end (omega arith))
       | inl later ↦
-          let past : start + 2 ^ height ≤ s = apart start s height (first_half start height multiple) at later in
+          let past : start + 2 ^ height ≤ s = blocks_apart (first_half start height multiple) at later in
           elim (cases_lt (start + 2 ^ height) s) [
             | inr same ↦
                 let is : start + 2 ^ height ≡ s = omega arith in
                 subst (λ n. IsBlock target n (min (n + 2 ^ height) (length target))) is
                 (whole_second split points (pow_pos height) known_there end (omega arith))
             | inl beyond ↦
-                let no_more : start + 2 ^ height + 2 ^ height ≤ s = apart (start + 2 ^ height) s height (second_half start height multiple) at beyond in
+                let no_more : start + 2 ^ height + 2 ^ height ≤ s = blocks_apart (second_half start height multiple) at beyond in
                 absurd (omega arith)
           ]
     ]
   ]
 
--- from a parting to its block, and back
-IsSplitting-from : {source target : List Entry} {height k lower : ℕ} → IsParting source target height k lower
-    → IsSplitting source target (start_of (2 ^ height) k) (2 ^ height) k lower
-IsSplitting-from parting = record {
-  same_length = parting.same_length;
-  lower_few = parting.lower_few;
-  first = parting.first;
-  second = parting.second;
-  ahead = parting.ahead;
-  ahead_second = parting.ahead_second;
-}
-
+-- a parting whose block is known
 IsParting-from : {source target : List Entry} {start height k lower : ℕ} → start_of (2 ^ height) k ≡ start
     → AreBlocks target height start → IsSplitting source target start (2 ^ height) k lower → IsParting source target height k lower
-IsParting-from {source = source} {target = target} {height = height} {k = k} {lower = lower} is done split =
-    let split' : IsSplitting source target (start_of (2 ^ height) k) (2 ^ height) k lower =
-    subst (λ s. IsSplitting source target s (2 ^ height) k lower) (sym is) split in
-    record {
-      same_length = split'.same_length;
-      lower_few = split'.lower_few;
-      done = subst (λ s. AreBlocks target height s) (sym is) done;
-      first = split'.first;
-      second = split'.second;
-      ahead = split'.ahead;
-      ahead_second = split'.ahead_second;
-    }
+IsParting-from {source = source} {target = target} {height = height} {k = k} {lower = lower} is done split = record {
+  done = subst (λ s. AreBlocks target height s) (sym is) done;
+  split = subst (λ s. IsSplitting source target s (2 ^ height) k lower) (sym is) split;
+}
 
 -- a copy of a row, of which nothing is parted yet
 pub IsParting-copy : (row : List Entry) (height : ℕ) → IsParting row row height 0 0
@@ -341,7 +303,7 @@ module _ {points : List Point} {source target : List Entry} {height k lower : �
     pub target_of-within : target_of (2 ^ height) k lower (entry_at source k) < length target
     target_of-within =
         let around = start_of-around (2 ^ height) k (pow_pos height) in
-        room (IsSplitting-from parting) points (pow_pos height) known_there (block_of (omega (arith, around.0))) row.known around.0
+        room parting.split points (pow_pos height) known_there (block_of (omega (arith, around.0))) row.known around.0
         (omega (arith, around.1)) _ refl
 
     known_here' : IsEntryOf points (entry_at source k)
@@ -360,7 +322,7 @@ module _ {points : List Point} {source target : List Entry} {height k lower : �
       split_moved : IsSplitting source moved_to (start_of (2 ^ height) k) (2 ^ height) (k + 1) (cond low (lower + 1) lower)
       split_moved =
           let around = start_of-around (2 ^ height) k (pow_pos height) in
-          moved (IsSplitting-from parting) points (pow_pos height) known_there (block_of (omega (arith, around.0))) row.known around.0
+          moved parting.split points (pow_pos height) known_there (block_of (omega (arith, around.0))) row.known around.0
           (omega (arith, around.1)) low test
 
       behind : (b : Bool) (s n h m : ℕ) → s ≤ cond b (s + n) (s + h + m)
@@ -402,9 +364,9 @@ module _ {points : List Point} {source target : List Entry} {height k lower : �
   IsRow-parted end =
       let around = start_of-around (2 ^ height) k (pow_pos height) in
       let whole : AreBlocks target height k =
-      AreBlocks-more points (IsSplitting-from parting) known_there (start_of-multiple height k) parting.done (omega (arith, around.0, around.1)) in
+      AreBlocks-more points parting.split known_there (start_of-multiple height k) parting.done (omega (arith, around.0, around.1)) in
       record {
-        entry_each = parting.same_length ∙ row.entry_each;
+        entry_each = parting.split.same_length ∙ row.entry_each;
         known = known_there;
-        blocks = subst (λ n. AreBlocks target height n) (end ∙ sym parting.same_length) whole;
+        blocks = subst (λ n. AreBlocks target height n) (end ∙ sym parting.split.same_length) whole;
       }

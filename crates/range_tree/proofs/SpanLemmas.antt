@@ -18,7 +18,8 @@ use Rattle.map_shapes.specs.Questions.{is_in}
 use Rattle.range_tree.specs.declared.entry.Entry.{Entry}
 use Rattle.range_tree.specs.Rows.{precedes, no_entry, entry_at, IsBlock, IsEntryOf}
 use Rattle.range_tree.specs.Queries.{live_at, live_between, live_in_slice, AreWithinAbscissas}
-use Rattle.range_tree.proofs.Blocks.{length-slice_range, get_or-slice_range, block_places}
+use Rattle.row_blocks.proofs.Lists.{length-slice_range, get_or-slice_range}
+use Rattle.range_tree.proofs.Blocks.{block_places}
 
 -- a slice in two
 pub slice_range-append : {X : Type 0} (xs : List X) (from mid to : ℕ) → from ≤ mid → mid ≤ to

@@ -40,21 +40,23 @@ pub record IsPutting (b : Progress Point) (levels : List Level) : Type 0 where
 abbrev pub start_of : ℕ → ℕ → ℕ
 start_of half k = k / (2 * half) * (2 * half)
 
--- The first k entries of a row are parted into halves of its blocks: each stands in the half that has its place, behind those
--- that were there. `lower` is how many of the block at k are in its first half.
-pub record IsParting (source target : List Entry) (height k lower : ℕ) : Type 0 where
+-- Of the block at `start`, the entries before k are in the half that has their place, behind those that were there: `lower` of them in
+-- the first one.
+pub record IsSplitting (source target : List Entry) (start half k lower : ℕ) : Type 0 where
   pub same_length : length target ≡ length source
-  pub lower_few : lower ≤ k - start_of (2 ^ height) k
-  pub done : AreBlocks target height (start_of (2 ^ height) k)
-  pub first : let start = start_of (2 ^ height) k in
-      IsRun target start (start + lower) start (min (start + 2 ^ height) (length source))
-  pub second : let start = start_of (2 ^ height) k in let middle = start + 2 ^ height in
-      IsRun target middle (middle + (k - start - lower)) middle (min (middle + 2 ^ height) (length source))
-  pub ahead : let start = start_of (2 ^ height) k in (q l : ℕ) → start ≤ q → q < start + lower
-      → k ≤ l → l < min (start + 2 * 2 ^ height) (length source) → IsTrue (precedes (entry_at target q) (entry_at source l))
-  pub ahead_second : let start = start_of (2 ^ height) k in let middle = start + 2 ^ height in (q l : ℕ) → middle ≤ q
-      → q < middle + (k - start - lower) → k ≤ l → l < min (start + 2 * 2 ^ height) (length source)
+  pub lower_few : lower ≤ k - start
+  pub first : IsRun target start (start + lower) start (min (start + half) (length source))
+  pub second : IsRun target (start + half) (start + half + (k - start - lower)) (start + half) (min (start + half + half) (length source))
+  pub ahead : (q l : ℕ) → start ≤ q → q < start + lower
+      → k ≤ l → l < min (start + 2 * half) (length source) → IsTrue (precedes (entry_at target q) (entry_at source l))
+  pub ahead_second : (q l : ℕ) → start + half ≤ q
+      → q < start + half + (k - start - lower) → k ≤ l → l < min (start + 2 * half) (length source)
       → IsTrue (precedes (entry_at target q) (entry_at source l))
+
+-- The first k entries of a row are parted into halves of its blocks.
+pub record IsParting (source target : List Entry) (height k lower : ℕ) : Type 0 where
+  pub done : AreBlocks target height (start_of (2 ^ height) k)
+  pub split : IsSplitting source target (start_of (2 ^ height) k) (2 ^ height) k lower
 
 -- where an entry goes: into the half that has its place, behind those that are there
 abbrev pub target_of : ℕ → ℕ → ℕ → Entry → ℕ
@@ -87,28 +89,33 @@ pub record IsComing (level next : Level) (height lower : ℕ) : Type 0 where
       → IsParting level.entries.items next.entries.items height (turned level.counts) lower
   pub uncounted : next.counts ≡ nothing_put next.counts.capacity
 
--- After the seal the levels above are built, one grows, and those below are yet to come.
-pub record IsGrowing (b : Progress Point) (tree : Tree) : Type 0 where
-  pub small : b.at_level < 32
-  pub few : length b.items ≤ 2 ^ b.at_level
-  pub used : tree.used ≡ levels_for (length b.items)
-  pub made : tree.used ≤ length tree.levels.items
-  pub all_made : length tree.levels.items ≡ levels_to b.at_level
-  pub room : All (HasRoom (2 ^ b.at_level)) tree.levels.items
-  pub at_within : tree.at ≤ tree.used
-  pub built : (q : ℕ) (level : Level) → q < tree.at → slice_get tree.levels.items q ≡ Some level
-      → IsLevel b.items (replicate (length b.items) true) (height_at tree.used q) level
-  pub here : (level : Level) → tree.at < tree.used → slice_get tree.levels.items tree.at ≡ Some level
-      → IsCounting b.items (height_at tree.used tree.at) level
-  pub next : (level next : Level) → tree.at + 1 < tree.used → slice_get tree.levels.items tree.at ≡ Some level
-      → slice_get tree.levels.items (tree.at + 1) ≡ Some next → IsComing level next (height_at tree.used (tree.at + 1)) tree.lower
-  pub known : (next : Level) → tree.at + 1 < tree.used → slice_get tree.levels.items (tree.at + 1) ≡ Some next
-      → All (IsEntryOf b.items) next.entries.items
-  pub beyond : (q : ℕ) (level : Level) → tree.at + 1 < q → slice_get tree.levels.items q ≡ Some level → IsEmptyLevel level
-  pub left : (level : Level) → tree.at < tree.used → slice_get tree.levels.items tree.at ≡ Some level
-      → tree.left + (length level.counts.places + turned level.counts) ≡ (tree.used - tree.at) * (2 * length b.items)
-  pub ended : tree.at ≡ tree.used → tree.left ≡ 0
-  pub few_left : tree.left < 2 ^ 38
+-- After the seal the levels above the one at `at` are built, and those below the next one are yet to come.
+pub record IsTree (points : List Point) (at_level : ℕ) (levels : List Level) (used at : ℕ) : Type 0 where
+  pub small : at_level < 32
+  pub few : length points ≤ 2 ^ at_level
+  pub used_is : used ≡ levels_for (length points)
+  pub made : used ≤ length levels
+  pub all_made : length levels ≡ levels_to at_level
+  pub room : All (HasRoom (2 ^ at_level)) levels
+  pub built : (q : ℕ) (level : Level) → q < at → slice_get levels q ≡ Some level
+      → IsLevel points (replicate (length points) true) (height_at used q) level
+  pub beyond : (q : ℕ) (level : Level) → at + 1 < q → slice_get levels q ≡ Some level → IsEmptyLevel level
+
+-- The one at `at` grows, and with it the next one.
+pub record IsGrown (points : List Point) (at_level : ℕ) (levels : List Level) (used at lower left : ℕ) : Type 0 where
+  pub tree : IsTree points at_level levels used at
+  pub at_within : at ≤ used
+  pub here : (level : Level) → at < used → slice_get levels at ≡ Some level → IsCounting points (height_at used at) level
+  pub next : (level next : Level) → at + 1 < used → slice_get levels at ≡ Some level
+      → slice_get levels (at + 1) ≡ Some next → IsComing level next (height_at used (at + 1)) lower
+  pub known : (next : Level) → at + 1 < used → slice_get levels (at + 1) ≡ Some next → All (IsEntryOf points) next.entries.items
+  pub left_is : (level : Level) → at < used → slice_get levels at ≡ Some level
+      → left + (length level.counts.places + turned level.counts) ≡ (used - at) * (2 * length points)
+  pub ended : at ≡ used → left ≡ 0
+  pub few_left : left < 2 ^ 38
+
+abbrev pub IsGrowing : Progress Point → Tree → Type 0
+IsGrowing b tree = IsGrown b.items b.at_level tree.levels.items tree.used tree.at tree.lower tree.left
 
 -- The levels that a part keeps: those of its tree come first, and each of them all has room for what the next builder takes.
 pub record AreKept (part : Contents Point) (levels : List Level) (used : ℕ) : Type 0 where

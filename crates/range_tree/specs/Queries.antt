@@ -71,14 +71,15 @@ pub record IsCovering (part : Contents Point) (levels : List Level) (rect : Rect
   pub points : Permuted (flat_map (live_in_span part levels) cover.spans.items ++ filter (is_in rect) (live_between part cover.from cover.to))
       (filter (is_in rect) (live_between part cover.low cover.high))
 
--- what is left consists of blocks of this height
-pub record IsCover (part : Contents Point) (levels : List Level) (rect : Rect) (height : ℕ) (cover : Cover) : Type 0 where
-  pub covering : IsCovering part levels rect (2 * height) cover
-  pub front : cover.from < cover.to → IsMultiple cover.from height
-  pub back : cover.from < cover.to → IsMultiple cover.to height
+-- what is left begins with a block of one height, and ends with one of another
+pub record IsCover (part : Contents Point) (levels : List Level) (rect : Rect) (first last : ℕ) (cover : Cover) : Type 0 where
+  pub covering : IsCovering part levels rect (first + last) cover
+  pub front : cover.from < cover.to → IsMultiple cover.from first
+  pub back : cover.from < cover.to → IsMultiple cover.to last
 
--- and begins with a block of the next height
-pub record IsFrontCovered (part : Contents Point) (levels : List Level) (rect : Rect) (height : ℕ) (cover : Cover) : Type 0 where
-  pub covering : IsCovering part levels rect (2 * height + 1) cover
-  pub front : cover.from < cover.to → IsMultiple cover.from (height + 1)
-  pub back : cover.from < cover.to → IsMultiple cover.to height
+-- what a span more, if it isn't empty, takes of the rectangle: its points at the places from `start` on and below `end`
+pub record IsTaken (part : Contents Point) (levels : List Level) (rect : Rect) (start end : ℕ) (old new : List Span) : Type 0 where
+  pub valid : All (IsSpan levels) old → All (IsSpan levels) new
+  pub many : length new ≤ length old + 1
+  pub points : Permuted (flat_map (live_in_span part levels) new)
+      (flat_map (live_in_span part levels) old ++ filter (is_in rect) (live_between part start end))

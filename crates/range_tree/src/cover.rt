@@ -8,7 +8,7 @@ ghost use Rattle.builder_trait.specs.Parts.{Contents};
 ghost use Rattle.map_shapes.specs.Questions.{is_in};
 ghost use Rattle.range_tree.specs.Heights.{leaf_height, levels_to, most_scanned};
 ghost use Rattle.range_tree.specs.Rows.{AreLevels};
-ghost use Rattle.range_tree.specs.Queries.{live_in_span, live_in_places, IsSpan, HasRow, IsCover, IsFrontCovered};
+ghost use Rattle.range_tree.specs.Queries.{live_in_span, live_in_places, AreWithinAbscissas, IsSpan, HasRow, IsCover, IsTaken};
 
 use crate::height::LEAF_HEIGHT;
 use crate::level::Level;
@@ -48,6 +48,32 @@ pub(crate) struct Pieces {
     pub(crate) back: Places,
 }
 
+/// Pushes the span of a block that a rectangle takes, if it isn't empty.
+fn cover_block<L: Ledger>(
+    spans: &mut ArrayVec<Span, 64>,
+    levels: &[Level],
+    height: usize,
+    start: usize,
+    end: usize,
+    rect: &Rect,
+    steps: &mut Steps<L>,
+)
+    requires height { HasRow levels.now height }
+    requires small { length levels.now ≤ levels_to 31 }
+    requires room { length spans.old.items < 64 }
+    requires block { IsMultiple start height × (start + 2 ^ height ≡ end) }
+    requires some { (part : Contents Point) × AreLevels part levels.now × (end ≤ length part.items) }
+    ensures taken { (part : Contents Point) → AreLevels part levels.now → end ≤ length part.items → AreWithinAbscissas part start end rect.now
+        → IsTaken part levels.now rect.now start end spans.old.items spans.new.items }
+    ensures cost { Spends steps.old steps.new 0 0 (2 * (height + 1)) }
+{
+    let row = levels.len() + (LEAF_HEIGHT - 1) - height;
+    let span = span_in(&levels[row].entries, row, start, end, rect, steps);
+    if span.from < span.to {
+        spans.push(span);
+    }
+}
+
 /// Takes the first block of what is left, where it is the second half of a larger one.
 fn cover_front<L: Ledger>(
     cover: &mut Cover,
@@ -58,22 +84,26 @@ fn cover_front<L: Ledger>(
 )
     requires height { HasRow levels.now height }
     requires small { length levels.now ≤ levels_to 31 }
-    requires some { (part : Contents Point) × AreLevels part levels.now × IsCover part levels.now rect.now height cover.old }
-    ensures cover { (part : Contents Point) → AreLevels part levels.now → IsCover part levels.now rect.now height cover.old
-        → IsFrontCovered part levels.now rect.now height cover.new }
+    requires some { (part : Contents Point) × AreLevels part levels.now × IsCover part levels.now rect.now height height cover.old }
+    ensures cover { (part : Contents Point) → AreLevels part levels.now → IsCover part levels.now rect.now height height cover.old
+        → IsCover part levels.now rect.now (height + 1) height cover.new }
     ensures low { cover.new.low ≡ cover.old.low }
     ensures high { cover.new.high ≡ cover.old.high }
     ensures cost { Spends steps.old steps.new 0 0 (2 * (height + 1)) }
 {
     let len = block_len(height as u32);
     if cover.from < cover.to && cover.from / len % 2 == 1 {
-        let row = levels.len() + (LEAF_HEIGHT - 1) - height;
         let end = cover.from + len;
-        let span = span_in(&levels[row].entries, row, cover.from, end, rect, steps);
+        cover_block(
+            &mut cover.spans,
+            levels,
+            height,
+            cover.from,
+            end,
+            rect,
+            steps,
+        );
         cover.from = end;
-        if span.from < span.to {
-            cover.spans.push(span);
-        }
     }
 }
 
@@ -87,22 +117,26 @@ fn cover_back<L: Ledger>(
 )
     requires height { HasRow levels.now height }
     requires small { length levels.now ≤ levels_to 31 }
-    requires some { (part : Contents Point) × AreLevels part levels.now × IsFrontCovered part levels.now rect.now height cover.old }
-    ensures cover { (part : Contents Point) → AreLevels part levels.now → IsFrontCovered part levels.now rect.now height cover.old
-        → IsCover part levels.now rect.now (height + 1) cover.new }
+    requires some { (part : Contents Point) × AreLevels part levels.now × IsCover part levels.now rect.now (height + 1) height cover.old }
+    ensures cover { (part : Contents Point) → AreLevels part levels.now → IsCover part levels.now rect.now (height + 1) height cover.old
+        → IsCover part levels.now rect.now (height + 1) (height + 1) cover.new }
     ensures low { cover.new.low ≡ cover.old.low }
     ensures high { cover.new.high ≡ cover.old.high }
     ensures cost { Spends steps.old steps.new 0 0 (2 * (height + 1)) }
 {
     let len = block_len(height as u32);
     if cover.from < cover.to && cover.to / len % 2 == 1 {
-        let row = levels.len() + (LEAF_HEIGHT - 1) - height;
         let start = cover.to - len;
-        let span = span_in(&levels[row].entries, row, start, cover.to, rect, steps);
+        cover_block(
+            &mut cover.spans,
+            levels,
+            height,
+            start,
+            cover.to,
+            rect,
+            steps,
+        );
         cover.to = start;
-        if span.from < span.to {
-            cover.spans.push(span);
-        }
     }
 }
 
@@ -115,9 +149,9 @@ fn cover_level<L: Ledger>(
     steps: &mut Steps<L>,
 )
     requires height { HasRow levels.now height }
-    requires some { (part : Contents Point) × AreLevels part levels.now × IsCover part levels.now rect.now height cover.old }
-    ensures cover { (part : Contents Point) → AreLevels part levels.now → IsCover part levels.now rect.now height cover.old
-        → IsCover part levels.now rect.now (height + 1) cover.new }
+    requires some { (part : Contents Point) × AreLevels part levels.now × IsCover part levels.now rect.now height height cover.old }
+    ensures cover { (part : Contents Point) → AreLevels part levels.now → IsCover part levels.now rect.now height height cover.old
+        → IsCover part levels.now rect.now (height + 1) (height + 1) cover.new }
     ensures low { cover.new.low ≡ cover.old.low }
     ensures high { cover.new.high ≡ cover.old.high }
     ensures cost { Spends steps.old steps.new 0 0 (4 * (height + 1)) }

@@ -1,37 +1,29 @@
-use Rattle.std.proofs.Common.{arith, refl}
-use Rattle.range_tree.proofs.Covers.{block_back, taken, IsKept-pushed, IsKept-empty, IsCover-skip, IsCover-push, back_apart}
+use Rattle.std.proofs.Common.{arith, refl, inr}
+use Rattle.range_tree.proofs.Covers.{blocks_left, multiple_before, IsCover-skip_back, IsCover-back}
 use Rattle.range_tree.proofs.cover.cover_back.Goals as goal
 use Rattle.range_tree.proofs.cover.cover_back.Goals.{else-cover-via-then-cover+else-cover-len-eq1, else-cover-via-else-cover}
 
-pub span_in-span-requires-clause-block : goal.span_in-span-requires-clause-block
-span_in-span-requires-clause-block g c =
-    (block_back c.index-levels-row.result c.block_len-len.ensures c.requires.height c.requires.some.1 c.requires.some.2 c.if-cover.true).block
+pub cover_block-requires : goal.cover_block-requires
+cover_block-requires g c =
+    let some = c.requires.some in
+    let apart = blocks_left some.2 (inr refl) c.if-cover.true in record {
+      height = c.requires.height;
+      small = c.requires.small;
+      room = omega (arith, some.2.covering.few);
+      block = (rw c.block_len-len.ensures (multiple_before (some.2.back c.if-cover.true) (omega arith)), omega arith);
+      some = (some.0, some.1, some.2.covering.within);
+    }
 
-pub returns-then-span-clause-cover : goal.returns-then-span-clause-cover
-returns-then-span-clause-cover g c part tree cover =
-    let apart = back_apart cover c.if-cover.true in
-    let is_taken =
-    taken c.index-levels-row.result tree c.requires.height c.span_in-span.ensures.row c.span_in-span.ensures.ordered
-    c.span_in-span.ensures.within cover.covering.within
-    (λ k p low high at. cover.covering.abscissas k p (omega arith) high at) c.span_in-span.ensures.points in
-    IsCover-push c.span_in-span.result c.block_len-len.ensures cover c.if-cover.true c.if-cover-len-eq1.true is_taken
-    (IsKept-pushed c.span_in-span.result is_taken.is_span c.push.ensures.items) refl refl refl refl
-
-pub returns-else-span-clause-cover : goal.returns-else-span-clause-cover
-returns-else-span-clause-cover g c part tree cover =
-    let apart = back_apart cover c.if-cover.true in
-    let is_taken =
-    taken c.index-levels-row.result tree c.requires.height c.span_in-span.ensures.row c.span_in-span.ensures.ordered
-    c.span_in-span.ensures.within cover.covering.within
-    (λ k p low high at. cover.covering.abscissas k p (omega arith) high at) c.span_in-span.ensures.points in
-    IsCover-push c.span_in-span.result c.block_len-len.ensures cover c.if-cover.true c.if-cover-len-eq1.true is_taken
-    (IsKept-empty c.span_in-span.result c.if-span.false refl) refl refl refl refl
+pub returns-then-cover-len-eq1-clause-cover : goal.returns-then-cover-len-eq1-clause-cover
+returns-then-cover-len-eq1-clause-cover g c part tree cover =
+    let apart = blocks_left cover (inr refl) c.if-cover.true in
+    IsCover-back c.block_len-len.ensures cover c.if-cover.true c.if-cover-len-eq1.true
+    (c.cover_block.ensures.taken part tree cover.covering.within (λ k p low high at. cover.covering.abscissas k p (omega arith) high at))
+    refl refl refl refl
 
 pub returns-else-cover-clause-cover : goal.returns-else-cover-clause-cover
 returns-else-cover-clause-cover g c part tree cover =
     elim c.else-cover.branch [
-      | else-cover-via-then-cover+else-cover-len-eq1 w ↦
-          IsCover-skip c.block_len-len.ensures cover (λ some. w.if-cover-len-eq1.false)
-      | else-cover-via-else-cover w ↦
-          IsCover-skip c.block_len-len.ensures cover (λ some. absurd (omega arith))
+      | else-cover-via-then-cover+else-cover-len-eq1 w ↦ IsCover-skip_back c.block_len-len.ensures cover (λ some. w.if-cover-len-eq1.false)
+      | else-cover-via-else-cover w ↦ IsCover-skip_back c.block_len-len.ensures cover (λ some. absurd (omega arith))
     ]

@@ -29,7 +29,7 @@ pub loop-step-preserved : goal.loop-step-preserved
 loop-step-preserved g c =
     let next : c.loop-step.step + leaf_height + 1 ≡ c.loop-step.step + 1 + leaf_height = omega arith in
     record {
-      cover = subst (λ h. IsCover c.args.points.now c.args.levels.now c.args.rect.now h c.cover_level.new.cover) next
+      cover = subst (λ h. IsCover c.args.points.now c.args.levels.now c.args.rect.now h h c.cover_level.new.cover) next
           (c.cover_level.ensures.cover c.args.points.now c.requires c.loop-step.invariant.cover);
       low = c.cover_level.ensures.low ∙ c.loop-step.invariant.low;
       high = c.cover_level.ensures.high ∙ c.loop-step.invariant.high;

@@ -6,7 +6,7 @@ use Rattle.range_tree.proofs.cover.cut.Given as goal
 
 abbrev pub invariant-loop-step : goal.invariant-loop-step
 invariant-loop-step g l = record {
-  cover : IsCover l.points l.levels l.rect (l.step + leaf_height) l.cover;
+  cover : IsCover l.points l.levels l.rect (l.step + leaf_height) (l.step + leaf_height) l.cover;
   low : l.cover.low ≡ l.initial.cover.low;
   high : l.cover.high ≡ l.initial.cover.high;
   cost : Spends l.initial.steps l.steps 0 0 (l.step * (4 * (length l.levels + leaf_height)));

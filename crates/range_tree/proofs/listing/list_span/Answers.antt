@@ -11,7 +11,8 @@ use Rattle.range_tree.specs.declared.level.Level.{Level}
 use Rattle.range_tree.specs.declared.span.Span.{Span}
 use Rattle.range_tree.specs.Rows.{AreLevels, IsEntryOf}
 use Rattle.range_tree.specs.Queries.{live_in_span}
-use Rattle.range_tree.proofs.Counted.{slice_get-from_read, level_is, live_in_span-is, counted_span}
+use Rattle.row_blocks.proofs.Lists.{slice_get-from_read}
+use Rattle.range_tree.proofs.Counted.{level_is, live_in_span-is, counted_span}
 use Rattle.range_tree.proofs.ListingLemmas.{rank_next, known_within, listed_none, listed_more, listed_all, spent_more, spent_all, ranked_next, rank_inside}
 use Rattle.range_tree.proofs.listing.list_span.Goals as goal
 

@@ -1,6 +1,5 @@
 use Rattle.std.proofs.Common.{◌≡◌, ◌^◌, true, ap, sym, ◌∙◌, arith, subst}
 use Rattle.range_tree.specs.Growing.{IsGrowing}
-use Rattle.range_tree.proofs.BuilderLemmas.{IsGrowing-sealed}
 use Rattle.range_tree.proofs.builder.RangeBuilderBuilder.turn.Goals as goal
 
 pub invariant_of-self : goal.invariant_of-self
@@ -11,7 +10,7 @@ invariant_of-self g c =
     let before = c.self.invariant.1 was in (
       λ still. absurd cc,
       λ _. (
-        subst (λ b. IsGrowing b c.self.inside.tree) (sym done) (IsGrowing-sealed c.self.inside.points c.self.inside.tree _ before.0),
+        subst (λ b. IsGrowing b c.self.inside.tree) (sym done) before.0,
         omega (arith, before.1, ap (λ b. b.left) done, ap (λ b. 2 ^ b.at_level) done),
       ),
     )
