@@ -21,7 +21,7 @@ pub use failure::Failure;
 pub use generator::Generator;
 pub use plain_list::PlainList;
 pub use questions::{RectQuestion, answer_of, sum_of};
-pub use random::{random_points, random_rect};
+pub use random::{random_points, random_points_in, random_rect};
 pub use samples::Samples;
 pub use summary::Summary;
 pub use watch::Watch;

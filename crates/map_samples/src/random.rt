@@ -10,16 +10,18 @@ use std::alloc::{AllocError, Global};
 /// Weights are below this, as in made scripts.
 const WEIGHTS: u32 = 1024;
 
-/// A point with coordinates below `side`: three draws, for x, y and the weight.
-fn random_point(generator: &mut Generator, side: u32, stamp: u64) -> Point
-    requires positive { 0 < side }
-    requires side { side ≤ 2 ^ 31 }
+/// A point with an abscissa below `width` and an ordinate below `height`: three draws, for x, y and the weight.
+fn random_point(generator: &mut Generator, width: u32, height: u32, stamp: u64) -> Point
+    requires some_width { 0 < width }
+    requires width { width ≤ 2 ^ 31 }
+    requires some_height { 0 < height }
+    requires height { height ≤ 2 ^ 31 }
     ensures { result.stamp ≡ stamp }
 {
     Point {
         id: stamp,
-        x: generator.below(side),
-        y: generator.below(side),
+        x: generator.below(width),
+        y: generator.below(height),
         w: generator.below(WEIGHTS),
         stamp,
     }
@@ -40,9 +42,31 @@ pub fn random_points(
     ensures stamps { IfOk result (λ points. (k : ℕ) (p : Point) → slice_get points.items k ≡ Some p → p.stamp ≡ first + k) }
     ensures apart { IfOk result (λ points. AllStampsDiffer (λ p. p.stamp) points.items) }
 {
+    random_points_in(alloc, generator, first, n, side, side)
+}
+
+/// The same in a rectangle: with abscissas below `width` and ordinates below `height`.
+pub fn random_points_in(
+    alloc: Global,
+    generator: &mut Generator,
+    first: u64,
+    n: usize,
+    width: u32,
+    height: u32,
+) -> Result<Vec<Point>, AllocError>
+    requires some_width { 0 < width }
+    requires width { width ≤ 2 ^ 31 }
+    requires some_height { 0 < height }
+    requires height { height ≤ 2 ^ 31 }
+    requires fits { first + n < 2 ^ 64 }
+    ensures count { IfOk result (λ points. vec_len points ≡ n) }
+    ensures stamps { IfOk result (λ points. (k : ℕ) (p : Point) → slice_get points.items k ≡ Some p → p.stamp ≡ first + k) }
+    ensures apart { IfOk result (λ points. AllStampsDiffer (λ p. p.stamp) points.items) }
+{
     let mut points = Vec::with_capacity(alloc, n)?;
     for number in 0..n {
-        points.push(random_point(generator, side, first + number as u64))?;
+        let stamp = first + number as u64;
+        points.push(random_point(generator, width, height, stamp))?;
     }
     Ok(points)
 }

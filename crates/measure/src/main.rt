@@ -52,8 +52,9 @@ fn run<R: Print + Clock + Files + AllocGlobal + Clone + Drop, L: Ledger>(
         Job::Part {
             seed,
             size,
+            spread,
             is_timed,
-        } => measure_part(&watch(rt, is_timed), seed, size.number, &mut steps),
+        } => measure_part(&watch(rt, is_timed), seed, size.number, spread, &mut steps),
         Job::Build {
             seed,
             level,

@@ -1,6 +1,7 @@
 //! Words of the command line, and timed runs.
 use crate::run;
 use crate::words::{Job, Level, Size, command, job_of};
+use part_trials::Spread;
 use query_laws::step_ledger::blank;
 use std::fs;
 use std::marker::Brand;
@@ -8,12 +9,15 @@ use std::test::Fail;
 
 #[test]
 fn reads_words_of_a_part(rt: HostRuntime) -> Result<(), Fail> {
-    let words = ["measure", "part", "--time", "--seed", "7", "--size", "16"];
+    let words = [
+        "measure", "part", "--time", "--seed", "7", "--size", "16", "--spread", "row",
+    ];
     let matches = command(rt.alloc())?.try_get_matches_from(&words)?;
     let Some(
         Job::Part {
             seed,
             size,
+            spread: Spread::Row,
             is_timed,
         },
     ) = job_of(&matches)
@@ -144,6 +148,7 @@ fn measures_with_times(rt: HostRuntime) -> Result<(), Fail> {
     let job = Job::Part {
         seed: 1,
         size: Size { number: 33 },
+        spread: Spread::Column,
         is_timed: true,
     };
     run::<HostRuntime, Brand>(&rt, &job, blank())?;

@@ -2,6 +2,7 @@
 ghost use Rattle.std.specs.Prelude.{◌≤◌, ◌^◌};
 
 use clap::{Arg, ArgAction, ArgMatches, Command, value_parser};
+use part_trials::Spread;
 use std::alloc::{AllocError, Global};
 
 /// The most points or lines: 2^20.
@@ -32,6 +33,7 @@ pub enum Job<'a> {
     Part {
         seed: u64,
         size: Size,
+        spread: Spread,
         is_timed: bool,
     },
     /// What a construction of this level costs, with times or without.
@@ -93,6 +95,7 @@ fn part_command<'a>(alloc: Global) -> Result<Command<'a>, AllocError> {
         .about("Build a range part of random points, put questions to it and mark points")
         .arg(seed_arg(alloc))?
         .arg(size_arg(alloc, "4096"))?
+        .arg(spread_arg(alloc))?
         .arg(time_arg(alloc))
 }
 
@@ -168,6 +171,14 @@ fn size_arg<'a>(alloc: Global, default: &'a str) -> Arg<'a> {
         .help("The number of points or lines")
 }
 
+fn spread_arg<'a>(alloc: Global) -> Arg<'a> {
+    Arg::new(alloc, "spread")
+        .long("spread")
+        .value_parser(["square", "column", "row"].as_slice())
+        .default_value("square")
+        .help("Where the points lie: in a square, or all with one abscissa or ordinate")
+}
+
 fn level_arg<'a>(alloc: Global) -> Arg<'a> {
     Arg::new(alloc, "level")
         .long("level")
@@ -197,6 +208,7 @@ pub fn job_of<'a>(matches: &ArgMatches<'a>) -> Option<Job<'a>> {
         "part" => Some(Job::Part {
             seed: matches.get_one::<u64>("seed")?,
             size: size_of(matches)?,
+            spread: spread_of(matches)?,
             is_timed: matches.get_flag("time"),
         }),
         "build" => Some(Job::Build {
@@ -236,6 +248,15 @@ fn size_of(matches: &ArgMatches<'_>) -> Option<Size> {
     Some(Size {
         number: matches.get_one::<usize>("size")?.min(MOST),
     })
+}
+
+fn spread_of(matches: &ArgMatches<'_>) -> Option<Spread> {
+    match matches.get_str("spread")? {
+        "square" => Some(Spread::Square),
+        "column" => Some(Spread::Column),
+        "row" => Some(Spread::Row),
+        _ => None,
+    }
 }
 
 fn level_of(matches: &ArgMatches<'_>) -> Option<Level> {

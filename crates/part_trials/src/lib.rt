@@ -3,10 +3,12 @@
 
 mod checking;
 mod measuring;
+mod spread;
 mod trial;
 
 pub use checking::check_parts;
 pub use measuring::measure_part;
+pub use spread::Spread;
 pub use trial::Trial;
 
 #[cfg(test)]

@@ -1,10 +1,11 @@
 //! What a range part of random points costs.
 ghost use Rattle.std.specs.Prelude.{◌≡◌, ◌+◌, ◌<◌, ◌≤◌, ◌^◌, IfOk, vec_len};
 
+use crate::spread::{SIDE, Spread};
 use builder_trait::{Answers, Builder, Part};
 use map_samples::{
     BothOrders, Failure, Generator, RectQuestion, Samples, Watch, answer_of, filled, part_of,
-    random_points, random_rect, sorted,
+    random_points_in, random_rect, sorted,
 };
 use map_shapes::{CountIn, ListIn, Point, Rect, SumIn};
 use query_laws::step_ledger::Steps;
@@ -12,9 +13,6 @@ use range_tree::{RangeBuilder, RangePart};
 use std::alloc::{AllocError, Global};
 use std::sync::ledger::Ledger;
 use std::time::Clock;
-
-/// Coordinates of points are below this, as in made scripts.
-const SIDE: u32 = 1_048_576;
 
 /// How wide and high a rectangle is: some 6 % of the side, as in made scripts.
 const WIDTH: u32 = 65_535;
@@ -25,20 +23,22 @@ const RECTS: usize = 256;
 /// How many marks are tried.
 const MARKS: usize = 256;
 
-/// Builds a range part of so many random points, asks about rectangles and marks points, and prints what it took.
+/// Builds a range part of so many random points with this spread, asks about rectangles and marks points, and prints what it took.
 ///
 /// Where times are wanted, it also builds the part once more for the times of its turns.
 pub fn measure_part<R: Print + Clock + AllocGlobal, L: Ledger>(
     watch: &Watch<'_, R>,
     seed: u64,
     size: usize,
+    spread: Spread,
     steps: &mut Steps<L>,
 ) -> Result<(), Failure>
     requires { size ≤ 2 ^ 31 }
 {
     let alloc = watch.rt.alloc();
     let mut generator = Generator::new(seed);
-    let points = random_points(alloc, &mut generator, 0, size, SIDE)?;
+    let (width, height) = (spread.width(), spread.height());
+    let points = random_points_in(alloc, &mut generator, 0, size, width, height)?;
     let orders = sorted(alloc, points)?;
     let rects = random_rects(alloc, &mut generator, RECTS)?;
     let mut part = build(watch, &orders, steps)?;

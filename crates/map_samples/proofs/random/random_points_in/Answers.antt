@@ -1,6 +1,6 @@
 use Rattle.std.proofs.Common.{◌≡◌, length, arith}
 use Rattle.map_samples.proofs.Stamps.{stamp-at}
-use Rattle.map_samples.proofs.random.random_points.Goals as goal
+use Rattle.map_samples.proofs.random.random_points_in.Goals as goal
 
 pub returns-clause-stamps : goal.returns-clause-stamps
 returns-clause-stamps c =

@@ -1,6 +1,6 @@
 use Rattle.std.proofs.Common.{◌≡◌, ℕ, ◌+◌, ◌<◌, vec_len, get_or}
 use Rattle.map_shapes.specs.declared.point.Point.{Point}
-use Rattle.map_samples.proofs.random.random_points.Given as goal
+use Rattle.map_samples.proofs.random.random_points_in.Given as goal
 
 abbrev pub invariant-loop-number : goal.invariant-loop-number
 invariant-loop-number l = record {
