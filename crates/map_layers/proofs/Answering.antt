@@ -1,8 +1,7 @@
 -- The machine's step where the layer of a name is found.
-use Rattle.std.proofs.Common.{◌≡◌, ℕ, ◌∙◌, Bool, true, false, not, ◌&&◌, if◌then◌else◌, List, [], ◌∷◌, ◌++◌, Option, Some, None, Result, Ok, Err, length, refl, sym, ap}
+use Rattle.std.proofs.Common.{◌≡◌, ℕ, ◌∙◌, Bool, true, false, not, ◌&&◌, if◌then◌else◌, List, [], ◌∷◌, ◌++◌, Some, None, Result, Ok, Err, length, refl, sym, ap}
 use Rattle.std.specs.Prelude.{nat_le, IfOk}
 use Rattle.std.specs.Option.{is_some}
-use Rattle.global_rebuild.specs.Index.{Indexed}
 use Rattle.std.proofs.lemmas.Bool.{le-leb, lt-leb}
 use Rattle.map_model.specs.Shape as shapes
 use Rattle.map_model.specs.Index as indexes
@@ -10,13 +9,13 @@ use Rattle.map_model.specs.State.{Item, Layer, State, most_items, most_layers, l
 use Rattle.map_model.specs.Answer.{Question, Answer, answer_over, index_of, kind_asked}
 use Rattle.map_model.specs.Command.{MakeLayer, Add, Drop, Ask, lists_ids}
 use Rattle.map_model.specs.Refusal as refusals
-use Rattle.map_model.specs.Reply.{Reply, Made, Updated, Answered, is_refusal}
+use Rattle.map_model.specs.Reply.{Made, Updated, Answered, Refused, is_refusal}
 use Rattle.map_model.specs.Machine.{Outcome, step, is_taken, replied, refused}
 use Rattle.map_layers.specs.declared.faults.UpdateFault.{UpdateFault}
 use Rattle.map_layers.specs.declared.faults.UpdateFault.TheVariants.{NoLayer, WrongKind, Duplicate, Unknown, Full, NoMemory}
 use Rattle.map_layers.specs.declared.faults.AskFault.{AskFault}
 use Rattle.map_layers.specs.declared.faults.AskFault.TheVariants as ask
-use Rattle.map_layers.specs.Layer.{IsAdd, IsRemoval, IsAskRefusal}
+use Rattle.map_layers.specs.Layer.{Layered, items_of, layer_of, IsAdd, IsRemoval, IsAskRefusal}
 use Rattle.map_layers.specs.Replies.{updated, asked, IsAnswered}
 
 -- From one map to another, the items of the layer of a name are others.
@@ -86,37 +85,36 @@ module _ (old new : State) (name : List ℕ) (id : ℕ) (layer : Layer) (items :
 
 -- ---- no layer of the name
 
-pub unfound-add : (T : Type 0) (old : State) (name : List ℕ) (id x y w : ℕ) → layer_named name old ≡ None
-    → IsAnswered old (Add name id (shapes.Point x y w)) old (updated {T = T} (Err NoLayer))
-unfound-add T old name id x y w none = rw none refl
+pub unfound-add : (old : State) (name : List ℕ) (id x y w : ℕ) → layer_named name old ≡ None
+    → IsAnswered old (Add name id (shapes.Point x y w)) old (Refused refusals.NoLayer)
+unfound-add old name id x y w none = rw none refl
 
-pub unfound-drop : (T : Type 0) (old : State) (name : List ℕ) (id : ℕ) → layer_named name old ≡ None
-    → IsAnswered old (Drop name id) old (updated {T = T} (Err NoLayer))
-unfound-drop T old name id none = rw none refl
+pub unfound-drop : (old : State) (name : List ℕ) (id : ℕ) → layer_named name old ≡ None → IsAnswered old (Drop name id) old (Refused refusals.NoLayer)
+unfound-drop old name id none = rw none refl
 
 -- ---- a question about points, for the index that answers rectangles
 
 module _ (old : State) (name : List ℕ) (question : Question) (of_points : kind_asked question ≡ shapes.Points) (of_range : index_of question ≡ indexes.Range) where
-  pub unfound-ask : {T : Type 0} (reply : T → Reply) → layer_named name old ≡ None → IsAnswered old (Ask name question) old (asked {T = T} reply (Err ask.NoLayer))
-  unfound-ask reply none = rw none refl
+  pub unfound-ask : layer_named name old ≡ None → IsAnswered old (Ask name question) old (Refused refusals.NoLayer)
+  unfound-ask none = rw none refl
 
-  module _ (layer : Layer) (found : layer_named name old ≡ Some layer) (points : layer.kind ≡ shapes.Points) where
+  module _ (l : Layered) (found : layer_named name old ≡ Some (layer_of l)) where
     abbrev asking : Bool → Outcome
-    asking there = if not there then refused old refusals.Index else replied old (Answered (answer_over layer.items question))
+    asking there = if not there then refused old refusals.Index else replied old (Answered (answer_over (items_of l.entries) question))
 
-    pub step-ask : (there : Bool) → layer.indexes.range ≡ there → step old (Ask name question) ≡ asking there
-    step-ask there is_there = rw found (rw points (rw of_points (rw of_range (rw is_there refl))))
+    step-ask : (there : Bool) → is_some l.range ≡ there → step old (Ask name question) ≡ asking there
+    step-ask there is_there = rw found (rw of_points (rw of_range (rw is_there refl)))
 
-    pub IsAnswered-ask : {T P I : Type 0} (index : Option (Indexed P I)) (answer : T → Answer) (result : Result T AskFault) → layer.indexes.range ≡ is_some index
-        → IsAskRefusal index (lists_ids question) result → IfOk result (λ t. answer t ≡ answer_over layer.items question)
+    pub IsAnswered-ask : {T : Type 0} (refusable : Bool) → refusable ≡ lists_ids question → (answer : T → Answer) (result : Result T AskFault)
+        → IsAskRefusal l.range refusable result → IfOk result (λ t. answer t ≡ answer_over (items_of l.entries) question)
         → IsAnswered old (Ask name question) old (asked (λ t. Answered (answer t)) result)
-    IsAnswered-ask index answer (Ok t) there refused same = step-ask true (there ∙ refused) ∙ ap (λ a. replied old (Answered a)) (sym same)
-    IsAnswered-ask index answer (Err ask.NoLayer) there refused same = absurd refused
-    IsAnswered-ask index answer (Err ask.WrongKind) there refused same = absurd refused
-    IsAnswered-ask index answer (Err ask.NoIndex) there refused same = step-ask false (there ∙ refused)
-    IsAnswered-ask index answer (Err (ask.Unknown id)) there refused same = absurd refused
-    IsAnswered-ask index answer (Err ask.NoMemory) there refused same =
-        (ap (λ b. b && not (is_refusal (step old (Ask name question)).reply)) refused.1 ∙ ap (λ (o : Outcome). not (is_refusal o.reply)) (step-ask true (there ∙ refused.0)), refl)
+    IsAnswered-ask refusable lists answer (Ok t) refused same = step-ask true refused ∙ ap (λ a. replied old (Answered a)) (sym same)
+    IsAnswered-ask refusable lists answer (Err ask.NoLayer) refused same = absurd refused
+    IsAnswered-ask refusable lists answer (Err ask.WrongKind) refused same = absurd refused
+    IsAnswered-ask refusable lists answer (Err ask.NoIndex) refused same = step-ask false refused
+    IsAnswered-ask refusable lists answer (Err (ask.Unknown id)) refused same = absurd refused
+    IsAnswered-ask refusable lists answer (Err ask.NoMemory) refused same =
+        (ap (λ b. b && not (is_refusal (step old (Ask name question)).reply)) (sym lists ∙ refused.1) ∙ ap (λ (o : Outcome). not (is_refusal o.reply)) (step-ask true refused.0), refl)
 
 -- ---- a layer is made
 

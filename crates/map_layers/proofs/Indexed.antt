@@ -1,17 +1,16 @@
 -- What an index that is there costs.
-use Rattle.std.proofs.Common.{◌≡◌, ℕ, ◌≤◌, ◌<◌, List, [], ◌∷◌, length, ⊎_elim, Option, None, Some, arith, if◌then◌else◌, ap, sym, subst}
+use Rattle.std.proofs.Common.{◌≡◌, ℕ, ◌≤◌, ◌<◌, List, [], ◌∷◌, length, ⊎_elim, Option, Some, arith, if◌then◌else◌, ap, sym, subst}
 use Rattle.std.specs.List.{flat_map}
 use Rattle.std.specs.Option.{is_some}
 use Rattle.std.proofs.lemmas.Bool.{cases_lt}
 use Rattle.std.proofs.lemmas.List.{length-append}
-use Rattle.query_laws.specs.Permuted.{nothing}
 use Rattle.query_laws.specs.StepLedger.{Counts}
 use Rattle.builder_trait.specs.Parts.{Contents}
 use Rattle.partial_build.specs.Construction.{live_of}
 use Rattle.stack_levels.specs.Slots.{Slots, live_in}
 use Rattle.stack_levels.specs.Levels.{parts_of, live_items}
 use Rattle.stack_levels.specs.Cost.{IsWithin}
-use Rattle.global_rebuild.specs.Index.{Indexed, IsIndexOf}
+use Rattle.global_rebuild.specs.Index.{Indexed}
 use Rattle.map_layers.specs.Indexing.{if_there}
 
 module _ {P Item : Type 0} where

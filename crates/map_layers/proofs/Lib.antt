@@ -4,6 +4,4 @@ pub mod WithinBounds
 pub mod Names
 pub mod Built
 pub mod Answering
-pub mod Scans
-pub mod Questions
 pub mod Touches

@@ -1,11 +1,7 @@
 -- What a call on a layer costs.
-use Rattle.std.specs.Prelude.{◌≡◌, ℕ, ◌+◌, ◌*◌, ◌^◌, ◌≤◌, IfSome, Bool, Option, None, Some, Result, Ok, Err}
-use Rattle.query_laws.specs.StepLedger.{Counts, Spends, lap_of}
-use Rattle.builder_trait.specs.Parts.{Contents}
-use Rattle.stack_levels.specs.Levels.{parts_of, touches_of}
-use Rattle.level_slots.specs.Height.{HaveAtMost}
+use Rattle.std.specs.Prelude.{◌≡◌, ℕ, ◌+◌, ◌*◌, ◌≤◌, Bool, Option, None, Some, Result, Ok, Err}
+use Rattle.query_laws.specs.StepLedger.{Counts}
 use Rattle.stack_levels.specs.Cost.{IsWithin}
-use Rattle.global_rebuild.specs.Index.{Indexed}
 use Rattle.map_model.specs.State.{Layer, live_count}
 use Rattle.map_model.specs.Cost.{bounds_at, turn_bound, mark_bound, IsSpent, IsAsked}
 use Rattle.map_shapes.specs.Cost.{spent_of, asked_of}
@@ -49,15 +45,6 @@ pub record IsAsking (layer : Layer) (most : ℕ) (asked : Asked) (old new : Coun
   pub few_touches : asked.touches ≤ most
   pub turns : new.turns ≡ old.turns
   pub marks : new.marks ≡ old.marks
-
--- what a question asked and read, by the index that it asked
-pub record HasAsked {P Item : Type 0} (contents : P → Contents Item) (layer : Layer) (index : Option (Indexed P Item)) (touches : P → ℕ) (asked : Asked)
-    (old new : Counts) : Type 0 where
-  pub bounds : IsAsked layer (asked_of asked)
-  pub parts : IfSome index (λ i. asked.parts ≡ parts_of i.main.levels)
-  pub sizes : IfSome index (λ i. HaveAtMost contents (2 ^ (bounds_at (live_count layer)).level) i.main.levels)
-  pub lap : asked.touches ≡ lap_of old.touches new.touches
-  pub spent : IfSome index (λ i. Spends old new 0 0 (touches_of touches i.main.levels))
 
 -- ---- the same for the layer of a name, where there is one
 

@@ -1,5 +1,5 @@
 -- What contracts see of the layers of a map.
-use Rattle.std.specs.Prelude.{◌≡◌, ℕ, Bool, ◌&&◌, not, false, List, [], ◌∷◌, Option, bytes_eq, map}
+use Rattle.std.specs.Prelude.{◌≡◌, ℕ, Bool, ◌&&◌, not, false, List, [], ◌∷◌, Option, bytes_eq, map, sum_by}
 use Rattle.map_model.specs.Shape.{Kind, Points, Segments}
 use Rattle.map_model.specs.Index.{IndexSet}
 use Rattle.std.specs.List.{find, list_any, position_from}
@@ -35,6 +35,10 @@ place_named name layers = position_from (has_name name) 0 layers
 
 abbrev pub names_of : List Layered → List (List ℕ)
 names_of layers = map (λ l. l.name) layers
+
+-- how many adds there ever were in all of them
+abbrev pub adds_of : List Layered → ℕ
+adds_of layers = sum_by (λ l. l.adds) layers
 
 -- no two names are the same
 abbrev pub AllDiffer : List (List ℕ) → Type 0

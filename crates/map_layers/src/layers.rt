@@ -1,5 +1,6 @@
 //! The layers of a map.
 mod asking;
+mod updating;
 
 ghost use Rattle.std.specs.Prelude.{◌≡◌, ℕ, ◌+◌, ◌*◌, ◌<◌, ◌≤◌, ◌^◌, true, false, None, Some, Ok, Err, IfOk, length};
 ghost use Rattle.std.specs.Option.{option_map};
@@ -11,10 +12,11 @@ ghost use Rattle.map_model.specs.Reply as replies;
 ghost use Rattle.map_shapes.specs.Kind.{kind_of};
 ghost use Rattle.map_shapes.specs.IndexSet.{index_set_of};
 ghost use Rattle.map_shapes.specs.Shape.{model_shape};
-ghost use Rattle.map_layers.specs.Layers.{no_layers, map_of, is_built, named, place_named};
+ghost use Rattle.map_layers.specs.Layers.{no_layers, map_of, is_built, named};
 ghost use Rattle.map_layers.specs.Costs.{IsCostIn, IsToldIn};
 ghost use Rattle.map_layers.specs.Replies.{created, updated, asked, IsAnswered};
 
+use crate::layers::updating::{add_in, remove_in};
 use crate::point_layer::PointLayer;
 use crate::{AskFault, CreateFault, UpdateFault};
 use arrayvec::ArrayVec;
@@ -39,14 +41,14 @@ pub struct Layers {
 }
 
 impl Model for Layers {
-    ghost use Rattle.std.specs.Prelude.{◌≤◌, All};
-    ghost use Rattle.map_layers.specs.Layers.{LayersState, names_of, AllDiffer};
+    ghost use Rattle.std.specs.Prelude.{◌≤◌};
+    ghost use Rattle.map_layers.specs.Layers.{LayersState, names_of, adds_of, AllDiffer};
 
     ghost Value = { LayersState };
 
     ghost view = { λ l. record { layers = l.layers.items; updates = l.updates } };
 
-    ghost invariant = { λ l. AllDiffer (names_of l.layers.items) × All (λ layer. layer.adds ≤ l.updates) l.layers.items };
+    ghost invariant = { λ l. AllDiffer (names_of l.layers.items) × (adds_of l.layers.items ≤ l.updates) };
 }
 
 impl Layers {
@@ -111,10 +113,7 @@ impl Layers {
     {
         steps.start_lap();
         self.updates += 1;
-        match place_of(self.layers.as_slice(), name) {
-            Some(k) => self.layers.as_mut_slice()[k].add(id, x, y, w, steps),
-            None => Err(UpdateFault::NoLayer),
-        }
+        add_in(&mut self.layers, name, id, x, y, w, steps)
     }
 
     /// Drops the item with an identifier from a layer.
@@ -134,10 +133,7 @@ impl Layers {
     {
         steps.start_lap();
         self.updates += 1;
-        match place_of(self.layers.as_slice(), name) {
-            Some(k) => self.layers.as_mut_slice()[k].remove(id, steps),
-            None => Err(UpdateFault::NoLayer),
-        }
+        remove_in(&mut self.layers, name, id, steps)
     }
 
     /// How many items a layer has.
@@ -177,11 +173,4 @@ fn layer_of<'a>(layers: &'a [PointLayer], name: &Name) -> Option<&'a PointLayer>
     ensures { option_map (λ l. l.now) result ≡ named name.now layers.now }
 {
     layers.iter().find(|layer| layer.has_name(name))
-}
-
-/// Where the layer of a name is.
-fn place_of(layers: &[PointLayer], name: &Name) -> Option<usize>
-    ensures { result ≡ place_named name.now layers.now }
-{
-    layers.iter().position(|layer| layer.has_name(name))
 }

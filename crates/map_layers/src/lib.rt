@@ -7,6 +7,7 @@ mod faults;
 mod indexing;
 mod layers;
 mod point_layer;
+mod range_question;
 
 pub use bounds::Bounds;
 pub use faults::{AskFault, CreateFault, UpdateFault};

@@ -1,22 +1,20 @@
 //! The questions that a layer's index answers.
-ghost use Rattle.std.specs.Prelude.{◌≡◌, ◌≤◌, ◌+◌, ◌*◌, ◌^◌, None, Some, Err, IfOk, length, map};
+ghost use Rattle.std.specs.Prelude.{◌≡◌, ◌+◌, ◌*◌, IfOk, length};
 ghost use Rattle.query_laws.specs.StepLedger.{lap_begun};
 ghost use Rattle.map_model.specs.State.{layer_named};
 ghost use Rattle.map_model.specs.Answer as answers;
 ghost use Rattle.map_model.specs.Command.{Ask};
 ghost use Rattle.map_model.specs.Reply.{Answered};
 ghost use Rattle.map_shapes.specs.Rect.{rect_of};
-ghost use Rattle.map_layers.specs.Indexing.{IsOf};
-ghost use Rattle.map_layers.specs.Layer.{Layered, layer_of, stamp_of, IsAskRefusal};
-ghost use Rattle.map_layers.specs.Layers.{map_of, named};
-ghost use Rattle.map_layers.specs.Costs.{HasAsked, IsAskingIn, rows_of, touches_in_part};
+ghost use Rattle.map_layers.specs.Layers.{map_of};
+ghost use Rattle.map_layers.specs.Costs.{IsAskingIn, rows_of, touches_in_part};
 ghost use Rattle.map_layers.specs.Replies.{asked, IsAnswered};
 
 use super::layer_of;
+use crate::range_question::RangeQuestion;
 use crate::{AskFault, Layers};
 use builder_trait::{Answers, Given};
-use map_shapes::{Asked, CountIn, ListIn, Name, Point, Rect, SumIn};
-use query_laws::Question;
+use map_shapes::{Asked, CountIn, ListIn, Name, Rect, SumIn};
 use query_laws::step_ledger::Steps;
 use range_tree::RangePart;
 use std::sync::ledger::Ledger;
@@ -77,7 +75,7 @@ impl Layers {
     }
 
     /// Puts a question to the index for rectangles of a layer.
-    fn ask<Q: Question<Item = Point>, L: Ledger>(
+    fn ask<Q: RangeQuestion, L: Ledger>(
         &self,
         name: &Name,
         question: &Q,
@@ -85,16 +83,12 @@ impl Layers {
     ) -> Result<(Given<RangePart, Q>, Asked), AskFault>
     where
         RangePart: Answers<Q>,
-        ensures no_layer { named name.now self.now.layers ≡ None → result ≡ Err AskFault.NoLayer }
-        ensures refused { (l : Layered) → named name.now self.now.layers ≡ Some l → IsAskRefusal l.range Q.refusable result }
+        ensures answered { IsAnswered (map_of self.now) (Ask name.now (Q.asks question.now)) (map_of self.now)
+            (asked (λ given. Answered (Q.tells given.0.answer)) result) }
         ensures question { IfOk result (λ given. given.0.question ≡ question.now) }
-        ensures value { (l : Layered) → named name.now self.now.layers ≡ Some l
-            → IfOk result (λ given. given.0.answer ≡ Q.value question.now (map (λ e. e.item) l.entries)) }
         ensures consulted { IfOk result (λ given. given.1.parts ≡ given.0.parts) }
-        ensures few { (l : Layered) → named name.now self.now.layers ≡ Some l → length l.entries ≤ 2 ^ 16 }
-        ensures of { (l : Layered) → named name.now self.now.layers ≡ Some l → IsOf (λ part. part) stamp_of l.range l.entries }
-        ensures cost { (l : Layered) → named name.now self.now.layers ≡ Some l
-            → IfOk result (λ given. HasAsked (λ part. part) (layer_of l) l.range (bound-7.ask_touches question.now) given.1 (lap_begun steps.old) steps.new) }
+        ensures cost { IfOk result (λ given. IsAskingIn (layer_named name.now (map_of self.now)) (λ layer. Q.most_touches layer given.1.parts given.0.answer)
+            given.1 (lap_begun steps.old) steps.new) }
         ensures reads { (steps.new.turns ≡ steps.old.turns) × (steps.new.marks ≡ steps.old.marks) }
     {
         steps.start_lap();

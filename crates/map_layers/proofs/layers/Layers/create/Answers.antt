@@ -1,17 +1,17 @@
-use Rattle.std.proofs.Common.{rules, ◌≡◌, ◌≤◌, ◌∙◌, true, false, [], ◌∷◌, ◌++◌, length, map, All, bytes_eq, refl, ap, sym, subst, arith}
+use Rattle.std.proofs.Common.{rules, ◌≡◌, ◌∙◌, true, false, [], ◌∷◌, ◌++◌, length, map, bytes_eq, refl, ap, sym, subst, arith}
 use Rattle.std.specs.Prelude.{nat_le}
 use Rattle.std.specs.List.{list_any}
 use Rattle.std.specs.Option.{is_some}
 use Rattle.std.proofs.lemmas.Bool.{le-leb, lt-leb}
 use Rattle.std.proofs.lemmas.List.{length-map, map-append}
-use Rattle.std.proofs.lemmas.List.Elements.{All-append, All-cons, All-nil}
+use Rattle.std.proofs.lemmas.List.Sums.{sum_by_push}
 use Rattle.map_model.specs.State.{Layer, most_layers}
 use Rattle.map_model.specs.Reply.{Made}
 use Rattle.map_model.specs.Machine.{replied}
 use Rattle.map_shapes.specs.Kind.{kind_of}
 use Rattle.map_shapes.specs.IndexSet.{index_set_of}
 use Rattle.map_layers.specs.Layer.{layer_of}
-use Rattle.map_layers.specs.Layers.{map_of, named, names_of, AllDiffer}
+use Rattle.map_layers.specs.Layers.{map_of, named, names_of, adds_of, AllDiffer}
 use Rattle.map_layers.proofs.Built.{is_built-range, layer_of-new}
 use Rattle.map_layers.proofs.Names.{is_taken-named, is_among-named, AllDiffer-push}
 use Rattle.map_layers.proofs.Answering.{step-make}
@@ -40,9 +40,7 @@ invariant_of-self c =
     let names : names_of (ls ++ c.new.result ∷ []) ≡ names_of ls ++ c.new.result.name ∷ [] = map-append (λ l. l.name) ls (c.new.result ∷ []) in (
       subst (λ xs. AllDiffer (names_of xs)) (sym c.push.ensures.items)
           (subst AllDiffer (sym names) (AllDiffer-push (names_of ls) c.new.result.name c.self.invariant.0 unused)),
-      subst (All (λ l. l.adds ≤ c.self.inside.updates)) (sym c.push.ensures.items)
-          (All-append (λ l. l.adds ≤ c.self.inside.updates) ls (c.new.result ∷ []) c.self.invariant.1
-          (All-cons (λ l. l.adds ≤ c.self.inside.updates) c.new.result [] (omega (arith, c.new.ensures.adds)) (All-nil (λ l. l.adds ≤ c.self.inside.updates)))),
+      omega (arith, c.self.invariant.1, c.new.ensures.adds, ap adds_of c.push.ensures.items, sum_by_push (λ l. l.adds) ls c.new.result),
     )
 
 pub returns-clause-answered : goal.returns-clause-answered

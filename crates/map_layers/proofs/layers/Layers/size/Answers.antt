@@ -1,20 +1,16 @@
 use Rattle.std.proofs.Common.{rules, ◌≡◌, ◌∙◌, None, Some, ap, arith}
-use Rattle.std.specs.Option.{option_map}
-use Rattle.map_model.specs.State.{layer_named}
 use Rattle.map_model.specs.Reply as replies
 use Rattle.map_model.specs.Machine.{replied, size_of}
-use Rattle.map_layers.specs.Layer.{layer_of}
 use Rattle.map_layers.specs.Layers.{map_of, named}
 use Rattle.map_layers.proofs.PointItems.{as_many_items}
-use Rattle.map_layers.proofs.Names.{layer_named-named}
+use Rattle.map_layers.proofs.Names.{layer_named-Some, layer_named-None}
 use Rattle.map_layers.proofs.layers.Layers.size.Goals as goal
 
 pub returns-in-Some : goal.returns-in-Some
 returns-in-Some c =
     let l = c.in-Some.layer.now in
     let found : named c.args.name.now c.args.self.now.layers ≡ Some l = search rules in
-    let here : layer_named c.args.name.now (map_of c.args.self.now) ≡ Some (layer_of l) =
-    layer_named-named c.args.name.now c.args.self.now.layers ∙ ap (option_map layer_of) found in
+    let here = layer_named-Some c.args.name.now c.args.self.now.layers found in
     record {
       answered = ap (size_of (map_of c.args.self.now)) here
           ∙ ap (λ n. replied (map_of c.args.self.now) (replies.Sized n)) (omega (arith, as_many_items l.entries, c.len.ensures.count, c.len.ensures.few));
@@ -23,7 +19,4 @@ returns-in-Some c =
 pub returns-in-None : goal.returns-in-None
 returns-in-None c =
     let none : named c.args.name.now c.args.self.now.layers ≡ None = search rules in
-    record {
-      answered = ap (size_of (map_of c.args.self.now))
-          (layer_named-named c.args.name.now c.args.self.now.layers ∙ ap (option_map layer_of) none);
-    }
+    record { answered = ap (size_of (map_of c.args.self.now)) (layer_named-None c.args.name.now c.args.self.now.layers none) }

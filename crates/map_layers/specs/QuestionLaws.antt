@@ -1,8 +1,14 @@
--- The questions of an index are those of the definitions, which scan all items.
-use Rattle.std.proofs.Common.{◌≡◌, ℕ, ◌*◌, ◌^◌, ◌≤◌, ◌∙◌, Bool, List, [], ◌∷◌, length, map, filter, refl, ap, arith}
+-- The questions of an index are those of the definitions, which scan all items; and what they touch.
+use Rattle.std.proofs.Common.{◌≡◌, ℕ, ◌+◌, ◌*◌, ◌^◌, ◌<◌, ◌≤◌, ◌∙◌, Bool, false, List, [], ◌∷◌, length, map, filter, refl, ap, arith}
 use Rattle.std.specs.Prelude.{count_by, sum_by, nat_le}
 use Rattle.std.proofs.lemmas.Grind.{common_steps}
+use Rattle.std.proofs.lemmas.List.{length-map}
+use Rattle.builder_trait.specs.Parts.{Contents}
 use Rattle.id_chain.specs.Chain.{Entry}
+use Rattle.partial_build.specs.Construction.{live_of}
+use Rattle.stack_levels.proofs.Publishing.{higher}
+use Rattle.row_blocks.specs.Heights.{height_of, IsLeastHeight-height_of}
+use Rattle.range_tree.specs.Costs.{count_touches, list_touches, mark_touches-rise}
 use Rattle.map_model.specs.Shape as model
 use Rattle.map_model.specs.Found.{insert_by, sorted_by}
 use Rattle.map_model.specs.State.{Item}
@@ -58,3 +64,44 @@ sorted (x ∷ xs) = inserted x (sorted_ids xs) ∙ ap (insert_by nat_le x) (sort
 
 pub ids_in-scan : (rect : Rect) (es : List (Entry Point)) → ids_in rect (points_of es) ≡ ids_with (model.is_inside (rect_of rect)) (items_of es)
 ids_in-scan rect es = sorted (map (λ p. p.id) (filter (is_in rect) (points_of es))) ∙ ap (sorted_by nat_le) (listed rect es)
+
+-- ---- what one part is touched, which has at most 2 ^ g points
+
+rows : (g : ℕ) (p : Contents Point) → g < 64 → length p.items ≤ 2 ^ g → height_of (length p.items) ≤ g
+rows g p small few = (IsLeastHeight-height_of (length p.items) (omega (arith, few, higher g 63 (omega (arith, small))))).least g few
+
+pub count-touches : (lists : Point → Bool) (g : ℕ) (p : Contents Point) → g < 64 → length p.items ≤ 2 ^ g
+    → count_touches p.items ≤ 16 * ((g + 2) * (g + 2)) + 8 * (g + 2) * length (filter lists (live_of p))
+count-touches lists g p small few = omega (arith, mark_touches-rise (height_of (length p.items)) g (rows g p small few))
+
+scaled : (h g n : ℕ) → h ≤ g → 8 * (h + 2) * n ≤ 8 * (g + 2) * n
+scaled h g n low = grind (arith, low)
+
+pub list-touches : (rect : Rect) (g : ℕ) (p : Contents Point) → g < 64 → length p.items ≤ 2 ^ g
+    → list_touches rect p ≤ 16 * ((g + 2) * (g + 2)) + 8 * (g + 2) * length (filter (is_in rect) (live_of p))
+list-touches rect g p small few =
+    let low = rows g p small few in
+    omega (arith, mark_touches-rise (height_of (length p.items)) g low, scaled (height_of (length p.items)) g (length (filter (is_in rect) (live_of p))) low)
+
+-- ---- what is touched for each point that is listed
+
+none : (points : List Point) → length (filter (λ p. false) points) ≡ 0
+none [] = refl
+none (p ∷ ps) = none ps
+
+pub listing-none : (most each : ℕ) (points : List Point) → most + each * length (filter (λ p. false) points) ≤ most
+listing-none most each points = omega (arith, ap (λ n. each * n) (none points))
+
+length-insert_sorted : (x : ℕ) (ys : List ℕ) → length (insert_sorted x ys) ≡ length ys + 1
+length-insert_sorted x [] = refl
+length-insert_sorted x (y ∷ ys) = grind (arith, common_steps, length-insert_sorted x ys)
+
+length-sorted_ids : (xs : List ℕ) → length (sorted_ids xs) ≡ length xs
+length-sorted_ids [] = refl
+length-sorted_ids (x ∷ xs) = omega (arith, length-insert_sorted x (sorted_ids xs), length-sorted_ids xs)
+
+pub listing-ids : (most each : ℕ) (rect : Rect) (points : List Point)
+    → most + each * length (filter (is_in rect) points) ≤ most + each * length (ids_in rect points)
+listing-ids most each rect points =
+    let ids = map (λ p. p.id) (filter (is_in rect) points) in
+    omega (arith, ap (λ n. each * n) (length-sorted_ids ids ∙ length-map (filter (is_in rect) points) (λ p. p.id)))

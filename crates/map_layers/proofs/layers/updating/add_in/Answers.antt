@@ -1,0 +1,42 @@
+use Rattle.std.proofs.Common.{rules, ◌≡◌, ◌<◌, true, None, Some, IfOk, length, map, get_or, set, ap, sym, subst, arith}
+use Rattle.std.specs.List.{refill}
+use Rattle.std.proofs.lemmas.List.Sums.{get_or-le-sum_by}
+use Rattle.map_layers.specs.Costs.{IsCostIn, IsToldIn}
+use Rattle.map_layers.specs.Layer.{items_of, layer_of}
+use Rattle.map_layers.specs.Layers.{place_named, adds_of}
+use Rattle.map_layers.proofs.Answering.{IsAnswered-add, unfound-add}
+use Rattle.map_layers.proofs.Names.{named-none, layer_named-None, AllDiffer-at, adds-at, found-at, IsRenewed-at}
+use Rattle.map_layers.proofs.layers.updating.add_in.Goals as goal
+
+pub add-requires-clause-few : goal.add-requires-clause-few
+add-requires-clause-few g c =
+    let ls = c.as_mut_slice.result.now in
+    let within : c.in-Some.k < length ls = search rules in
+    omega (arith, get_or-le-sum_by (λ l. l.adds) ls c.in-Some.k c.index-as_mut_slice-k.result within, c.requires.few, ap adds_of c.as_mut_slice.ensures.value)
+
+pub returns-in-Some : goal.returns-in-Some
+returns-in-Some g c =
+    let name = c.args.name.now in
+    let k = c.in-Some.k in
+    let items = c.args.layers.now.items in
+    let ls = c.as_mut_slice.result.now in
+    let d = c.index-as_mut_slice-k.result in
+    let new = c.add.new.self in
+    let same = c.as_mut_slice.ensures.value in
+    let found : place_named name ls ≡ Some k = search rules in
+    let within : k < length ls = search rules in
+    let here = sym (found-at name k items ls d new same found within c.add.ensures.name) in
+    record {
+      answered = IsAnswered-add (map layer_of items) (map layer_of (refill (length items) items (set ls k new))) name c.args.id (layer_of (get_or ls k d)) (items_of new.entries)
+          (IsRenewed-at name k items ls d new same found within c.add.ensures.name c.requires.differ c.add.ensures.range) c.args.x c.args.y c.args.w c.add.result c.add.ensures.added;
+      differ = AllDiffer-at name k items ls d new same found within c.add.ensures.name c.requires.differ;
+      adds = omega (arith, adds-at name k items ls d new same found within c.add.ensures.name, c.add.ensures.adds);
+      cost = subst (λ o. IsCostIn o c.add.result c.args.steps.now c.add.new.steps) here c.add.ensures.cost;
+      told = subst (λ o. IfOk c.add.result (λ spent. IsToldIn o true spent c.args.steps.now c.add.new.steps)) here c.add.ensures.told;
+    }
+
+pub returns-in-None-clause-answered : goal.returns-in-None-clause-answered
+returns-in-None-clause-answered g c =
+    let none : place_named c.args.name.now c.args.layers.now.items ≡ None = search rules in
+    unfound-add (map layer_of c.args.layers.now.items) c.args.name.now c.args.id c.args.x c.args.y c.args.w
+    (layer_named-None c.args.name.now c.args.layers.now.items (named-none c.args.name.now 0 c.args.layers.now.items none))

@@ -1,0 +1,35 @@
+use Rattle.std.proofs.Common.{rules, ◌≡◌, ◌<◌, false, None, Some, IfOk, length, map, get_or, set, sym, subst, arith}
+use Rattle.std.specs.List.{refill}
+use Rattle.map_layers.specs.Costs.{IsCostIn, IsToldIn}
+use Rattle.map_layers.specs.Layer.{items_of, layer_of}
+use Rattle.map_layers.specs.Layers.{place_named}
+use Rattle.map_layers.proofs.Answering.{IsAnswered-drop, unfound-drop}
+use Rattle.map_layers.proofs.Names.{named-none, layer_named-None, AllDiffer-at, adds-at, found-at, IsRenewed-at}
+use Rattle.map_layers.proofs.layers.updating.remove_in.Goals as goal
+
+pub returns-in-Some : goal.returns-in-Some
+returns-in-Some g c =
+    let name = c.args.name.now in
+    let k = c.in-Some.k in
+    let items = c.args.layers.now.items in
+    let ls = c.as_mut_slice.result.now in
+    let d = c.index-as_mut_slice-k.result in
+    let new = c.remove.new.self in
+    let same = c.as_mut_slice.ensures.value in
+    let found : place_named name ls ≡ Some k = search rules in
+    let within : k < length ls = search rules in
+    let here = sym (found-at name k items ls d new same found within c.remove.ensures.name) in
+    record {
+      answered = IsAnswered-drop (map layer_of items) (map layer_of (refill (length items) items (set ls k new))) name c.args.id (layer_of (get_or ls k d)) (items_of new.entries)
+          (IsRenewed-at name k items ls d new same found within c.remove.ensures.name c.requires.differ c.remove.ensures.range) c.remove.result c.remove.ensures.removed;
+      differ = AllDiffer-at name k items ls d new same found within c.remove.ensures.name c.requires.differ;
+      adds = omega (arith, adds-at name k items ls d new same found within c.remove.ensures.name, c.remove.ensures.adds);
+      cost = subst (λ o. IsCostIn o c.remove.result c.args.steps.now c.remove.new.steps) here c.remove.ensures.cost;
+      told = subst (λ o. IfOk c.remove.result (λ spent. IsToldIn o false spent c.args.steps.now c.remove.new.steps)) here c.remove.ensures.told;
+    }
+
+pub returns-in-None-clause-answered : goal.returns-in-None-clause-answered
+returns-in-None-clause-answered g c =
+    let none : place_named c.args.name.now c.args.layers.now.items ≡ None = search rules in
+    unfound-drop (map layer_of c.args.layers.now.items) c.args.name.now c.args.id
+    (layer_named-None c.args.name.now c.args.layers.now.items (named-none c.args.name.now 0 c.args.layers.now.items none))
