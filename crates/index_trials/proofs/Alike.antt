@@ -1,12 +1,10 @@
 -- The entries of a collection beside lists of their items and of their handles.
-use Rattle.std.proofs.Common.{◌≡◌, ℕ, zero, suc, ◌+◌, ◌-◌, ◌<◌, ◌≤◌, ◌∙◌, true, List, [], ◌∷◌, length, map, get_or, refl, ap, sym, arith}
+use Rattle.std.proofs.Common.{◌≡◌, ℕ, zero, suc, ◌-◌, ◌<◌, ◌∙◌, true, List, [], ◌∷◌, length, map, get_or, refl, ap, sym, arith}
 use Rattle.std.specs.List.{remove}
 use Rattle.std.proofs.lemmas.Bool.Decides.{nat_tests}
 use Rattle.std.proofs.lemmas.Grind.{common_steps}
 use Rattle.std.proofs.lemmas.List.Edits.{remove-append_right}
 use Rattle.id_chain.specs.Chain.{Entry, HandlesDiffer, is_linked, without_handle}
-use Rattle.map_shapes.specs.declared.point.Point.{Point}
-use Rattle.index_trials.specs.Trial.{AreAlike}
 
 module _ {I : Type 0} where
   -- the handle at a place is linked
@@ -30,14 +28,3 @@ module _ {I : Type 0} where
       remove-append_right (f e ∷ []) (map f es) 1 (suc k) refl (omega arith) ∙ ap (λ n. f e ∷ remove (map f es) n) less in
       let here : map f (without_handle handle (e ∷ es)) ≡ f e ∷ map f (without_handle handle es) = grind (arith, nat_tests, common_steps, linked, differ.0) in
       here ∙ (ap (λ xs. f e ∷ xs) rest ∙ sym there)
-
--- the same trial
-pub AreAlike-same : {added added' stamps stamps' : ℕ} {es es' : List (Entry Point)} {points points' : List Point} {handles handles' : List ℕ}
-    → added' ≡ added → stamps' ≡ stamps → es' ≡ es → points' ≡ points → handles' ≡ handles
-    → AreAlike added stamps es points handles → AreAlike added' stamps' es' points' handles'
-AreAlike-same adds stamps es points handles h = record {
-  later = omega (arith, h.later, adds, stamps);
-  few = omega (arith, h.few, adds, ap length es);
-  same_points = ap (map (λ e. e.item)) es ∙ h.same_points ∙ sym points;
-  same_handles = ap (map (λ e. e.handle)) es ∙ h.same_handles ∙ sym handles;
-}

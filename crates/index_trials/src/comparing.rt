@@ -1,7 +1,6 @@
 //! Indexes beside plain lists, over many orders of adds and drops.
-ghost use Rattle.std.specs.Prelude.{◌≡◌, ◌+◌, ◌<◌, ◌≤◌, ◌^◌, ℕ, Some, OnOk, length, slice_get};
+ghost use Rattle.std.specs.Prelude.{◌≡◌, ◌+◌, ◌<◌, ◌≤◌, ◌^◌, ℕ, Some, IfOk, OnOk, OnErr, length, slice_get, vec_len};
 ghost use Rattle.map_shapes.specs.declared.point.Point.{Point};
-ghost use Rattle.index_trials.specs.Trial.{AreAlike};
 
 use crate::order::Order;
 use crate::pace::Pace;
@@ -9,8 +8,9 @@ use crate::seen::Seen;
 use crate::trial::Trial;
 use map_samples::{Failure, Generator, random_points, random_rect};
 use map_shapes::{Point, Rect};
+use query_laws::NoMemory;
 use query_laws::step_ledger::Steps;
-use std::alloc::Global;
+use std::alloc::{AllocError, Global};
 use std::sync::ledger::Ledger;
 
 /// Coordinates are below this, so that many points have equal ones.
@@ -43,7 +43,8 @@ struct Case {
 
 /// Compares indexes with plain lists, over two hundred lists of up to 400 adds and drops.
 ///
-/// Prints a line for each order of drops. `Differs` where an answer of an index isn't that of the list, or where too much is dead.
+/// It asks for memory twice. Prints a line for each order of drops, and one more where memory was refused once. `Differs` where an answer of an
+/// index isn't that of the list, or where too much is dead.
 pub fn check_indexes<R: Print + AllocGlobal, L: Ledger>(
     rt: &R,
     seed: u64,
@@ -65,9 +66,10 @@ fn check_order<R: Print + AllocGlobal, L: Ledger>(
 ) -> Result<(), Failure> {
     let mut seen = Seen::default();
     for list in 0..EACH {
-        seen = seen.plus(check_list(rt.alloc(), generator, order, list, 0, steps)?);
+        seen = check_list(rt.alloc(), generator, order, list, 0, seen, steps)?;
     }
     println!(rt; "indexes {EACH} {order} {seen}")?;
+    seen.refusals.report(rt)?;
     Ok(())
 }
 
@@ -80,21 +82,24 @@ pub fn check_given_up<L: Ledger>(
     steps: &mut Steps<L>,
 ) -> Result<(), Failure> {
     let mut generator = Generator::new(seed);
+    let mut seen = Seen::default();
     for order in [Order::Oldest, Order::Newest, Order::Cursor, Order::Random] {
         for list in 0..10 {
-            check_list(alloc, &mut generator, order, list, 3, steps)?;
+            seen = check_list(alloc, &mut generator, order, list, 3, seen, steps)?;
         }
     }
     Ok(())
 }
 
-/// Compares an index with a plain list after each update of a list of up to 400. Before each fewer than `given_up` are begun and given up.
+/// Compares an index with a plain list after each update of a list of up to 400, and adds to what was seen. Before each fewer than `given_up` are
+/// begun and given up.
 fn check_list<L: Ledger>(
     alloc: Global,
     generator: &mut Generator,
     order: Order,
     list: usize,
     given_up: u32,
+    mut seen: Seen,
     steps: &mut Steps<L>,
 ) -> Result<Seen, Failure> {
     let updates = generator.below(MOST_UPDATES + 1) as usize;
@@ -103,86 +108,151 @@ fn check_list<L: Ledger>(
     } else {
         Pace::in_waves(generator)
     };
-    let points = random_points(alloc, generator, 0, updates, SIDE)?;
-    let mut trial = Trial::new(alloc)?;
+    let points = draw_points(alloc, generator, updates, &mut seen.refusals.own)?;
+    let mut trial = Trial::new(alloc, seen);
     for update in 0..updates {
         let case = Case {
             order,
             list,
             update,
         };
-        give_up(generator, given_up, &mut trial, steps)?;
-        take_update(generator, &points, order, &mut pace, &mut trial, steps)?;
-        compare_after(alloc, generator, case, &mut trial, steps)?;
+        give_up(generator, given_up, case, &mut trial, steps)?;
+        let change = next_change(generator, &points, order, &mut pace, &trial);
+        make_or_retry(case, change, &mut trial, steps)?;
+        compare_after(generator, case, &mut trial, steps)?;
     }
-    trial.ask_about(alloc, ALL, steps)?;
-    Ok(trial.seen())
+    trial.ask_about(ALL, steps)?;
+    Ok(trial.seen)
+}
+
+/// Seeded points for so many adds. It asks for their memory twice, and draws the same both times.
+fn draw_points(
+    alloc: Global,
+    generator: &mut Generator,
+    n: usize,
+    refused: &mut u64,
+) -> Result<Vec<Point>, AllocError>
+    ensures count { IfOk result (λ points. vec_len points ≡ n) }
+    ensures stamps { IfOk result (λ points. (k : ℕ) (p : Point) → slice_get points.items k ≡ Some p → p.stamp ≡ 0 + k) }
+{
+    let state = generator.state;
+    match random_points(alloc, generator, 0, n, SIDE) {
+        Ok(points) => Ok(points),
+        Err(_refused) => {
+            *refused = refused.wrapping_add(1);
+            generator.state = state;
+            random_points(alloc, generator, 0, n, SIDE)
+        }
+    }
 }
 
 /// Begins fewer updates than so many, and gives them up.
 fn give_up<L: Ledger>(
     generator: &mut Generator,
     most: u32,
+    case: Case,
     trial: &mut Trial,
     steps: &mut Steps<L>,
 ) -> Result<(), Failure>
-    requires alike { AreAlike trial.old.added trial.old.collection.index.stamps trial.old.collection.entries trial.old.list.points.items trial.old.handles.items }
-    ensures alike { OnOk result (AreAlike trial.new.added trial.new.collection.index.stamps trial.new.collection.entries trial.new.list.points.items trial.new.handles.items) }
-    ensures added { trial.new.added ≡ trial.old.added }
+    ensures added { OnOk result (trial.new.added ≡ trial.old.added) }
 {
     if most == 0 {
         return Ok(());
     }
     for _ in 0..generator.below(most) {
-        trial.give_up(steps)?;
+        make_or_retry(case, Change::GiveUp, trial, steps)?;
     }
     Ok(())
 }
 
+/// A drop at a drawn place, or the add of the next point.
+fn next_change(
+    generator: &mut Generator,
+    points: &[Point],
+    order: Order,
+    pace: &mut Pace,
+    trial: &Trial,
+) -> Change
+    requires more { trial.now.added < length points.now }
+    requires few { length points.now < 2 ^ 28 }
+    requires numbered { (k : ℕ) (p : Point) → slice_get points.now k ≡ Some p → p.stamp ≡ 0 + k }
+    ensures within { (k : ℕ) → result ≡ Change.DropAt k → k < length trial.now.list.points.items }
+    ensures numbered { (p : Point) → result ≡ Change.Add p → (p.stamp ≡ trial.now.added) × (trial.now.added < 2 ^ 28) }
+{
+    let live = trial.list.live();
+    if !pace.is_drop(generator, live) {
+        return Change::Add(points[trial.added as usize]);
+    }
+    let unwalked = trial.collection.index().unwalked();
+    let place = order.place(generator, live as u32, unwalked);
+    Change::DropAt(place as usize)
+}
+
+/// What comes next to a trial. It takes no memory, so that it can be made twice.
+#[derive(Clone, Copy)]
+enum Change {
+    Add(Point),
+    DropAt(usize),
+    GiveUp,
+}
+
+/// Makes a change. Where its preparation is refused memory, it compares both, and asks for it once more.
+///
+/// `Differs` where the refusal changed a point, or left too much dead.
+fn make_or_retry<L: Ledger>(
+    case: Case,
+    change: Change,
+    trial: &mut Trial,
+    steps: &mut Steps<L>,
+) -> Result<(), Failure>
+    requires within { (k : ℕ) → change ≡ Change.DropAt k → k < length trial.old.list.points.items }
+    requires numbered { (p : Point) → change ≡ Change.Add p → (p.stamp ≡ trial.old.added) × (trial.old.added < 2 ^ 28) }
+    ensures added { OnOk result (trial.new.added ≤ trial.old.added + 1) }
+    ensures given_up { change ≡ Change.GiveUp → OnOk result (trial.new.added ≡ trial.old.added) }
+{
+    let was_rebuilding = trial.collection.index().unwalked().is_some();
+    match make(change, trial, steps) {
+        Ok(()) => Ok(()),
+        Err(_refused) => {
+            trial.take_refusal(matches!(change, Change::Add(_)), was_rebuilding);
+            trial.compare(&case)?;
+            trial.compare_points(&case)?;
+            trial.ask_about(ALL, steps)?;
+            Ok(make(change, trial, steps)?)
+        }
+    }
+}
+
+/// Makes a change. The points stay where memory is refused.
+fn make<L: Ledger>(change: Change, trial: &mut Trial, steps: &mut Steps<L>) -> Result<(), NoMemory>
+    requires within { (k : ℕ) → change ≡ Change.DropAt k → k < length trial.old.list.points.items }
+    requires numbered { (p : Point) → change ≡ Change.Add p → (p.stamp ≡ trial.old.added) × (trial.old.added < 2 ^ 28) }
+    ensures added { trial.new.added ≤ trial.old.added + 1 }
+    ensures given_up { change ≡ Change.GiveUp → trial.new.added ≡ trial.old.added }
+    ensures refused { OnErr result ((trial.new.added ≡ trial.old.added) × (trial.new.list.points.items ≡ trial.old.list.points.items)) }
+{
+    match change {
+        Change::Add(point) => trial.add(point, steps),
+        Change::DropAt(place) => trial.drop_at(place, steps),
+        Change::GiveUp => trial.give_up(steps),
+    }
+}
+
 /// Compares both after an update, and in each round their points and their answers too.
 fn compare_after<L: Ledger>(
-    alloc: Global,
     generator: &mut Generator,
     case: Case,
     trial: &mut Trial,
     steps: &mut Steps<L>,
 ) -> Result<(), Failure>
-    ensures same_collection { trial.new.collection ≡ trial.old.collection }
-    ensures same_list { trial.new.list ≡ trial.old.list }
-    ensures same_handles { trial.new.handles ≡ trial.old.handles }
     ensures same_added { trial.new.added ≡ trial.old.added }
 {
-    trial.compare(alloc, &case)?;
+    trial.compare(&case)?;
     if case.update % ROUND != 0 {
         return Ok(());
     }
-    trial.compare_points(alloc, &case)?;
+    trial.compare_points(&case)?;
     let width = generator.below(SIDE);
     let rect = random_rect(generator, SIDE, width);
-    trial.ask_about(alloc, rect, steps)
-}
-
-/// An update: a drop, or the add of the next point.
-fn take_update<L: Ledger>(
-    generator: &mut Generator,
-    points: &[Point],
-    order: Order,
-    pace: &mut Pace,
-    trial: &mut Trial,
-    steps: &mut Steps<L>,
-) -> Result<(), Failure>
-    requires more { trial.old.added < length points.now }
-    requires few { length points.now < 2 ^ 28 }
-    requires numbered { (k : ℕ) (p : Point) → slice_get points.now k ≡ Some p → p.stamp ≡ 0 + k }
-    requires alike { AreAlike trial.old.added trial.old.collection.index.stamps trial.old.collection.entries trial.old.list.points.items trial.old.handles.items }
-    ensures alike { OnOk result (AreAlike trial.new.added trial.new.collection.index.stamps trial.new.collection.entries trial.new.list.points.items trial.new.handles.items) }
-    ensures added { OnOk result (trial.new.added ≤ trial.old.added + 1) }
-{
-    let live = trial.live();
-    if pace.is_drop(generator, live) {
-        let unwalked = trial.unwalked();
-        let place = order.place(generator, live as u32, unwalked);
-        return trial.drop_at(place as usize, steps);
-    }
-    trial.add(points[trial.added() as usize], steps)
+    trial.ask_about(rect, steps)
 }

@@ -1,6 +1,7 @@
 //! What updates cost.
 ghost use Rattle.std.specs.Prelude.{◌≡◌};
 
+use crate::retrying::do_or_retry;
 use map_samples::{Failure, Samples};
 use std::alloc::Global;
 use std::fmt;
@@ -73,18 +74,16 @@ impl fmt::Display for Rebuild {
 
 impl fmt::Display for Cost {
     fn fmt<W: fmt::Write>(&self, f: &mut fmt::Formatter<W>) -> fmt::Result {
-        let Cost {
-            update,
-            nanoseconds,
-            turns,
-            marks,
-            touches,
-            memory,
-            rebuild,
-        } = *self;
         write!(
             f,
-            "{update} nanoseconds {nanoseconds} turns {turns} marks {marks} touches {touches} memory {memory} rebuild {rebuild}"
+            "{} nanoseconds {} turns {} marks {} touches {} memory {} rebuild {}",
+            self.update,
+            self.nanoseconds,
+            self.turns,
+            self.marks,
+            self.touches,
+            self.memory,
+            self.rebuild
         )
     }
 }
@@ -120,8 +119,13 @@ impl Costs {
         }
     }
 
-    /// Takes in an update, and its times where these are wanted.
-    pub fn take_in(&mut self, cost: Cost, is_timed: bool) -> Result<(), Failure> {
+    /// Takes in an update, and its times where these are wanted. It asks twice for their memory, and counts a refusal.
+    pub fn take_in(
+        &mut self,
+        cost: Cost,
+        is_timed: bool,
+        refused: &mut u64,
+    ) -> Result<(), Failure> {
         self.turns = self.turns.wrapping_add(cost.turns);
         self.marks = self.marks.wrapping_add(cost.marks);
         self.touches = self.touches.wrapping_add(cost.touches);
@@ -131,22 +135,20 @@ impl Costs {
             self.rebuilds = self.rebuilds.wrapping_add(1);
         }
         if is_timed {
-            self.take_time(cost)?;
+            self.take_time(cost, refused)?;
         }
         self.updates = self.updates.wrapping_add(1);
         Ok(())
     }
 
     /// Takes in the times of an update; those of a swap also apart.
-    fn take_time(&mut self, cost: Cost) -> Result<(), Failure> {
-        self.times.push(cost.nanoseconds)?;
+    fn take_time(&mut self, cost: Cost, refused: &mut u64) -> Result<(), Failure> {
+        let (times, swaps) = (&mut self.times, &mut self.swaps);
+        do_or_retry(refused, || Ok(times.push(cost.nanoseconds)?))?;
         if cost.rebuild == Rebuild::Ended {
-            self.swaps.push(cost.nanoseconds)?;
+            do_or_retry(refused, || Ok(swaps.push(cost.nanoseconds)?))?;
         }
-        let slowest = match self.slowest {
-            Some((_number, slowest)) => slowest.nanoseconds,
-            None => 0,
-        };
+        let slowest = self.slowest.map_or(0, |(_number, cost)| cost.nanoseconds);
         if slowest < cost.nanoseconds {
             self.slowest = Some((self.updates, cost));
         }

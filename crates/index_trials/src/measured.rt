@@ -4,6 +4,8 @@ ghost use Rattle.std.specs.Prelude.{◌≡◌, ◌≤◌, length};
 use crate::collection::Collection;
 use crate::cost::{Cost, Rebuild, Update};
 use crate::order::Order;
+use crate::refusals::Refusals;
+use crate::retrying::{add_or_retry, do_or_retry, remove_or_retry};
 use builder_trait::Builder;
 use id_chain::Handle;
 use map_samples::{Failure, Generator, Watch};
@@ -25,6 +27,7 @@ const WEIGHTS: u32 = 1024;
 pub struct Measured {
     pub collection: Collection<RangeBuilder>,
     pub added: u64,
+    pub refusals: Refusals,
     handles: Vec<Handle>,
     pub ghost later: { collection.index.stamps ≤ added },
     pub ghost few: { length collection.entries ≤ added },
@@ -88,6 +91,7 @@ impl Measured {
         Measured {
             collection: Collection::new(alloc),
             added: 0,
+            refusals: Refusals::default(),
             handles: Vec::new(alloc),
         }
     }
@@ -107,11 +111,12 @@ impl Measured {
         let before = Before::of(&self.collection);
         steps.start_lap();
         let begun = watch.start()?;
-        let handle = self.collection.add(point, steps)?;
+        let handle = add_or_retry(&mut self.collection, point, &mut self.refusals, steps)?;
         self.added += 1;
         let nanoseconds = watch.since(begun)?;
         if order != Order::Oldest {
-            self.handles.push(handle)?;
+            let handles = &mut self.handles;
+            do_or_retry(&mut self.refusals.own, || Ok(handles.push(handle)?))?;
         }
         Ok(cost_of(Update::Add, nanoseconds, before, &self.collection, steps))
     }
@@ -135,7 +140,7 @@ impl Measured {
         let before = Before::of(&self.collection);
         steps.start_lap();
         let begun = watch.start()?;
-        self.collection.remove(handle, steps)?;
+        remove_or_retry(&mut self.collection, handle, &mut self.refusals, steps)?;
         let nanoseconds = watch.since(begun)?;
         let cost = cost_of(Update::Drop, nanoseconds, before, &self.collection, steps);
         Ok(Some(cost))

@@ -47,10 +47,15 @@ fn measure_order<R: Print + Clock + AllocGlobal, L: Ledger>(
 {
     let size = (1u64 << level).min(MOST_POINTS);
     let mut measured = Measured::new(watch.rt.alloc());
-    measured.collection.reserve(size as usize)?;
+    if measured.collection.reserve(size as usize).is_err() {
+        measured.refusals.own = measured.refusals.own.wrapping_add(1);
+        measured.collection.reserve(size as usize)?;
+    }
     grow(watch, generator, order, size, &mut measured, steps)?;
     let pairs = (size * 3).min(MOST_UPDATES) / 2;
-    renew(watch, generator, order, pairs, &mut measured, steps)
+    renew(watch, generator, order, pairs, &mut measured, steps)?;
+    measured.refusals.report(watch.rt)?;
+    Ok(())
 }
 
 /// Adds so many points, and prints what that took.
@@ -69,7 +74,7 @@ fn grow<R: Print + Clock + AllocGlobal, L: Ledger>(
     let mut costs = Costs::new(watch.rt.alloc());
     for _added in 0..count {
         let cost = measured.add(watch, generator, order, steps)?;
-        costs.take_in(cost, watch.is_on)?;
+        costs.take_in(cost, watch.is_on, &mut measured.refusals.own)?;
     }
     report(watch, "adds", order, measured, costs)
 }
@@ -89,10 +94,10 @@ fn renew<R: Print + Clock + AllocGlobal, L: Ledger>(
     let mut costs = Costs::new(watch.rt.alloc());
     for _renewed in 0..count {
         if let Some(cost) = measured.drop_one(watch, generator, order, steps)? {
-            costs.take_in(cost, watch.is_on)?;
+            costs.take_in(cost, watch.is_on, &mut measured.refusals.own)?;
         }
         let cost = measured.add(watch, generator, order, steps)?;
-        costs.take_in(cost, watch.is_on)?;
+        costs.take_in(cost, watch.is_on, &mut measured.refusals.own)?;
     }
     report(watch, "updates", order, measured, costs)
 }
@@ -105,38 +110,32 @@ fn report<R: Print + Clock + AllocGlobal>(
     measured: &Measured,
     costs: Costs,
 ) -> Result<(), Failure> {
-    let Costs {
-        updates,
-        turns,
-        marks,
-        touches,
-        most_turns,
-        most_marks,
-        rebuilds,
-        slowest,
-        times,
-        swaps,
-    } = costs;
-    let Reading {
-        live,
-        unwalked,
-        weight,
-        shadow_weight,
-        parts,
-    } = Reading::of(&measured.collection);
-    let bound = Bound::of::<RangeBuilder>(u32::try_from(live).unwrap_or(u32::MAX));
-    let rooms = measured.collection.index().rooms();
+    let told = Reading::of(&measured.collection);
+    let bound = Bound::of::<RangeBuilder>(u32::try_from(told.live).unwrap_or(u32::MAX));
     println!(watch.rt;
-        "{order} {word} {updates} turns {turns} marks {marks} touches {touches} most turns {most_turns} of {} most marks {most_marks} of {}",
-        bound.turns, bound.marks
+        "{order} {word} {} turns {} marks {} touches {} most turns {} of {} most marks {} of {}",
+        costs.updates,
+        costs.turns,
+        costs.marks,
+        costs.touches,
+        costs.most_turns,
+        bound.turns,
+        costs.most_marks,
+        bound.marks
     )?;
-    let unwalked = unwalked.unwrap_or(0);
     println!(watch.rt;
-        "{order} rebuilds {rebuilds} live {live} unwalked {unwalked} weight {weight} shadow {shadow_weight} parts {parts} rooms {rooms}"
+        "{order} rebuilds {} live {} unwalked {} weight {} shadow {} parts {} rooms {}",
+        costs.rebuilds,
+        told.live,
+        told.unwalked.unwrap_or(0),
+        told.weight,
+        told.shadow_weight,
+        told.parts,
+        measured.collection.index().rooms()
     )?;
-    if let Some((number, cost)) = slowest {
+    if let Some((number, cost)) = costs.slowest {
         println!(watch.rt; "slowest of {word} {number} {cost}")?;
     }
-    watch.report(word, times)?;
-    watch.report("swaps", swaps)
+    watch.report(word, costs.times)?;
+    watch.report("swaps", costs.swaps)
 }

@@ -1,20 +1,43 @@
-//! Updates whose memory is asked for twice.
-ghost use Rattle.std.specs.Prelude.{◌≡◌, ◌+◌, ◌<◌, ◌≤◌, ◌^◌, ◌++◌, ◌∷◌, [], Some, IfOk, OnErr, IsTrue, length};
+//! Work and updates whose memory is asked for twice.
+ghost use Rattle.std.specs.Prelude.{◌≡◌, ◌+◌, ◌<◌, ◌≤◌, ◌^◌, ◌++◌, ◌∷◌, [], Ok, Some, IfOk, OnErr, IsTrue, length};
 ghost use Rattle.id_chain.specs.Chain.{HandlesDiffer, is_linked, item_at, without_handle};
 
 use crate::collection::Collection;
+use crate::refusals::Refusals;
 use builder_trait::{Builder, Part};
 use id_chain::Handle;
 use query_laws::step_ledger::Steps;
 use query_laws::{Item, NoMemory};
 use std::sync::ledger::Ledger;
 
-/// Adds an item, and tries once more where memory is refused: so a trial goes on after a refusal, and tells what that changed.
+/// Does some work, and does it once more where memory is refused, which it counts: so a trial goes on after a refusal, and tells what that changed.
+///
+/// `NoMemory` where it is refused twice.
+pub fn do_or_retry<T: Drop, F: FnMut() -> Result<T, NoMemory>>(
+    refused: &mut u64,
+    mut work: F,
+) -> Result<T, NoMemory>
+where
+    F: Drop,
+    requires { F.IsAlwaysCallable work }
+    ensures { IfOk result (λ done. (state : F) × F.post state (Ok done)) }
+{
+    match work() {
+        Ok(done) => Ok(done),
+        Err(_refused) => {
+            *refused = refused.wrapping_add(1);
+            work()
+        }
+    }
+}
+
+/// Adds an item, and tries once more where memory is refused, which it counts.
 ///
 /// `NoMemory` where it is refused twice.
 pub fn add_or_retry<B: Builder, L: Ledger>(
     collection: &mut Collection<B>,
     item: B::Item,
+    refusals: &mut Refusals,
     steps: &mut Steps<L>,
 ) -> Result<Handle, NoMemory>
     requires later { collection.old.index.stamps ≤ B.Item.stamp item }
@@ -23,19 +46,25 @@ pub fn add_or_retry<B: Builder, L: Ledger>(
     ensures added { IfOk result (λ handle. collection.new.entries ≡ collection.old.entries ++ record { handle = handle; item = item } ∷ []) }
     ensures stamps { IfOk result (λ _. collection.new.index.stamps ≡ B.Item.stamp item + 1) }
     ensures refused { OnErr result (collection.new.entries ≡ collection.old.entries) }
+    ensures stamps_refused { OnErr result (collection.new.index.stamps ≡ collection.old.index.stamps) }
 {
+    let was_rebuilding = collection.index().unwalked().is_some();
     match collection.add(item, steps) {
         Ok(handle) => Ok(handle),
-        Err(_refused) => collection.add(item, steps),
+        Err(_refused) => {
+            refusals.take_in(was_rebuilding);
+            collection.add(item, steps)
+        }
     }
 }
 
-/// Removes an item, and tries once more where memory is refused.
+/// Removes an item, and tries once more where memory is refused, which it counts.
 ///
 /// `NoMemory` where it is refused twice.
 pub fn remove_or_retry<B: Builder, L: Ledger>(
     collection: &mut Collection<B>,
     handle: Handle,
+    refusals: &mut Refusals,
     steps: &mut Steps<L>,
 ) -> Result<B::Item, NoMemory>
     requires linked { IsTrue (is_linked handle collection.old.entries) }
@@ -46,8 +75,12 @@ pub fn remove_or_retry<B: Builder, L: Ledger>(
     ensures stamps { collection.new.index.stamps ≡ collection.old.index.stamps }
     ensures refused { OnErr result (collection.new.entries ≡ collection.old.entries) }
 {
+    let was_rebuilding = collection.index().unwalked().is_some();
     match collection.remove(handle, steps) {
         Ok(item) => Ok(item),
-        Err(_refused) => collection.remove(handle, steps),
+        Err(_refused) => {
+            refusals.take_in(was_rebuilding);
+            collection.remove(handle, steps)
+        }
     }
 }

@@ -1,5 +1,6 @@
 //! What was done in trials, and what was answered.
 use crate::reading::Reading;
+use crate::refusals::Refusals;
 use std::fmt;
 
 /// Sums of one trial or more, modulo 2^64.
@@ -25,6 +26,8 @@ pub struct Seen {
     pub counts: u64,
     /// The identifiers in answers to lists.
     pub ids: u64,
+    /// They aren't printed with the others.
+    pub refusals: Refusals,
 }
 
 impl Seen {
@@ -36,43 +39,24 @@ impl Seen {
         self.shadow_weight = self.shadow_weight.wrapping_add(reading.shadow_weight);
         self.parts = self.parts.wrapping_add(reading.parts as u64);
     }
-
-    /// The sums of both.
-    pub fn plus(self, other: Seen) -> Seen {
-        Seen {
-            added: self.added.wrapping_add(other.added),
-            dropped: self.dropped.wrapping_add(other.dropped),
-            rebuilds: self.rebuilds.wrapping_add(other.rebuilds),
-            live: self.live.wrapping_add(other.live),
-            unwalked: self.unwalked.wrapping_add(other.unwalked),
-            weight: self.weight.wrapping_add(other.weight),
-            shadow_weight: self.shadow_weight.wrapping_add(other.shadow_weight),
-            parts: self.parts.wrapping_add(other.parts),
-            consulted: self.consulted.wrapping_add(other.consulted),
-            counts: self.counts.wrapping_add(other.counts),
-            ids: self.ids.wrapping_add(other.ids),
-        }
-    }
 }
 
 impl fmt::Display for Seen {
     fn fmt<W: fmt::Write>(&self, f: &mut fmt::Formatter<W>) -> fmt::Result {
-        let Seen {
-            added,
-            dropped,
-            rebuilds,
-            live,
-            unwalked,
-            weight,
-            shadow_weight,
-            parts,
-            consulted,
-            counts,
-            ids,
-        } = *self;
         write!(
             f,
-            "adds {added} drops {dropped} rebuilds {rebuilds} live {live} unwalked {unwalked} weight {weight} shadow {shadow_weight} parts {parts} consulted {consulted} counts {counts} ids {ids}"
+            "adds {} drops {} rebuilds {} live {} unwalked {} weight {} shadow {} parts {} consulted {} counts {} ids {}",
+            self.added,
+            self.dropped,
+            self.rebuilds,
+            self.live,
+            self.unwalked,
+            self.weight,
+            self.shadow_weight,
+            self.parts,
+            self.consulted,
+            self.counts,
+            self.ids
         )
     }
 }

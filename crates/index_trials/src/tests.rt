@@ -1,10 +1,9 @@
 //! Rows of an index of points, worked out by hand: adds, drops, and rebuilds between them.
-ghost use Rattle.std.specs.Prelude.{◌≡◌, ◌<◌, ◌≤◌, ◌^◌, IfOk, OnOk, length};
+ghost use Rattle.std.specs.Prelude.{◌≡◌, ◌≤◌, OnOk, IfSome, IsTrue, length};
+ghost use Rattle.id_chain.specs.Chain.{is_linked};
 
-use crate::{
-    Collection, Reading, answer_over, check_given_up, check_indexes, measure_index, remove_newest,
-    remove_oldest,
-};
+use crate::{Collection, Reading, answer_over, check_given_up, check_indexes, measure_index};
+use id_chain::{Chain, Handle};
 use map_samples::{Failure, Watch};
 use map_shapes::{CountIn, Point, Rect};
 use query_laws::NoMemory;
@@ -37,50 +36,8 @@ fn point(id: u64) -> Point
     }
 }
 
-/// Adds the points with identifiers from one to below another.
-fn add<L: Ledger>(
-    collection: &mut Collection<RangeBuilder>,
-    from: u64,
-    to: u64,
-    steps: &mut Steps<L>,
-) -> Result<(), NoMemory>
-    requires ordered { from ≤ to }
-    requires few { to < 2 ^ 10 }
-    requires stamps { collection.old.index.stamps ≤ from }
-    requires length { length collection.old.entries ≤ from }
-    ensures stamps { OnOk result (collection.new.index.stamps ≤ to) }
-    ensures length { OnOk result (length collection.new.entries ≤ to) }
-{
-    for id in from..to {
-        collection.add(point(id), steps)?;
-    }
-    Ok(())
-}
-
-/// Drops so many of the oldest points.
-fn drop_oldest<L: Ledger>(
-    collection: &mut Collection<RangeBuilder>,
-    count: u64,
-    steps: &mut Steps<L>,
-) -> Result<(), NoMemory>
-    ensures stamps { collection.new.index.stamps ≡ collection.old.index.stamps }
-    ensures no_more { length collection.new.entries ≤ length collection.old.entries }
-{
-    for _dropped in 0..count {
-        remove_oldest(collection, steps)?;
-    }
-    Ok(())
-}
-
 /// What is seen of an index: unwalked, weight, shadow weight and parts, and a count of all its points.
-#[derive(Clone, Copy, Debug, PartialEq)]
-struct Row {
-    unwalked: Option<u64>,
-    weight: u64,
-    shadow_weight: u64,
-    parts: u32,
-    count: u64,
-}
+type Row = (Option<u64>, u64, u64, u32, u64);
 
 fn row_of<L: Ledger>(
     alloc: Global,
@@ -89,59 +46,61 @@ fn row_of<L: Ledger>(
 ) -> Result<Row, NoMemory> {
     let reading = Reading::of(collection);
     let (count, _consulted) = answer_over(alloc, &CountIn(ALL), collection, steps)?;
-    Ok(Row {
-        unwalked: reading.unwalked,
-        weight: reading.weight,
-        shadow_weight: reading.shadow_weight,
-        parts: reading.parts,
+    Ok((
+        reading.unwalked,
+        reading.weight,
+        reading.shadow_weight,
+        reading.parts,
         count,
-    })
+    ))
 }
 
-/// An update, or so many of one kind.
+/// An update.
 #[derive(Clone, Copy, Debug, PartialEq)]
 enum Move {
-    Add(u64),
-    DropOldest(u64),
+    Add,
+    DropOldest,
     DropNewest,
 }
 
-/// The most points that a test adds.
-const MOST: u64 = 1_000;
-
-/// Makes a move. The identifier of the next point comes in and goes out.
-fn make<L: Ledger>(
-    collection: &mut Collection<RangeBuilder>,
-    chosen: Move,
-    next: u64,
-    steps: &mut Steps<L>,
-) -> Result<u64, NoMemory>
-    requires few { next ≤ 1000 }
-    requires stamps { collection.old.index.stamps ≤ next }
-    requires length { length collection.old.entries ≤ next }
-    ensures few { IfOk result (λ later. later ≤ 1000) }
-    ensures stamps { IfOk result (λ later. collection.new.index.stamps ≤ later) }
-    ensures length { IfOk result (λ later. length collection.new.entries ≤ later) }
+/// The item that a move takes out of a chain, where it does.
+fn dropped_by(chosen: Move, chain: &Chain<Point>) -> Option<Handle>
+    ensures { IfSome result (λ handle. IsTrue (is_linked handle chain.now.entries)) }
 {
     match chosen {
-        Move::Add(count) => {
-            let later = next.saturating_add(count).min(MOST);
-            add(collection, next, later, steps)?;
-            Ok(later)
-        }
-        Move::DropOldest(count) => {
-            drop_oldest(collection, count, steps)?;
-            Ok(next)
-        }
-        Move::DropNewest => {
-            remove_newest(collection, steps)?;
-            Ok(next)
-        }
+        Move::DropOldest => chain.first(),
+        Move::DropNewest => chain.last(),
+        Move::Add => None,
     }
 }
 
-/// What is seen after each of some moves, from no points on.
-fn seen_after<L: Ledger>(alloc: Global, moves: &[Move], blank: Blank) -> Result<Vec<Row>, NoMemory>
+/// Makes a move so many times. The identifier of a point is the least that none had, below 1,000.
+fn make<L: Ledger>(
+    collection: &mut Collection<RangeBuilder>,
+    chosen: Move,
+    times: u32,
+    steps: &mut Steps<L>,
+) -> Result<(), NoMemory>
+    requires few { length collection.old.entries ≤ collection.old.index.stamps }
+    ensures few { OnOk result (length collection.new.entries ≤ collection.new.index.stamps) }
+{
+    for _made in 0..times {
+        let next = collection.index().stamps();
+        if let Some(handle) = dropped_by(chosen, collection.chain()) {
+            collection.remove(handle, steps)?;
+        } else if chosen == Move::Add && next < 1_000 {
+            collection.add(point(next), steps)?;
+        }
+    }
+    Ok(())
+}
+
+/// What is seen after each of some moves, each made so many times, from no points on.
+fn seen_after<L: Ledger>(
+    alloc: Global,
+    moves: &[(Move, u32)],
+    blank: Blank,
+) -> Result<Vec<Row>, NoMemory>
     requires name { blank.name ≡ L.name }
     requires parts { blank.parts ≡ L.parts }
     requires shares { blank.parts ≡ SHARES }
@@ -149,9 +108,8 @@ fn seen_after<L: Ledger>(alloc: Global, moves: &[Move], blank: Blank) -> Result<
     let mut steps = Steps::<L>::new(blank);
     let mut collection = Collection::new(alloc);
     let mut rows = Vec::new(alloc);
-    let mut next = 0;
-    for chosen in moves {
-        next = make(&mut collection, *chosen, next, &mut steps)?;
+    for (chosen, times) in moves {
+        make(&mut collection, *chosen, *times, &mut steps)?;
         rows.push(row_of(alloc, &collection, &mut steps)?)?;
     }
     Ok(rows)
@@ -160,13 +118,13 @@ fn seen_after<L: Ledger>(alloc: Global, moves: &[Move], blank: Blank) -> Result<
 #[test]
 fn rebuilds_in_two_updates(rt: HostRuntime) -> Result<(), Fail> {
     let moves = [
-        Move::Add(20),
-        Move::DropOldest(12),
-        Move::DropOldest(1),
-        Move::DropOldest(1),
-        Move::Add(1),
-        Move::Add(1),
-        Move::Add(1),
+        (Move::Add, 20),
+        (Move::DropOldest, 12),
+        (Move::DropOldest, 1),
+        (Move::DropOldest, 1),
+        (Move::Add, 1),
+        (Move::Add, 1),
+        (Move::Add, 1),
     ];
     let wanted = [
         (None, 20, 0, 6, 20),
@@ -178,17 +136,7 @@ fn rebuilds_in_two_updates(rt: HostRuntime) -> Result<(), Fail> {
         (None, 10, 0, 5, 9),
     ];
     let rows = seen_after::<Brand>(rt.alloc(), &moves, blank())?;
-    assert_eq!(rt; rows.len(), wanted.len());
-    for (row, wanted) in rows.iter().zip(wanted) {
-        let seen = (
-            row.unwalked,
-            row.weight,
-            row.shadow_weight,
-            row.parts,
-            row.count,
-        );
-        assert_eq!(rt; seen, wanted);
-    }
+    assert_eq!(rt; rows.as_slice(), wanted.as_slice());
     Ok(())
 }
 
@@ -196,17 +144,19 @@ fn rebuilds_in_two_updates(rt: HostRuntime) -> Result<(), Fail> {
 #[test]
 fn rebuilds_with_nothing_live(rt: HostRuntime) -> Result<(), Fail> {
     let moves = [
-        Move::Add(9),
-        Move::DropOldest(8),
-        Move::DropOldest(1),
-        Move::Add(1),
+        (Move::Add, 9),
+        (Move::DropOldest, 8),
+        (Move::DropOldest, 1),
+        (Move::Add, 1),
     ];
-    let wanted = [(None, 9, 9), (None, 9, 1), (Some(0), 9, 0), (None, 1, 1)];
+    let wanted = [
+        (None, 9, 0, 4, 9),
+        (None, 9, 0, 3, 1),
+        (Some(0), 9, 0, 3, 0),
+        (None, 1, 0, 1, 1),
+    ];
     let rows = seen_after::<Brand>(rt.alloc(), &moves, blank())?;
-    assert_eq!(rt; rows.len(), wanted.len());
-    for (row, wanted) in rows.iter().zip(wanted) {
-        assert_eq!(rt; (row.unwalked, row.weight, row.count), wanted);
-    }
+    assert_eq!(rt; rows.as_slice(), wanted.as_slice());
     Ok(())
 }
 
@@ -214,28 +164,24 @@ fn rebuilds_with_nothing_live(rt: HostRuntime) -> Result<(), Fail> {
 #[test]
 fn rebuilds_with_five_live(rt: HostRuntime) -> Result<(), Fail> {
     for (last, wanted_last) in [
-        (Move::DropOldest(1), (Some(1), 16, 4, 4)),
-        (Move::DropNewest, (Some(0), 16, 4, 4)),
-        (Move::Add(1), (Some(2), 17, 4, 6)),
+        (Move::DropOldest, (Some(1), 16, 4, 2, 4)),
+        (Move::DropNewest, (Some(0), 16, 4, 2, 4)),
+        (Move::Add, (Some(2), 17, 4, 3, 6)),
     ] {
         let moves = [
-            Move::Add(16),
-            Move::DropOldest(10),
-            Move::DropOldest(1),
-            last,
+            (Move::Add, 16),
+            (Move::DropOldest, 10),
+            (Move::DropOldest, 1),
+            (last, 1),
         ];
         let wanted = [
-            (None, 16, 0, 16),
-            (None, 16, 0, 6),
-            (Some(5), 16, 0, 5),
+            (None, 16, 0, 6, 16),
+            (None, 16, 0, 3, 6),
+            (Some(5), 16, 0, 2, 5),
             wanted_last,
         ];
         let rows = seen_after::<Brand>(rt.alloc(), &moves, blank())?;
-        assert_eq!(rt; rows.len(), wanted.len());
-        for (row, wanted) in rows.iter().zip(wanted) {
-            let seen = (row.unwalked, row.weight, row.shadow_weight, row.count);
-            assert_eq!(rt; seen, wanted);
-        }
+        assert_eq!(rt; rows.as_slice(), wanted.as_slice());
     }
     Ok(())
 }

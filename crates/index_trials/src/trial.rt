@@ -1,18 +1,20 @@
 //! A collection beside a plain list.
-ghost use Rattle.std.specs.Prelude.{◌≡◌, ◌+◌, ◌<◌, ◌^◌, OnOk, IfOk, length, map, remove};
+ghost use Rattle.std.specs.Prelude.{◌≡◌, ◌+◌, ◌<◌, ◌≤◌, ◌^◌, IfOk, OnOk, OnErr, IsTrue, length, map, remove, vec_len, vec_capacity};
 ghost use Rattle.map_shapes.specs.Questions.{count_in, ids_in};
+ghost use Rattle.index_trials.specs.Reading.{is_light};
 ghost use Rattle.index_trials.specs.Trial.{AreAlike};
 
 use crate::asking::answer_over;
 use crate::collection::Collection;
 use crate::light::expect_light;
 use crate::reading::Reading;
-use crate::retrying::{add_or_retry, remove_or_retry};
+use crate::retrying::do_or_retry;
 use crate::seen::Seen;
 use crate::walking::items_of;
 use id_chain::Handle;
 use map_samples::{Failure, PlainList, expect_same, sum_of};
 use map_shapes::{CountIn, ListIn, Point, Rect};
+use query_laws::NoMemory;
 use query_laws::step_ledger::Steps;
 use range_tree::RangeBuilder;
 use std::alloc::Global;
@@ -28,51 +30,84 @@ pub struct Trial {
     pub list: PlainList,
     pub handles: Vec<Handle>,
     pub added: u64,
+    alloc: Global,
     is_rebuilding: bool,
-    seen: Seen,
+    /// What was done and answered so far.
+    pub seen: Seen,
+    pub ghost alike: { AreAlike added collection.index.stamps collection.entries list.points.items handles.items },
+}
+
+/// A collection and a plain list, of which nothing is known before they are compared.
+#[derive(Clone, Copy)]
+pub struct Beside<'a> {
+    pub collection: &'a Collection<RangeBuilder>,
+    pub list: &'a PlainList,
+}
+
+impl Beside<'_> {
+    /// What the index tells of itself, where as many points are live as in the list, and little is dead or a rebuild is in time.
+    ///
+    /// `Differs` where it isn't so.
+    pub fn compare<C: Debug>(&self, alloc: Global, case: &C) -> Result<Reading, Failure>
+        ensures live { OnOk result (length self.now.collection.now.entries ≡ length self.now.list.now.points.items) }
+        ensures light { IfOk result (λ reading. IsTrue (is_light reading)) }
+    {
+        let reading = Reading::of(self.collection);
+        let live = self.list.live() as u64;
+        expect_same(alloc, "live", case, &reading.live, &live)?;
+        expect_light(alloc, case, &reading)?;
+        Ok(reading)
+    }
 }
 
 impl Trial {
-    /// Nothing is added yet.
-    pub fn new(alloc: Global) -> Result<Trial, Failure>
-        ensures none { IfOk result (λ trial. trial.added ≡ 0) }
-        ensures alike { IfOk result (λ t. AreAlike t.added t.collection.index.stamps t.collection.entries t.list.points.items t.handles.items) }
+    /// Nothing is added yet. It goes on with what was seen before.
+    pub fn new(alloc: Global, seen: Seen) -> Trial
+        ensures none { result.added ≡ 0 }
     {
-        Ok(Trial {
+        Trial {
             collection: Collection::new(alloc),
-            list: PlainList::new(alloc, &[])?,
+            list: PlainList {
+                points: Vec::new(alloc),
+            },
             handles: Vec::new(alloc),
             added: 0,
+            alloc,
             is_rebuilding: false,
-            seen: Seen::default(),
-        })
+            seen,
+        }
     }
 
     /// Adds a point to both.
-    pub fn add<L: Ledger>(&mut self, point: Point, steps: &mut Steps<L>) -> Result<(), Failure>
+    ///
+    /// `NoMemory` where memory for it isn't given. Both have the same points as before.
+    pub fn add<L: Ledger>(&mut self, point: Point, steps: &mut Steps<L>) -> Result<(), NoMemory>
         requires light { self.old.added < 2 ^ 28 }
         requires numbered { point.stamp ≡ self.old.added }
-        requires alike { AreAlike self.old.added self.old.collection.index.stamps self.old.collection.entries self.old.list.points.items self.old.handles.items }
-        ensures alike { OnOk result (AreAlike self.new.added self.new.collection.index.stamps self.new.collection.entries self.new.list.points.items self.new.handles.items) }
         ensures added { OnOk result (self.new.added ≡ self.old.added + 1) }
+        ensures refused { OnErr result ((self.new.added ≡ self.old.added) × (self.new.list.points.items ≡ self.old.list.points.items)) }
     {
-        let handle = add_or_retry(&mut self.collection, point, steps)?;
-        self.handles.push(handle)?;
-        self.list.points.push(point)?;
+        self.handles.reserve(1)?;
+        self.list.points.reserve(1)?;
+        self.collection.reserve(1)?;
+        let handle = self.collection.add(point, steps)?;
+        self.handles.push(handle).unwrap();
+        self.list.points.push(point).unwrap();
         self.added += 1;
         self.seen.added = self.seen.added.wrapping_add(1);
         Ok(())
     }
 
     /// Drops the point at a place of the list from both.
-    pub fn drop_at<L: Ledger>(&mut self, place: usize, steps: &mut Steps<L>) -> Result<(), Failure>
+    ///
+    /// `NoMemory` where memory for that isn't given. Both have the same points as before.
+    pub fn drop_at<L: Ledger>(&mut self, place: usize, steps: &mut Steps<L>) -> Result<(), NoMemory>
         requires within { place < length self.old.list.points.items }
-        requires alike { AreAlike self.old.added self.old.collection.index.stamps self.old.collection.entries self.old.list.points.items self.old.handles.items }
-        ensures alike { OnOk result (AreAlike self.new.added self.new.collection.index.stamps self.new.collection.entries self.new.list.points.items self.new.handles.items) }
         ensures dropped { OnOk result (self.new.list.points.items ≡ remove self.old.list.points.items place) }
         ensures added { self.new.added ≡ self.old.added }
+        ensures refused { OnErr result (self.new.list.points.items ≡ self.old.list.points.items) }
     {
-        remove_or_retry(&mut self.collection, self.handles[place], steps)?;
+        self.collection.remove(self.handles[place], steps)?;
         self.handles.remove(place);
         self.list.points.remove(place);
         self.seen.dropped = self.seen.dropped.wrapping_add(1);
@@ -80,53 +115,43 @@ impl Trial {
     }
 
     /// Begins an update that doesn't come, as one to which memory is refused.
-    pub fn give_up<L: Ledger>(&mut self, steps: &mut Steps<L>) -> Result<(), Failure>
-        requires alike { AreAlike self.old.added self.old.collection.index.stamps self.old.collection.entries self.old.list.points.items self.old.handles.items }
-        ensures alike { OnOk result (AreAlike self.new.added self.new.collection.index.stamps self.new.collection.entries self.new.list.points.items self.new.handles.items) }
+    pub fn give_up<L: Ledger>(&mut self, steps: &mut Steps<L>) -> Result<(), NoMemory>
+        ensures same_list { self.new.list ≡ self.old.list }
         ensures added { self.new.added ≡ self.old.added }
     {
-        self.collection.give_up(steps)?;
-        Ok(())
+        self.collection.give_up(steps)
     }
 
-    /// How many points are live, by the list.
-    pub fn live(&self) -> usize
-        ensures { result ≡ length self.now.list.points.items }
+    /// Counts a refused update, by whether it is an add, which takes memory for the lists and the chain first, and whether a rebuild ran before it.
+    pub fn take_refusal(&mut self, is_add: bool, was_rebuilding: bool)
+        ensures same_list { self.new.list ≡ self.old.list }
+        ensures same_added { self.new.added ≡ self.old.added }
     {
-        self.list.live()
-    }
-
-    /// How many points were added: the stamp of the next one.
-    pub fn added(&self) -> u64
-        ensures { result ≡ self.now.added }
-    {
-        self.added
-    }
-
-    /// How many points the walk hasn't come by, where a rebuild runs.
-    pub fn unwalked(&self) -> Option<u64> {
-        self.collection.index().unwalked()
-    }
-
-    /// What was done and answered so far.
-    pub fn seen(&self) -> Seen {
-        self.seen
+        let has_room = self.handles.len() < self.handles.capacity()
+            && self.list.points.len() < self.list.points.capacity()
+            && self.collection.chain().spare() > 0;
+        if is_add && !has_room {
+            self.seen.refusals.own = self.seen.refusals.own.wrapping_add(1);
+        } else {
+            self.seen.refusals.take_in(was_rebuilding);
+        }
     }
 
     /// Compares what the index says of itself with the list, and with what may be dead of it.
     ///
     /// `Differs` where it isn't so.
-    pub fn compare<C: Debug>(&mut self, alloc: Global, case: &C) -> Result<(), Failure>
+    pub fn compare<C: Debug>(&mut self, case: &C) -> Result<(), Failure>
         ensures live { OnOk result (length self.old.collection.entries ≡ length self.old.list.points.items) }
         ensures same_collection { self.new.collection ≡ self.old.collection }
         ensures same_list { self.new.list ≡ self.old.list }
         ensures same_handles { self.new.handles ≡ self.old.handles }
         ensures same_added { self.new.added ≡ self.old.added }
     {
-        let reading = Reading::of(&self.collection);
-        let live = self.list.live() as u64;
-        expect_same(alloc, "live", case, &reading.live, &live)?;
-        expect_light(alloc, case, &reading)?;
+        let beside = Beside {
+            collection: &self.collection,
+            list: &self.list,
+        };
+        let reading = beside.compare(self.alloc, case)?;
         let is_rebuilding = reading.unwalked.is_some();
         if is_rebuilding && !self.is_rebuilding {
             self.seen.rebuilds = self.seen.rebuilds.wrapping_add(1);
@@ -139,27 +164,21 @@ impl Trial {
     /// Compares the points of the chain, from the first to the last, with those of the list.
     ///
     /// `Differs` where their identifiers aren't the same.
-    pub fn compare_points<C: Debug>(&self, alloc: Global, case: &C) -> Result<(), Failure> {
-        let mut ids = Vec::new(alloc);
-        for point in &items_of(alloc, self.collection.chain())? {
-            ids.push(point.id)?;
-        }
-        let mut wanted = Vec::new(alloc);
-        for point in &self.list.points {
-            wanted.push(point.id)?;
-        }
+    pub fn compare_points<C: Debug>(&mut self, case: &C) -> Result<(), Failure>
+        ensures same_list { self.new.list ≡ self.old.list }
+        ensures same_added { self.new.added ≡ self.old.added }
+    {
+        let (alloc, chain, points) = (self.alloc, self.collection.chain(), &self.list.points);
+        let own = &mut self.seen.refusals.own;
+        let ids = do_or_retry(own, || ids_of(alloc, &items_of(alloc, chain)?))?;
+        let wanted = do_or_retry(own, || ids_of(alloc, points))?;
         expect_same(alloc, "chain", case, &ids, &wanted)
     }
 
     /// Puts two questions about a rectangle to both.
     ///
     /// `Differs` where an answer of the index isn't that of the list, or where not each part was consulted once.
-    pub fn ask_about<L: Ledger>(
-        &mut self,
-        alloc: Global,
-        rect: Rect,
-        steps: &mut Steps<L>,
-    ) -> Result<(), Failure>
+    pub fn ask_about<L: Ledger>(&mut self, rect: Rect, steps: &mut Steps<L>) -> Result<(), Failure>
         ensures counts { OnOk result (count_in rect (map (λ e. e.item) self.old.collection.entries) ≡ count_in rect self.old.list.points.items) }
         ensures ids { OnOk result (ids_in rect (map (λ e. e.item) self.old.collection.entries) ≡ ids_in rect self.old.list.points.items) }
         ensures same_collection { self.new.collection ≡ self.old.collection }
@@ -167,16 +186,27 @@ impl Trial {
         ensures same_handles { self.new.handles ≡ self.old.handles }
         ensures same_added { self.new.added ≡ self.old.added }
     {
-        let (count, consulted) = answer_over(alloc, &CountIn(rect), &self.collection, steps)?;
-        expect_same(alloc, "count", &rect, &count, &self.list.count(&rect))?;
-        let parts = self.collection.index().parts();
+        let (alloc, collection, list) = (self.alloc, &self.collection, &self.list);
+        let (count, consulted) = answer_over(alloc, &CountIn(rect), collection, steps)?;
+        expect_same(alloc, "count", &rect, &count, &list.count(&rect))?;
+        let parts = collection.index().parts();
         expect_same(alloc, "consulted", &rect, &consulted, &parts)?;
-        let (ids, _parts) = answer_over(alloc, &ListIn(rect), &self.collection, steps)?;
+        let own = &mut self.seen.refusals.own;
+        let (ids, _parts) = do_or_retry(
+            own,
+            || answer_over(alloc, &ListIn(rect), collection, steps),
+        )?;
         let ids = ids.into_vec();
-        expect_same(alloc, "list", &rect, &ids, &self.list.list(alloc, &rect)?)?;
+        let wanted = do_or_retry(own, || Ok(list.list(alloc, &rect)?))?;
+        expect_same(alloc, "list", &rect, &ids, &wanted)?;
         self.seen.counts = self.seen.counts.wrapping_add(count);
         self.seen.ids = self.seen.ids.wrapping_add(sum_of(&ids));
         self.seen.consulted = self.seen.consulted.wrapping_add(consulted as u64);
         Ok(())
     }
+}
+
+/// The identifiers of some points, in their order.
+fn ids_of(alloc: Global, points: &[Point]) -> Result<Vec<u64>, NoMemory> {
+    Ok(points.iter().map(|point| point.id).collect(alloc)?)
 }
