@@ -58,6 +58,80 @@ impl Beside<'_> {
         expect_light(alloc, case, &reading)?;
         Ok(reading)
     }
+
+    /// How many points are in a rectangle, and how many parts were consulted.
+    ///
+    /// `Differs` where the count of the index isn't that of the list, or where not each part was consulted once.
+    pub fn count<L: Ledger>(
+        &self,
+        alloc: Global,
+        rect: Rect,
+        steps: &mut Steps<L>,
+    ) -> Result<(u64, u32), Failure>
+        ensures { OnOk result (count_in rect (map (λ e. e.item) self.now.collection.now.entries) ≡ count_in rect self.now.list.now.points.items) }
+    {
+        let (count, consulted) = answer_over(alloc, &CountIn(rect), self.collection, steps)?;
+        expect_same(alloc, "count", &rect, &count, &self.list.count(&rect))?;
+        let parts = self.collection.index().parts();
+        expect_same(alloc, "consulted", &rect, &consulted, &parts)?;
+        Ok((count, consulted))
+    }
+
+    /// The identifiers of the points in a rectangle. It asks twice for memory, and counts a refusal.
+    ///
+    /// `Differs` where the list of the index isn't that of the list.
+    pub fn list<L: Ledger>(
+        &self,
+        alloc: Global,
+        rect: Rect,
+        refused: &mut u64,
+        steps: &mut Steps<L>,
+    ) -> Result<Vec<u64>, Failure>
+        ensures { OnOk result (ids_in rect (map (λ e. e.item) self.now.collection.now.entries) ≡ ids_in rect self.now.list.now.points.items) }
+    {
+        let ids = self.ids_of_index(alloc, &rect, refused, steps)?;
+        let wanted = self.ids_of_list(alloc, &rect, refused)?;
+        expect_same(alloc, "list", &rect, &ids, &wanted)?;
+        Ok(ids)
+    }
+
+    /// The identifiers that the index finds.
+    fn ids_of_index<L: Ledger>(
+        &self,
+        alloc: Global,
+        rect: &Rect,
+        refused: &mut u64,
+        steps: &mut Steps<L>,
+    ) -> Result<Vec<u64>, NoMemory>
+        ensures { IfOk result (λ ids. ids.items ≡ ids_in rect.now (map (λ e. e.item) self.now.collection.now.entries)) }
+    {
+        match answer_over(alloc, &ListIn(*rect), self.collection, steps) {
+            Ok((ids, _parts)) => Ok(ids.into_vec()),
+            Err(_refused) => {
+                *refused = refused.wrapping_add(1);
+                let (ids, _parts) = answer_over(alloc, &ListIn(*rect), self.collection, steps)?;
+                Ok(ids.into_vec())
+            }
+        }
+    }
+
+    /// The identifiers that the list finds.
+    fn ids_of_list(
+        &self,
+        alloc: Global,
+        rect: &Rect,
+        refused: &mut u64,
+    ) -> Result<Vec<u64>, NoMemory>
+        ensures { IfOk result (λ ids. ids.items ≡ ids_in rect.now self.now.list.now.points.items) }
+    {
+        match self.list.list(alloc, rect) {
+            Ok(ids) => Ok(ids),
+            Err(_refused) => {
+                *refused = refused.wrapping_add(1);
+                Ok(self.list.list(alloc, rect)?)
+            }
+        }
+    }
 }
 
 impl Trial {
@@ -186,19 +260,13 @@ impl Trial {
         ensures same_handles { self.new.handles ≡ self.old.handles }
         ensures same_added { self.new.added ≡ self.old.added }
     {
-        let (alloc, collection, list) = (self.alloc, &self.collection, &self.list);
-        let (count, consulted) = answer_over(alloc, &CountIn(rect), collection, steps)?;
-        expect_same(alloc, "count", &rect, &count, &list.count(&rect))?;
-        let parts = collection.index().parts();
-        expect_same(alloc, "consulted", &rect, &consulted, &parts)?;
         let own = &mut self.seen.refusals.own;
-        let (ids, _parts) = do_or_retry(
-            own,
-            || answer_over(alloc, &ListIn(rect), collection, steps),
-        )?;
-        let ids = ids.into_vec();
-        let wanted = do_or_retry(own, || Ok(list.list(alloc, &rect)?))?;
-        expect_same(alloc, "list", &rect, &ids, &wanted)?;
+        let beside = Beside {
+            collection: &self.collection,
+            list: &self.list,
+        };
+        let (count, consulted) = beside.count(self.alloc, rect, steps)?;
+        let ids = beside.list(self.alloc, rect, own, steps)?;
         self.seen.counts = self.seen.counts.wrapping_add(count);
         self.seen.ids = self.seen.ids.wrapping_add(sum_of(&ids));
         self.seen.consulted = self.seen.consulted.wrapping_add(consulted as u64);
