@@ -40,7 +40,7 @@ pub fn measure_part<R: Print + Clock + AllocGlobal, L: Ledger>(
     let (width, height) = (spread.width(), spread.height());
     let points = random_points_in(alloc, &mut generator, 0, size, width, height)?;
     let orders = sorted(alloc, points)?;
-    let rects = random_rects(alloc, &mut generator, RECTS)?;
+    let rects = random_rects(alloc, &mut generator, RECTS, spread)?;
     let mut part = build(watch, &orders, steps)?;
     if watch.is_on {
         time_turns(watch, &orders, steps)?;
@@ -54,15 +54,39 @@ pub fn measure_part<R: Print + Clock + AllocGlobal, L: Ledger>(
     Ok(())
 }
 
-/// So many rectangles.
-fn random_rects(alloc: Global, generator: &mut Generator, n: usize) -> Result<Vec<Rect>, AllocError>
+/// So many rectangles, across points with this spread.
+fn random_rects(
+    alloc: Global,
+    generator: &mut Generator,
+    n: usize,
+    spread: Spread,
+) -> Result<Vec<Rect>, AllocError>
     ensures { IfOk result (λ rects. vec_len rects ≡ n) }
 {
     let mut rects = Vec::with_capacity(alloc, n)?;
     for _ in 0..n {
-        rects.push(random_rect(generator, SIDE, WIDTH))?;
+        rects.push(across(spread, random_rect(generator, SIDE, WIDTH)))?;
     }
     Ok(rects)
+}
+
+/// The rectangle itself, or one of the same size that goes across the column or the row of all points.
+fn across(spread: Spread, rect: Rect) -> Rect {
+    match spread {
+        Spread::Square => rect,
+        Spread::Column => Rect {
+            x1: 0,
+            x2: WIDTH,
+            y1: rect.y1,
+            y2: rect.y2,
+        },
+        Spread::Row => Rect {
+            x1: rect.x1,
+            x2: rect.x2,
+            y1: 0,
+            y2: WIDTH,
+        },
+    }
 }
 
 /// The part of all points; prints its steps, and its time.
