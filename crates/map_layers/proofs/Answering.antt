@@ -1,8 +1,10 @@
 -- The machine's step where the layer of a name is found.
 use Rattle.std.proofs.Common.{◌≡◌, ℕ, ◌∙◌, Bool, true, false, not, ◌&&◌, if◌then◌else◌, List, [], ◌∷◌, ◌++◌, Some, None, Result, Ok, Err, length, refl, sym, ap}
-use Rattle.std.specs.Prelude.{nat_le, IfOk}
+use Rattle.std.specs.Prelude.{nat_le, IfOk, IfSome, Option}
 use Rattle.std.specs.Option.{is_some}
 use Rattle.std.proofs.lemmas.Bool.{le-leb, lt-leb}
+use Rattle.stack_levels.specs.Levels.{parts_of}
+use Rattle.global_rebuild.specs.Index.{Indexed}
 use Rattle.map_model.specs.Shape as shapes
 use Rattle.map_model.specs.Index as indexes
 use Rattle.map_model.specs.State.{Item, Layer, State, most_items, most_layers, live_count, is_live, layer_named, with_items, with_item, without_item}
@@ -15,6 +17,7 @@ use Rattle.map_layers.specs.declared.faults.UpdateFault.{UpdateFault}
 use Rattle.map_layers.specs.declared.faults.UpdateFault.TheVariants.{NoLayer, WrongKind, Duplicate, Unknown, Full, NoMemory}
 use Rattle.map_layers.specs.declared.faults.AskFault.{AskFault}
 use Rattle.map_layers.specs.declared.faults.AskFault.TheVariants as ask
+use Rattle.map_layers.specs.Costs.{IsEveryPart}
 use Rattle.map_layers.specs.Layer.{Layered, items_of, layer_of, IsAdd, IsRemoval, IsAskRefusal}
 use Rattle.map_layers.specs.Replies.{updated, asked, IsAnswered}
 
@@ -115,6 +118,12 @@ module _ (old : State) (name : List ℕ) (question : Question) (of_points : kind
     IsAnswered-ask refusable lists answer (Err (ask.Unknown id)) refused same = absurd refused
     IsAnswered-ask refusable lists answer (Err ask.NoMemory) refused same =
         (ap (λ b. b && not (is_refusal (step old (Ask name question)).reply)) (sym lists ∙ refused.1) ∙ ap (λ (o : Outcome). not (is_refusal o.reply)) (step-ask true refused.0), refl)
+
+-- a question that isn't refused is put to every part
+pub every_part : {P Item : Type 0} (index : Option (Indexed P Item)) (parts : ℕ) → is_some index ≡ true
+    → IfSome index (λ i. parts ≡ parts_of i.main.levels) → IsEveryPart index parts
+every_part None parts there are = let clash : false ≡ true = there in cc
+every_part (Some index) parts there are = are
 
 -- ---- a layer is made
 

@@ -2,6 +2,8 @@
 use Rattle.std.specs.Prelude.{◌≡◌, ℕ, ◌+◌, ◌*◌, ◌≤◌, Bool, Option, None, Some, Result, Ok, Err}
 use Rattle.query_laws.specs.StepLedger.{Counts}
 use Rattle.stack_levels.specs.Cost.{IsWithin}
+use Rattle.stack_levels.specs.Levels.{parts_of}
+use Rattle.global_rebuild.specs.Index.{Indexed}
 use Rattle.map_model.specs.State.{Layer, live_count}
 use Rattle.map_model.specs.Cost.{bounds_at, turn_bound, mark_bound, IsSpent, IsAsked}
 use Rattle.map_shapes.specs.Cost.{spent_of, asked_of}
@@ -9,6 +11,7 @@ use Rattle.map_shapes.specs.declared.asked.Asked.{Asked}
 use Rattle.map_shapes.specs.declared.spent.Spent.{Spent}
 use Rattle.map_layers.specs.declared.faults.UpdateFault.{UpdateFault}
 use Rattle.map_layers.specs.declared.faults.UpdateFault.TheVariants.{NoLayer, WrongKind, Duplicate, Unknown, Full, NoMemory}
+use Rattle.map_layers.specs.Layer.{Layered}
 
 -- two more than the greatest level that a part of the layer may have
 abbrev pub rows_of : Layer → ℕ
@@ -46,7 +49,16 @@ pub record IsAsking (layer : Layer) (most : ℕ) (asked : Asked) (old new : Coun
   pub turns : new.turns ≡ old.turns
   pub marks : new.marks ≡ old.marks
 
+-- so many as the index has complete parts
+abbrev pub IsEveryPart : {P Item : Type 0} → Option (Indexed P Item) → ℕ → Type 0
+IsEveryPart None parts = ⊥
+IsEveryPart (Some index) parts = parts ≡ parts_of index.main.levels
+
 -- ---- the same for the layer of a name, where there is one
+
+abbrev pub IsEveryPartIn : Option Layered → ℕ → Type 0
+IsEveryPartIn None parts = ⊥
+IsEveryPartIn (Some layer) parts = IsEveryPart layer.range parts
 
 abbrev pub IsCostIn : {T : Type 0} → Option Layer → Result T UpdateFault → Counts → Counts → Type 0
 IsCostIn None result old new = new ≡ old

@@ -1,18 +1,18 @@
 -- The builder's growth through the seal, a turn of the points, and the end.
-use Rattle.std.proofs.Common.{◌≡◌, ℕ, ◌+◌, ◌-◌, ◌*◌, ◌^◌, ◌<◌, ◌≤◌, Bool, true, false, cond, List, [], length, map, take, replicate, get_or, All, refl, sym, ap, ◌∙◌, arith, subst, Some, slice_get, ⊎_elim, length-take, min}
+use Rattle.std.proofs.Common.{◌≡◌, ℕ, ◌+◌, ◌-◌, ◌*◌, ◌^◌, ◌<◌, ◌≤◌, Bool, true, false, cond, List, [], length, map, get_or, All, refl, sym, ap, ◌∙◌, arith, subst, Some, slice_get, ⊎_elim}
 use Rattle.std.proofs.Math.Nat.{mul-le-mul_right, mul-le-mul_left}
 use Rattle.std.proofs.lemmas.Bool.{cases_lt}
-use Rattle.std.proofs.lemmas.Option.{slice_get_within, slice_get_cases, slice_get-get_or, get_or_from_slice_get}
-use Rattle.std.proofs.lemmas.List.{get_or-take, get_or-map, length-map}
+use Rattle.std.proofs.lemmas.Option.{slice_get_within, slice_get_cases, get_or_from_slice_get}
+use Rattle.std.proofs.lemmas.List.{get_or-map, length-map}
 use Rattle.std.proofs.lemmas.List.Elements.{All-nil}
 use Rattle.weak_delete.specs.Places.{nothing_put}
 use Rattle.builder_trait.specs.Builders.{Progress, begun, all_live, IsQuota}
 use Rattle.map_shapes.specs.declared.point.Point.{Point}
 use Rattle.range_tree.specs.declared.entry.Entry.{Entry}
 use Rattle.range_tree.specs.declared.level.Level.{Level}
-use Rattle.range_tree.specs.declared.tree.Tree.{Tree}
-use Rattle.range_tree.specs.Heights.{levels_for, levels_to, height_at}
-use Rattle.range_tree.specs.Rows.{IsEntryOf, IsLevel}
+use Rattle.range_tree.specs.declared.growing.GrowingTree.{GrowingTree}
+use Rattle.range_tree.specs.Heights.{levels_for, levels_to}
+use Rattle.range_tree.specs.Rows.{IsEntryOf}
 use Rattle.range_tree.specs.Growing.{HasRoom, IsPutting, IsCounting, IsGrowing, AreKept, emptied, turned}
 use Rattle.range_tree.proofs.Beginnings.{few_points, levels_for-within}
 use Rattle.row_blocks.proofs.Lists.{All-slots}
@@ -45,7 +45,7 @@ busy {points} {height} level counting = by level.counts.sealed refl
         omega (arith, ap (λ x. cond x (length level.counts.places - level.counts.left) 0) is, counting.open_yet is, counting.row.entry_each)
 
 -- without work no level grows
-at_end : (b : Progress Point) (tree : Tree) → IsGrowing b tree → tree.left ≡ 0 → tree.at ≡ tree.used
+at_end : (b : Progress Point) (tree : GrowingTree) → IsGrowing b tree → tree.left ≡ 0 → tree.at ≡ tree.used
 at_end b tree growing none =
     ⊎_elim (λ less. absurd (growing_still less)) (λ from. omega (arith, growing.at_within)) (cases_lt tree.at tree.used)
   where
@@ -59,31 +59,19 @@ at_end b tree growing none =
         (λ (past, none). omega (arith, growing.tree.made))
         (slice_get_cases tree.levels.items tree.at).1
 
--- what stands below a bound stands in the first items
-slice_get-take : {A : Type 0} (n : ℕ) (xs : List A) (k : ℕ) (x : A) → slice_get (take n xs) k ≡ Some x → (k < n) × (slice_get xs k ≡ Some x)
-slice_get-take n xs k x at =
-    let within : k < length (take n xs) = slice_get_within (take n xs) k x at in
-    let long : length (take n xs) ≡ min n (length xs) = length-take n xs in
-    (omega arith, slice_get-get_or xs k x (omega arith) ∙ ap Some (sym (get_or-take n xs k x (omega arith)) ∙ get_or_from_slice_get (take n xs) k x x at))
-
 -- the part keeps its levels, and those that it doesn't need
-pub AreKept-grown : (b : Progress Point) (tree : Tree) → IsGrowing b tree → tree.left ≡ 0 → AreKept (all_live b) tree.levels.items tree.used
-AreKept-grown b tree growing none =
-    let many : length (take tree.used tree.levels.items) ≡ tree.used = omega (arith, length-take tree.used tree.levels.items, growing.tree.made) in
-    record {
-      small = growing.tree.small;
-      made = growing.tree.all_made;
-      within = growing.tree.made;
-      room = growing.tree.room;
-      tree = record {
-        few = few_points (length b.items) b.at_level growing.tree.small growing.tree.few;
-        as_many = many ∙ growing.tree.used_is;
-        each = λ q level found.
-            let there = slice_get-take tree.used tree.levels.items q level found in
-            subst (λ h. IsLevel b.items (replicate (length b.items) true) h level) (ap (λ n. height_at n q) (sym many))
-            (growing.tree.built q level (omega (arith, at_end b tree growing none, there.0)) there.1);
-      };
-    }
+pub AreKept-grown : (b : Progress Point) (tree : GrowingTree) → IsGrowing b tree → tree.left ≡ 0 → AreKept (all_live b) tree.levels.items tree.used
+AreKept-grown b tree growing none = record {
+  small = growing.tree.small;
+  made = growing.tree.all_made;
+  room = growing.tree.room;
+  tree = record {
+    few = few_points (length b.items) b.at_level growing.tree.small growing.tree.few;
+    as_many = growing.tree.used_is;
+    within = growing.tree.made;
+    each = λ q level below found. growing.tree.built q level (omega (arith, at_end b tree growing none)) found;
+  };
+}
 
 -- an emptied level with room is as one that was just made
 emptied_at : (cap : ℕ) (levels : List Level) → All (HasRoom cap) levels → (k : ℕ) (level : Level) → slice_get (map emptied levels) k ≡ Some level

@@ -1,10 +1,10 @@
--- Steps of a cover: a span at the front, a span at the back, none at a level, the beginning and the end.
-use Rattle.std.proofs.Common.{◌≡◌, ◌≢◌, ℕ, ◌+◌, ◌-◌, ◌*◌, ◌/◌, ◌%◌, ◌^◌, ◌<◌, ◌≤◌, ◌⊎◌, inl, inr, List, [], ◌∷◌, ◌++◌, length, get_or, Some, slice_get, take, drop, min, refl, sym, ap, ◌∙◌, arith, subst, append-nil, append_assoc, All}
+-- Steps of a cover: a span of a block, the blocks at both ends, the beginning and the end.
+use Rattle.std.proofs.Common.{◌≡◌, ℕ, ◌+◌, ◌-◌, ◌*◌, ◌/◌, ◌%◌, ◌^◌, ◌<◌, ◌≤◌, ◌⊎◌, inl, inr, List, [], ◌∷◌, ◌++◌, length, Some, slice_get, take, drop, min, refl, sym, ap, ◌∙◌, arith, subst, append-nil, append_assoc, All}
 use Rattle.std.specs.List.{flat_map, items_where_true, filter}
 use Rattle.std.proofs.Math.Nat.{pow-le-pow_right}
 use Rattle.std.proofs.lemmas.Nat.{pow_pos, mul-le}
 use Rattle.std.proofs.lemmas.Bool.{cases_lt}
-use Rattle.std.proofs.lemmas.Option.{slice_get-get_or, same_Some}
+use Rattle.std.proofs.lemmas.Option.{same_Some}
 use Rattle.std.proofs.lemmas.List.{length_push}
 use Rattle.std.proofs.lemmas.List.Concat.{flat_map-append}
 use Rattle.std.proofs.lemmas.List.Elements.{All-push, All-nil}
@@ -13,8 +13,8 @@ use Rattle.query_laws.proofs.Permutations.{Permuted-refl, Permuted-append_left, 
 use Rattle.query_laws.specs.StepLedger.{Counts, Spends}
 use Rattle.query_laws.proofs.Counting.{Spends-then, Spends-within}
 use Rattle.weak_delete.specs.Places.{IsBuilt}
-use Rattle.row_blocks.specs.Blocks.{IsMultiple}
-use Rattle.row_blocks.proofs.Blocks.{pow_next, times_below, even_block, odd_block, first_half}
+use Rattle.row_blocks.specs.Blocks.{IsMultiple, start_of}
+use Rattle.row_blocks.proofs.Blocks.{pow_next, times_below, even_block, odd_block, zero_multiple}
 use Rattle.builder_trait.specs.Parts.{Contents}
 use Rattle.map_shapes.specs.declared.point.Point.{Point}
 use Rattle.map_shapes.specs.declared.rect.Rect.{Rect}
@@ -23,13 +23,15 @@ use Rattle.range_tree.specs.Heights.{levels_to, leaf_height, height_at}
 use Rattle.range_tree.specs.declared.level.Level.{Level}
 use Rattle.range_tree.specs.declared.span.Span.{Span}
 use Rattle.range_tree.specs.declared.cover.Cover.{Cover}
+use Rattle.range_tree.specs.declared.cover.Places.{Places}
+use Rattle.range_tree.specs.declared.tree.RangeTree.{RangeTree}
 use Rattle.row_blocks.specs.Heights.{height_of}
-use Rattle.range_tree.specs.Rows.{AreLevels, IsLevel, IsRow, IsBlock}
-use Rattle.range_tree.specs.Queries.{live_at, live_between, live_in_slice, live_in_span, IsSpan, HasRow, IsCovering, IsCover, AreWithinAbscissas, AbscissasBelow, AbscissasFrom, IsTaken}
+use Rattle.range_tree.specs.Rows.{IsLevel, IsRow, IsBlock}
+use Rattle.range_tree.specs.Queries.{live_at, live_between, live_in_slice, live_in_span, live_in_places, IsSpan, HasRow, IsCover, AreWithinAbscissas, AbscissasBelow, AbscissasFrom, IsTaken}
 use Rattle.range_tree.proofs.HeightLemmas.{height_of-above, levels_for-few, levels_for-small}
 use Rattle.range_tree.proofs.Between.{live_in-split, live_in-all, live_between-none}
 use Rattle.range_tree.proofs.Counted.{level_is, live_in_span-is}
-use Rattle.row_blocks.proofs.Partitioning.{blocks_apart}
+use Rattle.row_blocks.proofs.Partitioning.{blocks_apart, start_of_is}
 
 -- a block behind none begins one length before
 pub multiple_before : {b height : ℕ} → IsMultiple b height → 2 ^ height ≤ b → IsMultiple (b - 2 ^ height) height
@@ -39,29 +41,72 @@ multiple_before {b} {height} multiple some =
     let more : multiple.times ≡ multiple.times - 1 + 1 = omega arith in
     record { times = multiple.times - 1; is = omega (arith, multiple.is, ap (λ n. n * 2 ^ height) more) }
 
--- what is left at the back, after an odd block
-pub multiple_back : {to len height : ℕ} → IsMultiple to height → len ≡ 2 ^ height → len ≤ to → to / len % 2 ≡ 1 → IsMultiple (to - len) (height + 1)
-multiple_back {to} {len} {height} multiple is some odd =
-    let longer : IsMultiple (to + len) (height + 1) = odd_block to height len multiple is (λ e. omega arith) in
-    let twice : 2 ^ (height + 1) ≡ len + len = omega (arith, pow_next height) in
-    let same : to + len - 2 ^ (height + 1) ≡ to - len = omega arith in
-    subst (λ n. IsMultiple n (height + 1)) same (multiple_before longer (omega arith))
+-- whole blocks of half a length, without one at an end where it is no half of a whole one
+pub record IsInner (half from to low high : ℕ) : Type 0 where
+  pub ordered : low ≤ high
+  pub front : from < low → from + 2 ^ half ≡ low
+  pub back : high < to → IsMultiple high half × (high + 2 ^ half ≡ to)
 
-module _ {part : Contents Point} {levels : List Level} (tree : AreLevels part levels) {height : ℕ} (within : HasRow levels height) (d : Level) where
-  -- the level at a height
-  abbrev level : Level
-  level = get_or levels (height_at (length levels) height) d
+module _ {half from to : ℕ} (first : IsMultiple from half) (last : IsMultiple to half) (some : from < to) where
+  -- a block is the first or the second half of a larger one
+  half_of : {place : ℕ} → IsMultiple place half → IsMultiple place (half + 1) ⊎ IsMultiple (place + 2 ^ half) (half + 1)
+  half_of {place} multiple = elim (cases_lt (place / 2 ^ half % 2) 1) [
+    | inl even ↦ inl (even_block place half (2 ^ half) multiple refl (omega arith))
+    | inr odd ↦ inr (odd_block place half (2 ^ half) multiple refl (λ e. omega arith))
+  ]
 
-  there : slice_get levels (height_at (length levels) height) ≡ Some level
-  there = slice_get-get_or levels (height_at (length levels) height) d (omega arith)
+  pub IsInner-halves : {low high : ℕ} → low ≡ start_of (half + 1) (from + 2 ^ (half + 1) - 1) → high ≡ start_of (half + 1) to
+      → IsInner half from to low high
+  IsInner-halves {low} {high} low_is high_is =
+      let twice = pow_next half in
+      let pos = pow_pos half in
+      let apart = blocks_apart first last some in
+      let behind = blocks_apart (zero_multiple half) last (omega arith) in
+      elim (half_of first) [
+        | inl first_even ↦
+            let is : low ≡ from = low_is ∙ start_of_is _ first_even (omega arith) (omega arith) in
+            elim (half_of last) [
+              | inl last_even ↦ let ends : high ≡ to = high_is ∙ start_of_is _ last_even (omega arith) (omega arith) in
+                  record { ordered = omega arith; front = λ less. absurd (omega arith); back = λ less. absurd (omega arith) }
+              | inr last_odd ↦ let ends = ends_at last_odd high_is in
+                  record { ordered = omega (arith, ends); front = λ less. absurd (omega arith); back = λ less. (before_last ends, ends) }
+            ]
+        | inr first_odd ↦
+            let is : low ≡ from + 2 ^ half = low_is ∙ start_of_is _ first_odd (omega arith) (omega arith) in
+            elim (half_of last) [
+              | inl last_even ↦ let ends : high ≡ to = high_is ∙ start_of_is _ last_even (omega arith) (omega arith) in
+                  record { ordered = omega arith; front = λ less. sym is; back = λ less. absurd (omega arith) }
+              | inr last_odd ↦ let ends = ends_at last_odd high_is in
+                  record {
+                    ordered = omega (arith, ends, blocks_apart first_odd last_odd (omega arith));
+                    front = λ less. sym is;
+                    back = λ less. (before_last ends, ends);
+                  }
+            ]
+      ]
+    where
+      ends_at : IsMultiple (to + 2 ^ half) (half + 1) → high ≡ start_of (half + 1) to → high + 2 ^ half ≡ to
+      ends_at odd is =
+          let twice = pow_next half in
+          let pos = pow_pos half in
+          let behind = blocks_apart (zero_multiple half) last (omega arith) in
+          let before : IsMultiple (to - 2 ^ half) (half + 1) =
+          subst (λ n. IsMultiple n (half + 1)) (let same : to + 2 ^ half - 2 ^ (half + 1) ≡ to - 2 ^ half = omega arith in same) (multiple_before odd (omega arith)) in
+          omega (arith, is, start_of_is to before (omega arith) (omega arith), behind)
 
-  level_at : IsLevel part.items part.flags height level
+      before_last : high + 2 ^ half ≡ to → IsMultiple high half
+      before_last ends =
+          subst (λ n. IsMultiple n half) (let same : to - 2 ^ half ≡ high = omega arith in same) (multiple_before last (omega arith))
+
+module _ (tree : RangeTree) {height : ℕ} (within : HasRow tree height) (level : Level)
+    (there : slice_get tree.levels.items (height_at tree.used height) ≡ Some level) where
+  level_at : IsLevel tree.points.items tree.points.flags height level
   level_at =
-      let back : height_at (length levels) (height_at (length levels) height) ≡ height = omega arith in
-      subst (λ h. IsLevel part.items part.flags h level) back (tree.each (height_at (length levels) height) level there)
+      let back : height_at tree.used (height_at tree.used height) ≡ height = omega arith in
+      subst (λ h. IsLevel tree.points.items tree.points.flags h level) back (tree.kept.tree.each (height_at tree.used height) level (omega arith) there)
 
   -- a whole block of it
-  pub block_at : {start end : ℕ} → IsMultiple start height → start + 2 ^ height ≡ end → end ≤ length part.items
+  pub block_at : {start end : ℕ} → IsMultiple start height → start + 2 ^ height ≡ end → end ≤ length tree.points.items
       → (end ≤ length level.entries.items) × IsBlock level.entries.items start end
   block_at {start} {end} multiple is few =
       let row = level_at.row in
@@ -69,162 +114,123 @@ module _ {part : Contents Point} {levels : List Level} (tree : AreLevels part le
       (omega (arith, row.entry_each), subst (IsBlock level.entries.items start) short (row.blocks start multiple (omega (arith, row.entry_each, pow_pos height))))
 
   -- what the search in a block has found
-  module _ (rect : Rect) {start end : ℕ} (span : Span) (row : span.row ≡ height_at (length levels) height) (ordered : span.from ≤ span.to)
-      (inside : span.to ≤ end) (most : end ≤ length part.items) (abscissas : AreWithinAbscissas part start end rect)
+  module _ (rect : Rect) {start end : ℕ} (span : Span) (row : span.row ≡ height_at (tree.used) height) (ordered : span.from ≤ span.to)
+      (inside : span.to ≤ end) (most : end ≤ length tree.points.items) (abscissas : AreWithinAbscissas tree.points start end rect)
       (found : (p : Contents Point) (h : ℕ) → IsRow p.items h level.entries.items → AreWithinAbscissas p start end rect
       → Permuted (live_in_slice p level.entries.items span.from span.to) (filter (is_in rect) (live_between p start end))) where
-    here : slice_get levels span.row ≡ Some level
-    here = ap (slice_get levels) row ∙ there
+    here : slice_get tree.levels.items span.row ≡ Some level
+    here = ap (slice_get tree.levels.items) row ∙ there
 
-    is_span : IsSpan levels span
+    is_span : IsSpan tree span
     is_span = record {
       row = omega arith;
       ordered = ordered;
-      within = λ l at. subst (λ m. span.to ≤ length m.counts.places) (same_Some level l (sym here ∙ at)) (omega (arith, (level_is tree span.row level here).2));
+      within = λ l at. subst (λ m. span.to ≤ length m.counts.places) (same_Some level l (sym here ∙ at)) (omega (arith, (level_is tree span.row level (omega arith) here).2));
       built = λ l at. subst (λ m. IsBuilt m.counts) (same_Some level l (sym here ∙ at)) level_at.built;
     }
 
-    points : Permuted (live_in_span part levels span) (filter (is_in rect) (live_between part start end))
-    points = rw (live_in_span-is part levels span level here) (found part height level_at.row abscissas)
+    points : Permuted (live_in_span tree span) (filter (is_in rect) (live_between tree.points start end))
+    points = rw (live_in_span-is tree span level here) (found tree.points height level_at.row abscissas)
 
     -- it is pushed where it isn't empty
-    pub IsTaken-pushed : {old new : List Span} → new ≡ old ++ span ∷ [] → IsTaken part levels rect start end old new
+    pub IsTaken-pushed : {old new : List Span} → new ≡ old ++ span ∷ [] → IsTaken tree rect (record { from = start; to = end }) old new
     IsTaken-pushed {old} pushed = record {
-      valid = λ spans. subst (All (IsSpan levels)) (sym pushed) (All-push (IsSpan levels) old span spans is_span);
+      valid = λ spans. subst (All (IsSpan tree)) (sym pushed) (All-push (IsSpan tree) old span spans is_span);
       many = omega (arith, ap length pushed ∙ length_push old span);
-      points = subst (λ l. Permuted l (flat_map (live_in_span part levels) old ++ filter (is_in rect) (live_between part start end)))
-          (sym (ap (flat_map (live_in_span part levels)) pushed ∙ flat_map-append (live_in_span part levels) old (span ∷ [])
-          ∙ ap (λ l. flat_map (live_in_span part levels) old ++ l) (append-nil (live_in_span part levels span))))
-          (Permuted-append_right (flat_map (live_in_span part levels) old) points);
+      points = subst (λ l. Permuted l (flat_map (live_in_span tree) old ++ filter (is_in rect) (live_between tree.points start end)))
+          (sym (ap (flat_map (live_in_span tree)) pushed ∙ flat_map-append (live_in_span tree) old (span ∷ [])
+          ∙ ap (λ l. flat_map (live_in_span tree) old ++ l) (append-nil (live_in_span tree span))))
+          (Permuted-append_right (flat_map (live_in_span tree) old) points);
     }
 
-    pub IsTaken-empty : {old : List Span} → span.to ≤ span.from → IsTaken part levels rect start end old old
+    pub IsTaken-empty : {old : List Span} → span.to ≤ span.from → IsTaken tree rect (record { from = start; to = end }) old old
     IsTaken-empty {old} empty =
         let none : span.to - span.from ≡ 0 = omega arith in
-        let nothing : live_in_span part levels span ≡ [] =
-        live_in_span-is part levels span level here ∙ ap (λ n. flat_map (λ e. live_at part e.place) (take n (drop span.from level.entries.items))) none in
+        let nothing : live_in_span tree span ≡ [] =
+        live_in_span-is tree span level here ∙ ap (λ n. flat_map (λ e. live_at tree.points e.place) (take n (drop span.from level.entries.items))) none in
         record {
           valid = λ spans. spans;
           many = omega arith;
-          points = subst (λ l. Permuted l (flat_map (live_in_span part levels) old ++ filter (is_in rect) (live_between part start end)))
-              (ap (λ l. flat_map (live_in_span part levels) old ++ l) nothing ∙ append-nil (flat_map (live_in_span part levels) old))
-              (Permuted-append_right (flat_map (live_in_span part levels) old) points);
+          points = subst (λ l. Permuted l (flat_map (live_in_span tree) old ++ filter (is_in rect) (live_between tree.points start end)))
+              (ap (λ l. flat_map (live_in_span tree) old ++ l) nothing ∙ append-nil (flat_map (live_in_span tree) old))
+              (Permuted-append_right (flat_map (live_in_span tree) old) points);
         }
 
--- more spans may be there
-pub IsCovering-weaker : {part : Contents Point} {levels : List Level} {rect : Rect} {most more : ℕ} {cover : Cover} → most ≤ more
-    → IsCovering part levels rect most cover → IsCovering part levels rect more cover
-IsCovering-weaker le old = record {
-  ordered = old.ordered;
-  within = old.within;
-  abscissas = old.abscissas;
-  spans = old.spans;
-  few = omega arith;
-  points = old.points;
-}
+-- of no places nothing is taken
+pub IsTaken-none : {tree : RangeTree} {rect : Rect} {places : Places} {spans : List Span} → places.from ≡ places.to → IsTaken tree rect places spans spans
+IsTaken-none {tree} {rect} {places} {spans} none =
+    let nothing : live_in_places tree.points rect places ≡ [] = ap (filter (is_in rect)) (live_between-none tree.points places.from places.to (omega arith)) in
+    let live = flat_map (live_in_span tree) spans in
+    record {
+      valid = λ all. all;
+      many = omega arith;
+      points = subst (Permuted live) (sym (ap (λ l. live ++ l) nothing ∙ append-nil live)) (Permuted-refl live);
+    }
 
--- a block is taken at one of its ends
-IsCovering-taken : {part : Contents Point} {levels : List Level} {rect : Rect} {most start end : ℕ} {old new : Cover} → IsCovering part levels rect most old
-    → IsTaken part levels rect start end old.spans.items new.spans.items
-    → old.from ≤ new.from → new.from ≤ new.to → new.to ≤ old.to → new.low ≡ old.low → new.high ≡ old.high
-    → Permuted (filter (is_in rect) (live_between part start end) ++ filter (is_in rect) (live_between part new.from new.to)) (filter (is_in rect) (live_between part old.from old.to))
-    → IsCovering part levels rect (most + 1) new
-IsCovering-taken {part} {levels} {rect} {most} {start} {end} {old} {new} cover taken after ordered before low high rest = record {
-  ordered = ordered;
+-- the blocks at both ends are taken
+pub IsCover-next : {tree : RangeTree} {rect : Rect} {height : ℕ} {old new : Cover} {inner : Places} {mid : List Span} → IsCover tree rect height old
+    → IsTaken tree rect (record { from = old.from; to = inner.from }) old.spans.items mid
+    → IsTaken tree rect (record { from = inner.to; to = old.to }) mid new.spans.items
+    → old.from ≤ inner.from → inner.from ≤ inner.to → inner.to ≤ old.to
+    → (inner.from < inner.to → IsMultiple inner.from (height + 1)) → (inner.from < inner.to → IsMultiple inner.to (height + 1))
+    → new.from ≡ inner.from → new.to ≡ inner.to → new.low ≡ old.low → new.high ≡ old.high → IsCover tree rect (height + 1) new
+IsCover-next {tree} {rect} {height} {old} {new} {inner} {mid} cover first second after ordered before front back from to low high = record {
+  ordered = omega arith;
   within = omega (arith, cover.within);
-  abscissas = λ k p from to at. cover.abscissas k p (omega arith) (omega arith) at;
-  spans = taken.valid cover.spans;
-  few = omega (arith, taken.many, cover.few);
+  abscissas = λ k p above below at. cover.abscissas k p (omega arith) (omega arith) at;
+  front = λ some. subst (λ n. IsMultiple n (height + 1)) (sym from) (front (omega arith));
+  back = λ some. subst (λ n. IsMultiple n (height + 1)) (sym to) (back (omega arith));
+  spans = second.valid (first.valid cover.spans);
+  few = omega (arith, first.many, second.many, cover.few);
   points =
-      let spans = flat_map (live_in_span part levels) old.spans.items in
-      let left = filter (is_in rect) (live_between part new.from new.to) in
-      let block = filter (is_in rect) (live_between part start end) in
-      let joined : Permuted ((spans ++ block) ++ left) (filter (is_in rect) (live_between part old.low old.high)) =
-      rw (append_assoc spans block left) (composed (Permuted-append_right spans rest) cover.points) in
-      rw (low, high) (composed (Permuted-append_left left taken.points) joined);
+      let f : ℕ → ℕ → List Point = λ a b. filter (is_in rect) (live_between tree.points a b) in
+      let live : List Span → List Point = flat_map (live_in_span tree) in
+      let whole : f old.from old.to ≡ f old.from inner.from ++ (f inner.from inner.to ++ f inner.to old.to) =
+      live_in-split tree.points rect old.from inner.from old.to after (omega arith)
+      ∙ ap (λ l. f old.from inner.from ++ l) (live_in-split tree.points rect inner.from inner.to old.to ordered before) in
+      let both : Permuted (live new.spans.items) (live old.spans.items ++ (f old.from inner.from ++ f inner.to old.to)) =
+      subst (Permuted (live new.spans.items)) (append_assoc (live old.spans.items) (f old.from inner.from) (f inner.to old.to))
+      (composed second.points (Permuted-append_left (f inner.to old.to) first.points)) in
+      let moved : Permuted ((f old.from inner.from ++ f inner.to old.to) ++ f inner.from inner.to) (f old.from old.to) =
+      rw (whole, append_assoc (f old.from inner.from) (f inner.to old.to) (f inner.from inner.to))
+      (Permuted-append_right (f old.from inner.from) (Permuted-append_comm (f inner.to old.to) (f inner.from inner.to))) in
+      let joined : Permuted (live new.spans.items ++ f inner.from inner.to) (f old.low old.high) =
+      composed (Permuted-append_left (f inner.from inner.to) both)
+      (subst (λ l. Permuted l (f old.low old.high)) (sym (append_assoc (live old.spans.items) (f old.from inner.from ++ f inner.to old.to) (f inner.from inner.to)))
+      (composed (Permuted-append_right (live old.spans.items) moved) cover.points)) in
+      rw (from, to, low, high) joined;
 }
-
--- what is left has room for a block
-pub blocks_left : {part : Contents Point} {levels : List Level} {rect : Rect} {first last : ℕ} {cover : Cover} → IsCover part levels rect first last cover
-    → (first ≡ last) ⊎ (first ≡ last + 1) → cover.from < cover.to → cover.from + 2 ^ last ≤ cover.to
-blocks_left {cover = cover} old (inl is) some = blocks_apart (subst (IsMultiple cover.from) is (old.front some)) (old.back some) some
-blocks_left {last = last} {cover = cover} old (inr is) some =
-    blocks_apart (first_half cover.from last (subst (IsMultiple cover.from) is (old.front some))) (old.back some) some
-
--- a level at which nothing is taken at the front, or at the back
-pub IsCover-skip_front : {part : Contents Point} {levels : List Level} {rect : Rect} {height len : ℕ} {cover : Cover} → len ≡ 2 ^ height
-    → IsCover part levels rect height height cover → (cover.from < cover.to → cover.from / len % 2 ≢ 1) → IsCover part levels rect (height + 1) height cover
-IsCover-skip_front {height = height} {len = len} {cover = cover} is old even = record {
-  covering = IsCovering-weaker (omega arith) old.covering;
-  front = λ some. let no : cover.from / len % 2 ≢ 1 = even some in even_block cover.from height len (old.front some) is (omega arith);
-  back = old.back;
-}
-
-pub IsCover-skip_back : {part : Contents Point} {levels : List Level} {rect : Rect} {height len : ℕ} {cover : Cover} → len ≡ 2 ^ height
-    → IsCover part levels rect (height + 1) height cover → (cover.from < cover.to → cover.to / len % 2 ≢ 1) → IsCover part levels rect (height + 1) (height + 1) cover
-IsCover-skip_back {height = height} {len = len} {cover = cover} is old even = record {
-  covering = IsCovering-weaker (omega arith) old.covering;
-  front = old.front;
-  back = λ some. let no : cover.to / len % 2 ≢ 1 = even some in even_block cover.to height len (old.back some) is (omega arith);
-}
-
--- the block at the front, where it is a second half
-pub IsCover-front : {part : Contents Point} {levels : List Level} {rect : Rect} {height len : ℕ} {old new : Cover} → len ≡ 2 ^ height
-    → IsCover part levels rect height height old → old.from < old.to → old.from / len % 2 ≡ 1
-    → IsTaken part levels rect old.from new.from old.spans.items new.spans.items
-    → new.from ≡ old.from + len → new.to ≡ old.to → new.low ≡ old.low → new.high ≡ old.high → IsCover part levels rect (height + 1) height new
-IsCover-front {part} {levels} {rect} {height} {len} {old} {new} is cover some odd taken from to low high =
-    let apart = blocks_left cover (inl refl) some in
-    record {
-      covering = IsCovering-weaker (omega arith) (IsCovering-taken cover.covering taken (omega arith) (omega arith) (omega arith) low high (rw (live_in-split part rect old.from new.from old.to (omega arith) (omega arith), to) (Permuted-refl _)));
-      front = λ more. rw from (odd_block old.from height len (cover.front some) is (λ e. omega arith));
-      back = λ more. rw to (cover.back some);
-    }
-
--- the block at the back, where it is a first half
-pub IsCover-back : {part : Contents Point} {levels : List Level} {rect : Rect} {height len : ℕ} {old new : Cover} → len ≡ 2 ^ height
-    → IsCover part levels rect (height + 1) height old → old.from < old.to → old.to / len % 2 ≡ 1
-    → IsTaken part levels rect new.to old.to old.spans.items new.spans.items
-    → new.from ≡ old.from → new.to ≡ old.to - len → new.low ≡ old.low → new.high ≡ old.high → IsCover part levels rect (height + 1) (height + 1) new
-IsCover-back {part} {levels} {rect} {height} {len} {old} {new} is cover some odd taken from to low high =
-    let apart = blocks_left cover (inr refl) some in
-    record {
-      covering = IsCovering-weaker (omega arith) (IsCovering-taken cover.covering taken (omega arith) (omega arith) (omega arith) low high (rw (live_in-split part rect old.from new.to old.to (omega arith) (omega arith), from) (Permuted-append_comm (filter (is_in rect) (live_between part new.to old.to)) (filter (is_in rect) (live_between part old.from new.to)))));
-      front = λ more. rw from (cover.front some);
-      back = λ more. rw to (multiple_back (cover.back some) is (omega arith) odd);
-    }
 
 -- before the loop nothing is covered
-pub IsCover-init : {part : Contents Point} {levels : List Level} {rect : Rect} {cover : Cover} → cover.spans.items ≡ [] → cover.from ≡ cover.low → cover.to ≡ cover.high
-    → cover.low ≤ cover.high → cover.high ≤ length part.items → AreWithinAbscissas part cover.low cover.high rect
-    → (cover.low < cover.high → IsMultiple cover.low leaf_height) → (cover.low < cover.high → IsMultiple cover.high leaf_height) → IsCover part levels rect leaf_height leaf_height cover
-IsCover-init {part} {levels} {rect} {cover} none from to ordered within abscissas front back = record {
-  covering = record {
-    ordered = omega arith;
-    within = omega arith;
-    abscissas = λ k p low high at. abscissas k p (omega arith) (omega arith) at;
-    spans = subst (λ l. All (IsSpan levels) l) (sym none) (All-nil (IsSpan levels));
-    few = omega (arith, ap length none);
-    points = rw (none, from, to) (Permuted-refl (filter (is_in rect) (live_between part cover.low cover.high)));
-  };
+pub IsCover-init : {tree : RangeTree} {rect : Rect} {cover : Cover} → cover.spans.items ≡ [] → cover.from ≡ cover.low → cover.to ≡ cover.high
+    → cover.low ≤ cover.high → cover.high ≤ length tree.points.items → AreWithinAbscissas tree.points cover.low cover.high rect
+    → (cover.low < cover.high → IsMultiple cover.low leaf_height) → (cover.low < cover.high → IsMultiple cover.high leaf_height)
+    → IsCover tree rect leaf_height cover
+IsCover-init {tree} {rect} {cover} none from to ordered within abscissas front back = record {
+  ordered = omega arith;
+  within = omega arith;
+  abscissas = λ k p low high at. abscissas k p (omega arith) (omega arith) at;
   front = λ some. subst (λ n. IsMultiple n leaf_height) (sym from) (front (omega arith));
   back = λ some. subst (λ n. IsMultiple n leaf_height) (sym to) (back (omega arith));
+  spans = subst (λ l. All (IsSpan tree) l) (sym none) (All-nil (IsSpan tree));
+  few = omega (arith, ap length none);
+  points = rw (none, from, to) (Permuted-refl (filter (is_in rect) (live_between tree.points cover.low cover.high)));
 }
 
 -- at the end nothing is left: no two places of a part are so far apart
-pub none_left : {part : Contents Point} {levels : List Level} {rect : Rect} {height : ℕ} {cover : Cover} → AreLevels part levels
-    → height ≡ length levels + leaf_height → IsCover part levels rect height height cover → cover.to ≤ cover.from
-none_left {part} {levels} {rect} {height} {cover} tree is old = elim (cases_lt cover.from cover.to) [
+none_left : {tree : RangeTree} {rect : Rect} {height : ℕ} {cover : Cover} → height ≡ tree.used + leaf_height → IsCover tree rect height cover
+    → cover.to ≤ cover.from
+none_left {tree} {rect} {height} {cover} is old = elim (cases_lt cover.from cover.to) [
   | inl some ↦
-      let h = height_of (length part.items) in
-      let tall : h + 1 ≤ height = omega (arith, is, tree.as_many) in
+      let h = height_of (length tree.points.items) in
+      let tall : h + 1 ≤ height = omega (arith, is, tree.kept.tree.as_many) in
       let larger : 2 ^ (h + 1) ≤ 2 ^ height = pow-le-pow_right (omega arith) tall in
       absurd (omega (
         arith,
         larger,
-        blocks_left old (inl refl) some,
-        old.covering.within,
-        height_of-above (length part.items) (omega (arith, tree.few)),
+        blocks_apart (old.front some) (old.back some) some,
+        old.within,
+        height_of-above (length tree.points.items) (omega (arith, tree.kept.tree.few)),
         pow_next h,
         pow_pos h,
       ))
@@ -232,41 +238,40 @@ none_left {part} {levels} {rect} {height} {cover} tree is old = elim (cases_lt c
 ]
 
 -- then the spans hold all points of the rectangle among the leaves that were to be covered
-pub points_covered : {part : Contents Point} {levels : List Level} {rect : Rect} {height : ℕ} {cover : Cover} → AreLevels part levels
-    → height ≡ length levels + leaf_height → IsCover part levels rect height height cover
-    → Permuted (flat_map (live_in_span part levels) cover.spans.items) (filter (is_in rect) (live_between part cover.low cover.high))
-points_covered {part} {levels} {rect} {height} {cover} tree is old =
-    let spans = flat_map (live_in_span part levels) cover.spans.items in
-    subst (λ l. Permuted l (filter (is_in rect) (live_between part cover.low cover.high)))
-    (ap (λ l. spans ++ filter (is_in rect) l) (live_between-none part cover.from cover.to (none_left tree is old)) ∙ append-nil spans) old.covering.points
+pub points_covered : {tree : RangeTree} {rect : Rect} {height : ℕ} {cover : Cover} → height ≡ tree.used + leaf_height → IsCover tree rect height cover
+    → Permuted (flat_map (live_in_span tree) cover.spans.items) (filter (is_in rect) (live_between tree.points cover.low cover.high))
+points_covered {tree} {rect} {height} {cover} is old =
+    let spans = flat_map (live_in_span tree) cover.spans.items in
+    subst (λ l. Permuted l (filter (is_in rect) (live_between tree.points cover.low cover.high)))
+    (ap (λ l. spans ++ filter (is_in rect) l) (live_between-none tree.points cover.from cover.to (none_left is old)) ∙ append-nil spans) old.points
 
 -- and with the places before and behind these all of the rectangle
-pub points_cut : (part : Contents Point) (levels : List Level) (rect : Rect) (spans : List Span) (from low high behind to : ℕ) → behind ≡ high → length part.flags ≡ length part.items
-    → from ≤ low → low ≤ high → high ≤ to → to ≤ length part.items → AbscissasBelow part.items from rect.x1 → AbscissasFrom part.items to (rect.x2 + 1)
-    → Permuted (flat_map (live_in_span part levels) spans) (filter (is_in rect) (live_between part low high))
-    → Permuted (flat_map (live_in_span part levels) spans ++ (filter (is_in rect) (live_between part from low) ++ filter (is_in rect) (live_between part behind to)))
-    (filter (is_in rect) (items_where_true part.flags part.items))
-points_cut part levels rect spans from low high behind to is flagged first ordered last within below above middle =
-    let f : ℕ → ℕ → List Point = λ a b. filter (is_in rect) (live_between part a b) in
+pub points_cut : (tree : RangeTree) (rect : Rect) (spans : List Span) (from low high behind to : ℕ) → behind ≡ high → length tree.points.flags ≡ length tree.points.items
+    → from ≤ low → low ≤ high → high ≤ to → to ≤ length tree.points.items → AbscissasBelow tree.points.items from rect.x1 → AbscissasFrom tree.points.items to (rect.x2 + 1)
+    → Permuted (flat_map (live_in_span tree) spans) (filter (is_in rect) (live_between tree.points low high))
+    → Permuted (flat_map (live_in_span tree) spans ++ (filter (is_in rect) (live_between tree.points from low) ++ filter (is_in rect) (live_between tree.points behind to)))
+    (filter (is_in rect) (items_where_true tree.points.flags tree.points.items))
+points_cut tree rect spans from low high behind to is flagged first ordered last within below above middle =
+    let f : ℕ → ℕ → List Point = λ a b. filter (is_in rect) (live_between tree.points a b) in
     let whole : f from to ≡ f from low ++ (f low high ++ f high to) =
-    live_in-split part rect from low to first (omega arith) ∙ ap (λ l. f from low ++ l) (live_in-split part rect low high to ordered last) in
-    let all : f from low ++ (f low high ++ f high to) ≡ filter (is_in rect) (items_where_true part.flags part.items) =
-    sym whole ∙ live_in-all part rect from to flagged (omega arith) within below above in
+    live_in-split tree.points rect from low to first (omega arith) ∙ ap (λ l. f from low ++ l) (live_in-split tree.points rect low high to ordered last) in
+    let all : f from low ++ (f low high ++ f high to) ≡ filter (is_in rect) (items_where_true tree.points.flags tree.points.items) =
+    sym whole ∙ live_in-all tree.points rect from to flagged (omega arith) within below above in
     let moved : Permuted (f low high ++ (f from low ++ f high to)) (f from low ++ (f low high ++ f high to)) =
     subst (λ l. Permuted l (f from low ++ (f low high ++ f high to))) (append_assoc (f low high) (f from low) (f high to))
     (subst (λ l. Permuted ((f low high ++ f from low) ++ f high to) l) (append_assoc (f from low) (f low high) (f high to))
     (Permuted-append_left (f high to) (Permuted-append_comm (f low high) (f from low)))) in
-    subst (λ b. Permuted (flat_map (live_in_span part levels) spans ++ (f from low ++ f b to)) (filter (is_in rect) (items_where_true part.flags part.items))) (sym is)
-    (subst (λ l. Permuted (flat_map (live_in_span part levels) spans ++ (f from low ++ f high to)) l) all
+    subst (λ b. Permuted (flat_map (live_in_span tree) spans ++ (f from low ++ f b to)) (filter (is_in rect) (items_where_true tree.points.flags tree.points.items))) (sym is)
+    (subst (λ l. Permuted (flat_map (live_in_span tree) spans ++ (f from low ++ f high to)) l) all
     (composed (Permuted-append_left (f from low ++ f high to) middle) moved))
 
 -- a tree has fewer levels than one more than the height of a full one
-pub levels_few : {part : Contents Point} {levels : List Level} → AreLevels part levels → (h : ℕ) → length part.items ≤ 2 ^ h → length levels ≤ levels_to h
-levels_few {part} {levels} tree h few = omega (arith, tree.as_many, levels_for-few (length part.items) h (omega (arith, tree.few)) few)
+pub levels_few : (tree : RangeTree) (h : ℕ) → length tree.points.items ≤ 2 ^ h → tree.used ≤ levels_to h
+levels_few tree h few = omega (arith, tree.kept.tree.as_many, levels_for-few (length tree.points.items) h (omega (arith, tree.kept.tree.few)) few)
 
 -- and few
-pub levels_small : {part : Contents Point} {levels : List Level} → AreLevels part levels → length levels ≤ levels_to 31
-levels_small {part} {levels} tree = omega (arith, tree.as_many, levels_for-small (length part.items) tree.few)
+pub levels_small : (tree : RangeTree) → tree.used ≤ levels_to 31
+levels_small tree = omega (arith, tree.kept.tree.as_many, levels_for-small (length tree.points.items) tree.kept.tree.few)
 
 -- what one more level costs
 pub Spends-level : {old mid new : Counts} (k top : ℕ) → k < top → Spends old mid 0 0 (k * (4 * (top + leaf_height))) → Spends mid new 0 0 (4 * (k + leaf_height + 1))

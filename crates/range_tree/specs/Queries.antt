@@ -1,5 +1,5 @@
 -- Live points between places, in spans of rows, and in a rectangle.
-use Rattle.std.specs.Prelude.{◌≡◌, ℕ, ◌+◌, ◌-◌, ◌*◌, ◌<◌, ◌≤◌, ◌++◌, false, if◌then◌else◌, List, [], Some, length, filter, All, slice_get, slice_index_or, slice_range}
+use Rattle.std.specs.Prelude.{◌≡◌, ℕ, ◌+◌, ◌-◌, ◌*◌, ◌^◌, ◌<◌, ◌≤◌, ◌++◌, false, if◌then◌else◌, List, [], Some, length, filter, All, slice_get, slice_index_or, slice_range}
 use Rattle.std.specs.Option.{option_to_list}
 use Rattle.std.specs.List.{flat_map, range_with_len}
 use Rattle.query_laws.specs.Permuted.{Permuted}
@@ -12,6 +12,7 @@ use Rattle.map_shapes.specs.Questions.{is_in}
 use Rattle.range_tree.specs.declared.entry.Entry.{Entry}
 use Rattle.range_tree.specs.declared.level.Level.{Level}
 use Rattle.range_tree.specs.declared.span.Span.{Span}
+use Rattle.range_tree.specs.declared.tree.RangeTree.{RangeTree}
 use Rattle.range_tree.specs.declared.cover.Cover.{Cover}
 use Rattle.range_tree.specs.declared.cover.Places.{Places}
 use Rattle.range_tree.specs.Heights.{leaf_height}
@@ -29,24 +30,24 @@ abbrev pub live_in_slice : Contents Point → List Entry → ℕ → ℕ → Lis
 live_in_slice part entries from to = flat_map (λ e. live_at part e.place) (slice_range entries from to)
 
 -- the live points of a span
-abbrev pub live_in_span : Contents Point → List Level → Span → List Point
-live_in_span part levels span =
-    flat_map (λ level. live_in_slice part level.entries.items span.from span.to) (option_to_list (slice_get levels span.row))
+abbrev pub live_in_span : RangeTree → Span → List Point
+live_in_span tree span =
+    flat_map (λ level. live_in_slice tree.points level.entries.items span.from span.to) (option_to_list (slice_get tree.levels.items span.row))
 
 -- there is a row of blocks of this height
-abbrev pub HasRow : List Level → ℕ → Type 0
-HasRow levels height = (leaf_height ≤ height) × (height < length levels + leaf_height)
+abbrev pub HasRow : RangeTree → ℕ → Type 0
+HasRow tree height = (leaf_height ≤ height) × (height < tree.used + leaf_height)
 
 -- the live points of the rectangle at neighbouring places
 abbrev pub live_in_places : Contents Point → Rect → Places → List Point
 live_in_places part rect places = filter (is_in rect) (live_between part places.from places.to)
 
 -- a span of a level that is built
-pub record IsSpan (levels : List Level) (span : Span) : Type 0 where
-  pub row : span.row < length levels
+pub record IsSpan (tree : RangeTree) (span : Span) : Type 0 where
+  pub row : span.row < tree.used
   pub ordered : span.from ≤ span.to
-  pub within : (level : Level) → slice_get levels span.row ≡ Some level → span.to ≤ length level.counts.places
-  pub built : (level : Level) → slice_get levels span.row ≡ Some level → IsBuilt level.counts
+  pub within : (level : Level) → slice_get tree.levels.items span.row ≡ Some level → span.to ≤ length level.counts.places
+  pub built : (level : Level) → slice_get tree.levels.items span.row ≡ Some level → IsBuilt level.counts
 
 -- the points at places below `place` have abscissas below `x`
 abbrev pub AbscissasBelow : List Point → ℕ → ℕ → Type 0
@@ -61,25 +62,24 @@ abbrev pub AreWithinAbscissas : Contents Point → ℕ → ℕ → Rect → Type
 AreWithinAbscissas part from to rect =
     (k : ℕ) (p : Point) → from ≤ k → k < to → slice_get part.items k ≡ Some p → (rect.x1 ≤ p.x) × (p.x ≤ rect.x2)
 
--- the spans, and the places that they don't cover yet, hold the rectangle's points among the leaves
-pub record IsCovering (part : Contents Point) (levels : List Level) (rect : Rect) (most : ℕ) (cover : Cover) : Type 0 where
+-- The spans, and the places that they don't cover yet, hold the rectangle's points among the leaves. What is left is whole blocks of a height.
+pub record IsCover (tree : RangeTree) (rect : Rect) (height : ℕ) (cover : Cover) : Type 0 where
   pub ordered : cover.from ≤ cover.to
-  pub within : cover.to ≤ length part.items
-  pub abscissas : AreWithinAbscissas part cover.from cover.to rect
-  pub spans : All (IsSpan levels) cover.spans.items
-  pub few : length cover.spans.items + 2 * leaf_height ≤ most
-  pub points : Permuted (flat_map (live_in_span part levels) cover.spans.items ++ filter (is_in rect) (live_between part cover.from cover.to))
-      (filter (is_in rect) (live_between part cover.low cover.high))
+  pub within : cover.to ≤ length tree.points.items
+  pub abscissas : AreWithinAbscissas tree.points cover.from cover.to rect
+  pub front : cover.from < cover.to → IsMultiple cover.from height
+  pub back : cover.from < cover.to → IsMultiple cover.to height
+  pub spans : All (IsSpan tree) cover.spans.items
+  pub few : length cover.spans.items + 2 * leaf_height ≤ 2 * height
+  pub points : Permuted (flat_map (live_in_span tree) cover.spans.items ++ filter (is_in rect) (live_between tree.points cover.from cover.to))
+      (filter (is_in rect) (live_between tree.points cover.low cover.high))
 
--- what is left begins with a block of one height, and ends with one of another
-pub record IsCover (part : Contents Point) (levels : List Level) (rect : Rect) (first last : ℕ) (cover : Cover) : Type 0 where
-  pub covering : IsCovering part levels rect (first + last) cover
-  pub front : cover.from < cover.to → IsMultiple cover.from first
-  pub back : cover.from < cover.to → IsMultiple cover.to last
+-- no places, or those of a block of a height
+abbrev pub IsBlockOrNone : ℕ → Places → Type 0
+IsBlockOrNone height places = places.from < places.to → IsMultiple places.from height × (places.from + 2 ^ height ≡ places.to)
 
--- what a span more, if it isn't empty, takes of the rectangle: its points at the places from `start` on and below `end`
-pub record IsTaken (part : Contents Point) (levels : List Level) (rect : Rect) (start end : ℕ) (old new : List Span) : Type 0 where
-  pub valid : All (IsSpan levels) old → All (IsSpan levels) new
+-- what a span more, if it isn't empty, takes of the rectangle: its points at some places
+pub record IsTaken (tree : RangeTree) (rect : Rect) (places : Places) (old new : List Span) : Type 0 where
+  pub valid : All (IsSpan tree) old → All (IsSpan tree) new
   pub many : length new ≤ length old + 1
-  pub points : Permuted (flat_map (live_in_span part levels) new)
-      (flat_map (live_in_span part levels) old ++ filter (is_in rect) (live_between part start end))
+  pub points : Permuted (flat_map (live_in_span tree) new) (flat_map (live_in_span tree) old ++ live_in_places tree.points rect places)

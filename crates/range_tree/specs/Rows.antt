@@ -69,9 +69,10 @@ pub record IsLevel (points : List Point) (flags : List Bool) (height : ℕ) (lev
   pub built : IsBuilt level.counts
   pub counts : level.counts.places ≡ map (counted points flags) level.entries.items
 
--- the levels of a tree from the whole down to single points
-pub record AreLevels (part : Contents Point) (levels : List Level) : Type 0 where
+-- the levels of a tree from the whole down to the leaves, which are the first of those that are kept
+pub record AreLevels (part : Contents Point) (levels : List Level) (used : ℕ) : Type 0 where
   pub few : length part.items ≤ 2 ^ 31
-  pub as_many : length levels ≡ levels_for (length part.items)
-  pub each : (q : ℕ) (level : Level) → slice_get levels q ≡ Some level
-      → IsLevel part.items part.flags (height_at (length levels) q) level
+  pub as_many : used ≡ levels_for (length part.items)
+  pub within : used ≤ length levels
+  pub each : (q : ℕ) (level : Level) → q < used → slice_get levels q ≡ Some level
+      → IsLevel part.items part.flags (height_at used q) level

@@ -7,63 +7,56 @@ ghost use Rattle.map_shapes.specs.Ascending.{sorted_ids, sorted_union};
 ghost use Rattle.map_shapes.specs.Questions.{ids_in};
 ghost use Rattle.range_tree.specs.Costs.{count_touches, list_touches};
 ghost use Rattle.range_tree.specs.Measures.{measure_in};
-ghost use Rattle.range_tree.specs.Rows.{AreLevels};
 
-use crate::cover::cut;
-use crate::level::Level;
-use crate::listing::list_span;
 use crate::measure::Measure;
 use crate::places::{list_places, measure_places};
-use crate::span::measure_span;
-use builder_trait::flat::FlatPart;
-use map_shapes::{IdTally, Point, Rect};
+use crate::tree::RangeTree;
+use map_shapes::{IdTally, Rect};
 use query_laws::step_ledger::Steps;
 use query_laws::{NoMemory, Total};
 use std::sync::ledger::Ledger;
 
-/// Adds what the live points in a rectangle count for.
-pub(crate) fn add_measure<L: Ledger>(
-    points: &FlatPart<Point>,
-    levels: &[Level],
-    rect: &Rect,
-    measure: Measure,
-    tally: &mut Total,
-    steps: &mut Steps<L>,
-)
-    requires { AreLevels points.now levels.now }
-    ensures added { tally.new ≡ capped_add tally.old (measure_in measure rect.now (items_where_true points.now.flags points.now.items)) }
-    ensures cost { Spends steps.old steps.new 0 0 (count_touches points.now.items) }
-{
-    let pieces = cut(points, levels, rect, steps);
-    let front = measure_places(points, rect, &pieces.front, measure, steps);
-    let back = measure_places(points, rect, &pieces.back, measure, steps);
-    let mut sum = front + back;
-    for span in &pieces.spans {
-        sum = sum.saturating_add(measure_span(levels, span, measure, steps));
+impl RangeTree {
+    /// Adds what the live points in a rectangle count for.
+    pub(crate) fn add_measure<L: Ledger>(
+        &self,
+        rect: &Rect,
+        measure: Measure,
+        tally: &mut Total,
+        steps: &mut Steps<L>,
+    )
+        ensures added { tally.new ≡ capped_add tally.old (measure_in measure rect.now (items_where_true self.now.points.flags self.now.points.items)) }
+        ensures cost { Spends steps.old steps.new 0 0 (count_touches self.now.points.items) }
+    {
+        let pieces = self.cut(rect, steps);
+        let front = measure_places(&self.points, rect, &pieces.front, measure, steps);
+        let back = measure_places(&self.points, rect, &pieces.back, measure, steps);
+        let mut sum = front + back;
+        for span in &pieces.spans {
+            sum = sum.saturating_add(self.measure_span(span, measure, steps));
+        }
+        tally.add(sum);
     }
-    tally.add(sum);
-}
 
-/// Pushes the identifiers of the live points in a rectangle.
-///
-/// `NoMemory` where the tally wanted memory that wasn't given.
-pub(crate) fn list_points<L: Ledger>(
-    points: &FlatPart<Point>,
-    levels: &[Level],
-    rect: &Rect,
-    tally: &mut IdTally,
-    steps: &mut Steps<L>,
-) -> Result<(), NoMemory>
-    requires { AreLevels points.now levels.now }
-    ensures joined { OnOk result (sorted_ids tally.new
-        ≡ sorted_union (sorted_ids tally.old) (ids_in rect.now (items_where_true points.now.flags points.now.items))) }
-    ensures cost { Spends steps.old steps.new 0 0 (list_touches rect.now points.now) }
-{
-    let pieces = cut(points, levels, rect, steps);
-    list_places(points, rect, &pieces.front, tally, steps)?;
-    list_places(points, rect, &pieces.back, tally, steps)?;
-    for span in &pieces.spans {
-        list_span(points, levels, span, tally, steps)?;
+    /// Pushes the identifiers of the live points in a rectangle.
+    ///
+    /// `NoMemory` where the tally wanted memory that wasn't given.
+    pub(crate) fn list_points<L: Ledger>(
+        &self,
+        rect: &Rect,
+        tally: &mut IdTally,
+        steps: &mut Steps<L>,
+    ) -> Result<(), NoMemory>
+        ensures joined { OnOk result (sorted_ids tally.new
+            ≡ sorted_union (sorted_ids tally.old) (ids_in rect.now (items_where_true self.now.points.flags self.now.points.items))) }
+        ensures cost { Spends steps.old steps.new 0 0 (list_touches rect.now self.now.points) }
+    {
+        let pieces = self.cut(rect, steps);
+        list_places(&self.points, rect, &pieces.front, tally, steps)?;
+        list_places(&self.points, rect, &pieces.back, tally, steps)?;
+        for span in &pieces.spans {
+            self.list_span(span, tally, steps)?;
+        }
+        Ok(())
     }
-    Ok(())
 }

@@ -1,8 +1,9 @@
 //! The builder.
 ghost use Rattle.std.specs.Prelude.{◌≡◌};
 
+use crate::growing::GrowingTree;
 use crate::part::RangePart;
-use crate::tree::Tree;
+use crate::tree::RangeTree;
 use builder_trait::Builder;
 use builder_trait::flat::FlatBuilder;
 use map_shapes::Point;
@@ -21,7 +22,7 @@ use std::sync::ledger::Ledger;
 #[derive(Drop)]
 pub struct RangeBuilder {
     points: FlatBuilder<Point>,
-    tree: Tree,
+    tree: GrowingTree,
 }
 
 impl Model for RangeBuilder {
@@ -60,7 +61,7 @@ impl Builder for RangeBuilder {
     fn room(alloc: Global, level: u32) -> Result<RangeBuilder, NoMemory> {
         Ok(RangeBuilder {
             points: FlatBuilder::room(alloc, level)?,
-            tree: Tree::room(alloc, level)?,
+            tree: GrowingTree::room(alloc, level)?,
         })
     }
 
@@ -93,21 +94,23 @@ impl Builder for RangeBuilder {
     fn finish(self) -> RangePart {
         let RangeBuilder { points, tree } = self;
         RangePart {
-            points: points.finish(),
-            levels: tree.levels,
-            used: tree.used,
+            tree: RangeTree {
+                points: points.finish(),
+                levels: tree.levels,
+                used: tree.used,
+            },
         }
     }
 
     fn recycle(part: RangePart) -> RangeBuilder {
-        let RangePart {
+        let RangeTree {
             points,
             levels,
             used: _,
-        } = part;
+        } = part.tree;
         RangeBuilder {
             points: FlatBuilder::recycle(points),
-            tree: Tree::recycle(levels),
+            tree: GrowingTree::recycle(levels),
         }
     }
 

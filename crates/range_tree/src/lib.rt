@@ -14,6 +14,7 @@ mod builder;
 mod clearing;
 mod cover;
 mod entry;
+mod growing;
 mod height;
 mod level;
 mod listing;

@@ -1,12 +1,8 @@
 //! The part.
 ghost use Rattle.std.specs.Prelude.{◌≡◌};
 
-use crate::answers::{add_measure, list_points};
-use crate::clearing::clear_used;
-use crate::entry::Entry;
-use crate::level::Level;
 use crate::measure::Measure;
-use builder_trait::flat::FlatPart;
+use crate::tree::RangeTree;
 use builder_trait::{Answers, Part};
 use map_shapes::{CountIn, IdTally, ListIn, Point, SumIn};
 use query_laws::step_ledger::Steps;
@@ -28,9 +24,7 @@ use std::sync::ledger::Ledger;
 /// a touch reads or writes is the 64 bytes of sixteen places' weights.
 #[derive(Drop)]
 pub struct RangePart {
-    pub(crate) points: FlatPart<Point>,
-    pub(crate) levels: Vec<Level>,
-    pub(crate) used: usize,
+    pub(crate) tree: RangeTree,
 }
 
 impl Model for RangePart {
@@ -39,11 +33,7 @@ impl Model for RangePart {
 
     ghost Value = { Contents Point };
 
-    ghost use Rattle.range_tree.specs.Growing.{AreKept};
-
-    ghost view = { λ p. p.points };
-
-    ghost invariant = { λ p. AreKept p.points p.levels.items p.used };
+    ghost view = { λ p. p.tree.points };
 }
 
 impl Part for RangePart {
@@ -60,35 +50,27 @@ impl Part for RangePart {
     ghost mark_touches = { λ h. 16 * ((h + 2) * (h + 2)) };
 
     fn len(&self) -> usize {
-        self.points.len()
+        self.tree.points.len()
     }
 
     fn live(&self) -> usize {
-        self.points.live()
+        self.tree.points.live()
     }
 
     fn item<L: Ledger>(&self, order: usize, k: usize, steps: &mut Steps<L>) -> Point {
-        self.points.item(order, k, steps)
+        self.tree.points.item(order, k, steps)
     }
 
     fn place<L: Ledger>(&self, order: usize, k: usize, steps: &mut Steps<L>) -> usize {
-        self.points.place(order, k, steps)
+        self.tree.points.place(order, k, steps)
     }
 
     fn alive<L: Ledger>(&self, k: usize, steps: &mut Steps<L>) -> bool {
-        self.points.alive(k, steps)
+        self.tree.points.alive(k, steps)
     }
 
     fn mark<L: Ledger>(&mut self, item: &Point, steps: &mut Steps<L>) -> bool {
-        let Some(place) = self.points.mark_placed(item, steps) else {
-            return false;
-        };
-        let entry = Entry {
-            y: item.y,
-            place: place as u32,
-        };
-        clear_used(&mut self.levels, self.used, &entry, steps);
-        true
+        self.tree.mark(item, steps)
     }
 
     ghost live_by_flags = { λ part. refl };
@@ -107,14 +89,8 @@ impl Answers<CountIn> for RangePart {
         tally: &mut Total,
         steps: &mut Steps<L>,
     ) -> Result<(), NoMemory> {
-        add_measure(
-            &self.points,
-            &self.levels[..self.used],
-            &question.0,
-            Measure::Count,
-            tally,
-            steps,
-        );
+        self.tree
+            .add_measure(&question.0, Measure::Count, tally, steps);
         Ok(())
     }
 }
@@ -130,14 +106,8 @@ impl Answers<SumIn> for RangePart {
         tally: &mut Total,
         steps: &mut Steps<L>,
     ) -> Result<(), NoMemory> {
-        add_measure(
-            &self.points,
-            &self.levels[..self.used],
-            &question.0,
-            Measure::Weight,
-            tally,
-            steps,
-        );
+        self.tree
+            .add_measure(&question.0, Measure::Weight, tally, steps);
         Ok(())
     }
 }
@@ -153,12 +123,6 @@ impl Answers<ListIn> for RangePart {
         tally: &mut IdTally,
         steps: &mut Steps<L>,
     ) -> Result<(), NoMemory> {
-        list_points(
-            &self.points,
-            &self.levels[..self.used],
-            &question.0,
-            tally,
-            steps,
-        )
+        self.tree.list_points(&question.0, tally, steps)
     }
 }

@@ -7,13 +7,13 @@ ghost use Rattle.builder_trait.specs.Parts.{Contents, IsPart};
 ghost use Rattle.map_shapes.specs.declared.point.Point.{Point};
 ghost use Rattle.map_shapes.specs.Questions.{is_in};
 ghost use Rattle.range_tree.specs.Measures.{measure_of};
-ghost use Rattle.range_tree.specs.Rows.{IsBlock, IsRow, AreLevels};
+ghost use Rattle.range_tree.specs.Rows.{IsBlock, IsRow};
 ghost use Rattle.range_tree.specs.Queries.{live_between, live_in_slice, live_in_span, IsSpan, AreWithinAbscissas};
 
 use crate::entry::Entry;
-use crate::level::Level;
 use crate::measure::Measure;
 use crate::search::first_entry;
+use crate::tree::RangeTree;
 use map_shapes::{Point, Rect};
 use query_laws::step_ledger::{Row, Steps};
 use std::sync::ledger::Ledger;
@@ -61,22 +61,22 @@ pub(crate) fn span_in<L: Ledger>(
     Span { row, from, to }
 }
 
-/// What the live entries of a span count for, by its row's counts.
-pub(crate) fn measure_span<L: Ledger>(
-    levels: &[Level],
-    span: &Span,
-    measure: Measure,
-    steps: &mut Steps<L>,
-) -> u64
-    requires { IsSpan levels.now span.now }
-    ensures sum { (part : Contents Point) → AreLevels part levels.now
-        → result ≡ sum_by (measure_of measure) (live_in_span part levels.now span.now) }
-    ensures cost { (part : Contents Point) (h : ℕ) → AreLevels part levels.now → length part.items ≤ 2 ^ h
-        → Spends steps.old steps.new 0 0 (2 * (h + 2)) }
-{
-    let counts = &levels[span.row].counts;
-    match measure {
-        Measure::Count => counts.count_in(span.from, span.to, steps),
-        Measure::Weight => counts.sum_in(span.from, span.to, steps),
+impl RangeTree {
+    /// What the live entries of a span count for, by its row's counts.
+    pub(crate) fn measure_span<L: Ledger>(
+        &self,
+        span: &Span,
+        measure: Measure,
+        steps: &mut Steps<L>,
+    ) -> u64
+        requires { IsSpan self.now span.now }
+        ensures sum { result ≡ sum_by (measure_of measure) (live_in_span self.now span.now) }
+        ensures cost { (h : ℕ) → length self.now.points.items ≤ 2 ^ h → Spends steps.old steps.new 0 0 (2 * (h + 2)) }
+    {
+        let counts = &self.levels[span.row].counts;
+        match measure {
+            Measure::Count => counts.count_in(span.from, span.to, steps),
+            Measure::Weight => counts.sum_in(span.from, span.to, steps),
+        }
     }
 }

@@ -7,10 +7,10 @@ use Rattle.map_model.specs.Answer.{answer_over}
 use Rattle.map_model.specs.Cost.{IsAsked}
 use Rattle.map_shapes.specs.Cost.{asked_of}
 use Rattle.map_shapes.specs.declared.asked.Asked.{Asked}
-use Rattle.map_layers.specs.Costs.{IsAskingIn}
+use Rattle.map_layers.specs.Costs.{IsAskingIn, IsEveryPartIn}
 use Rattle.map_layers.specs.Layer.{items_of, layer_of, IsAskRefusal}
 use Rattle.map_layers.specs.Layers.{map_of, named}
-use Rattle.map_layers.proofs.Answering.{IsAnswered-ask, unfound-ask}
+use Rattle.map_layers.proofs.Answering.{IsAnswered-ask, every_part, unfound-ask}
 use Rattle.map_layers.proofs.Names.{layer_named-Some, layer_named-None}
 use Rattle.map_layers.proofs.PointItems.{as_many_items}
 use Rattle.map_layers.proofs.Touches.{IsAsking-index}
@@ -43,6 +43,14 @@ returns-clause-answered g c =
     IsAnswered-ask (map_of c.args.self.now) c.args.name.now (g.Q.RangeQuestion.asks q) (g.Q.RangeQuestion.asks_points q) (g.Q.RangeQuestion.asks_range q)
     l (layer_named-Some c.args.name.now c.args.self.now.layers found) g.Q.Question.refusable (g.met.Q.RangeQuestion.refuses q)
     g.Q.RangeQuestion.tells (Ok c.in_ok-given.given.answer) c.in_ok-given.ensures.refused same
+
+pub returns-clause-every_part : goal.returns-clause-every_part
+returns-clause-every_part g c =
+    let l = c.in-Some.layer.now in
+    let found : named c.args.name.now c.args.self.now.layers ≡ Some l = search rules in
+    let parts : IfSome l.range (λ i. c.consulted.result ≡ parts_of i.main.levels) =
+    subst (λ n. IfSome l.range (λ i. n ≡ parts_of i.main.levels)) (sym c.consulted.ensures) c.in_ok-given.ensures.parts in
+    subst (λ o. IsEveryPartIn o c.consulted.result) (sym found) (every_part l.range c.consulted.result c.in_ok-given.ensures.refused parts)
 
 pub returns-clause-cost : goal.returns-clause-cost
 returns-clause-cost g c =

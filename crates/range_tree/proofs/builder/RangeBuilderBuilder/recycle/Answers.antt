@@ -6,10 +6,10 @@ use Rattle.range_tree.proofs.builder.RangeBuilderBuilder.recycle.Goals as goal
 
 pub invariant_of-result : goal.invariant_of-result
 invariant_of-result c =
-    let n = c.part.inside.points.at_level in
-    let kept = c.part.invariant in
+    let n = c.part.inside.tree.points.at_level in
+    let kept = c.part.inside.tree.kept in
     let putting : IsPutting (begun n) c.recycle-2.result.levels.items =
-    subst (IsPutting (begun n)) (sym c.recycle-2.ensures.emptied) (IsPutting-emptied n c.part.inside.levels.items kept.small kept.made kept.room) in (
+    subst (IsPutting (begun n)) (sym c.recycle-2.ensures.emptied) (IsPutting-emptied n c.part.inside.tree.levels.items kept.small kept.made kept.room) in (
       λ _. (
         subst (λ b. IsPutting b c.recycle-2.result.levels.items) (sym c.recycle.ensures) putting,
         ap (λ b. b.left) c.recycle.ensures,
