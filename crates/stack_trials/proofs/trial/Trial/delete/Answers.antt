@@ -9,7 +9,7 @@ use Rattle.stack_trials.proofs.trial.Trial.delete.Goals as goal
 
 pub delete-requires-clause-live : goal.delete-requires-clause-live
 delete-requires-clause-live g c =
-    subst (λ points. Contains points c.index.result.now) (sym c.in_ok-prepare_or_retry.ensures.live)
+    subst (λ points. Contains points c.index.result.now) (sym c.in_ok-prepare.ensures.live)
     (Contains-permutation _ _ c.index.result.now (IsPermutation-from_Permuted (Permuted-sym c.requires.alike.alike))
     (c.args.place, c.requires.within, sym c.index.ensures))
 
@@ -17,7 +17,7 @@ pub returns-clause-alike : goal.returns-clause-alike
 returns-clause-alike g c =
     let stamp : Point → ℕ = λ p. p.stamp in
     let h = c.requires.alike in
-    let prepared = c.in_ok-prepare_or_retry.ensures in
+    let prepared = c.in_ok-prepare.ensures in
     record {
       weighs = c.delete.ensures.weight ∙ (prepared.weight ∙ h.weighs);
       numbered = AreBelow-part stamp (c.delete.ensures.weight ∙ prepared.weight) c.delete.ensures.items
