@@ -6,7 +6,6 @@ mod examples;
 mod made;
 mod null_sink;
 mod plain_map;
-mod retrying;
 mod script;
 mod timed;
 

@@ -1,9 +1,8 @@
 //! Seeded scripts, by a session and by a plain map.
 use crate::plain_map::PlainMap;
-use crate::retrying::do_or_retry;
 use crate::script::MOST_LINES;
 use map_io::MemSink;
-use map_samples::{Failure, Generator};
+use map_samples::{Failure, Generator, do_or_retry};
 use map_session::Session;
 use query_laws::step_ledger::Steps;
 use script_lang::{Command, parse};
@@ -25,25 +24,28 @@ const LONGEST_ANSWER: usize = 2_048;
 
 /// Gives a session so many seeded lines, and compares each answer with that of a plain map.
 ///
-/// `Differs` where they differ. It asks twice where memory is refused, and `NoMemory` comes where that is refused twice.
+/// It asks twice where memory is refused, and gives how often that was, without the refusals to the session. `Differs` where answers differ, and
+/// `NoMemory` where memory is refused twice.
 pub fn check_made_script<L: Ledger>(
     alloc: Global,
     seed: u64,
     lines: u32,
     steps: &mut Steps<L>,
-) -> Result<(), Failure> {
+) -> Result<u64, Failure> {
+    let mut refused = 0;
     let mut generator = Generator::new(seed);
     let mut session = Session::new(alloc, false);
     let mut map = PlainMap::new(alloc);
     for _ in 0..lines {
         let drawn = Drawn::next(&mut generator);
-        let line = do_or_retry(|| drawn.line(alloc))?;
-        check_line(alloc, &mut session, &mut map, line.as_str(), steps)?;
+        let line = do_or_retry(&mut refused, || drawn.line(alloc))?;
+        let line = line.as_str();
+        check_line(alloc, &mut session, &mut map, line, &mut refused, steps)?;
     }
-    Ok(())
+    Ok(refused)
 }
 
-/// Gives both a line, and the session the same line once more where it refuses a command for want of memory.
+/// Gives both a line, and the session the same line once more where it refuses a command for want of memory. It counts other refusals.
 ///
 /// `Differs` where the session refuses it again: memory is refused once in a run.
 fn check_line<L: Ledger>(
@@ -51,22 +53,23 @@ fn check_line<L: Ledger>(
     session: &mut Session,
     map: &mut PlainMap,
     line: &str,
+    refused: &mut u64,
     steps: &mut Steps<L>,
 ) -> Result<(), Failure> {
     let Ok(Some(command)) = parse(line.as_bytes()) else {
         return differs(alloc, line, "", "a command");
     };
-    let wanted = do_or_retry(|| map.answer(&command))?;
+    let wanted = do_or_retry(refused, || map.answer(&command))?;
     let is_accepted = !wanted.as_str().starts_with("no ");
-    let mut sink = answered(alloc, session, line, steps)?;
+    let mut sink = answered(alloc, session, line, refused, steps)?;
     if text_of(&sink) == "no memory" && is_accepted && takes_memory(&command) {
-        sink = answered(alloc, session, line, steps)?;
+        sink = answered(alloc, session, line, refused, steps)?;
     }
     if text_of(&sink) != wanted.as_str() {
         return differs(alloc, line, text_of(&sink), wanted.as_str());
     }
     if is_accepted {
-        do_or_retry(|| map.change(&command))?;
+        do_or_retry(refused, || map.change(&command))?;
     }
     Ok(())
 }
@@ -76,12 +79,13 @@ fn answered<L: Ledger>(
     alloc: Global,
     session: &mut Session,
     line: &str,
+    refused: &mut u64,
     steps: &mut Steps<L>,
 ) -> Result<MemSink, Failure> {
     if session.lines() >= MOST_LINES {
         return Err(Failure::TooLong);
     }
-    let space = do_or_retry(|| vec![in alloc; 0u8; LONGEST_ANSWER])?;
+    let space = do_or_retry(refused, || vec![in alloc; 0u8; LONGEST_ANSWER])?;
     let mut sink = MemSink::new(space, 64, Vec::new(alloc));
     session.line(line.as_bytes(), &mut sink, steps)?;
     Ok(sink)

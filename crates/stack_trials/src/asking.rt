@@ -32,3 +32,28 @@ where
     let consulted = given.consulted();
     Ok((given.into_answer(), consulted))
 }
+
+/// The same, and asks once more where memory is refused, which it counts. What was read before the refusal stays counted.
+///
+/// `NoMemory` where it is refused twice.
+pub fn answer_or_retry<B: Builder, Q: Question<Item = B::Item>, L: Ledger>(
+    alloc: Global,
+    question: &Q,
+    stack: &Stack<B>,
+    refused: &mut u64,
+    steps: &mut Steps<L>,
+) -> Result<(Q::Answer, u32), NoMemory>
+where
+    B::Part: Answers<Q>,
+    ensures value { IfOk result (λ given. given.0 ≡ Q.value question.now (live_items B.Part.Part.contents stack.now.levels)) }
+    ensures consulted { IfOk result (λ given. given.1 ≡ parts_of stack.now.levels) }
+    ensures refusable { IsErr result → IsTrue Q.refusable }
+{
+    match answer_over(alloc, question, stack, steps) {
+        Ok(given) => Ok(given),
+        Err(_refused) => {
+            *refused = refused.wrapping_add(1);
+            answer_over(alloc, question, stack, steps)
+        }
+    }
+}

@@ -3,24 +3,17 @@ ghost use Rattle.std.specs.Prelude.{◌≡◌, ◌+◌, ◌<◌, ◌≤◌, ◌^
 ghost use Rattle.map_shapes.specs.declared.point.Point.{Point};
 ghost use Rattle.stack_trials.specs.Trial.{AreAlike};
 
+use crate::drawing::points_or_retry;
 use crate::seen::Seen;
-use crate::trial::Trial;
-use map_samples::{Failure, Generator, random_points, random_rect};
-use map_shapes::{Point, Rect};
+use crate::trial::{ALL, Trial};
+use map_samples::{Failure, Generator, random_rect};
+use map_shapes::Point;
 use query_laws::step_ledger::Steps;
 use std::alloc::Global;
 use std::sync::ledger::Ledger;
 
 /// Coordinates are below this, so that many points have equal ones.
 const SIDE: u32 = 16;
-
-/// A rectangle with all points.
-const ALL: Rect = Rect {
-    x1: 0,
-    y1: 0,
-    x2: 15,
-    y2: 15,
-};
 
 /// So many times a hundred lists of ticks.
 const HUNDREDS: usize = 3;
@@ -46,7 +39,8 @@ struct Case {
 
 /// Compares stacks with plain lists, over three hundred lists of up to 200 inserts and deletes.
 ///
-/// Prints a line for each hundred. `Differs` where an answer of a stack isn't that of the list, or of the rules of its ticks.
+/// It asks for memory twice. Prints a line for each hundred, and one more where memory was refused once. `Differs` where an answer of a stack
+/// isn't that of the list, or of the rules of its ticks.
 pub fn check_stacks<R: Print + AllocGlobal, L: Ledger>(
     rt: &R,
     seed: u64,
@@ -59,7 +53,7 @@ pub fn check_stacks<R: Print + AllocGlobal, L: Ledger>(
     Ok(())
 }
 
-/// Compares a hundred stacks, and prints the sums of what was seen of them.
+/// Compares a hundred stacks, and prints the sums of what was seen of them, and how often memory was refused where it was.
 fn check_hundred<R: Print + AllocGlobal, L: Ledger>(
     rt: &R,
     generator: &mut Generator,
@@ -74,6 +68,7 @@ fn check_hundred<R: Print + AllocGlobal, L: Ledger>(
         seen = seen.plus(check_list(rt.alloc(), generator, list, steps)?);
     }
     println!(rt; "stacks {EACH} {seen}")?;
+    seen.refusals.report(rt)?;
     Ok(())
 }
 
@@ -86,11 +81,13 @@ fn check_list<L: Ledger>(
 ) -> Result<Seen, Failure> {
     let ticks = generator.below(MOST_TICKS + 1) as usize;
     let deletes = generator.below(ODDS);
-    let points = random_points(alloc, generator, 0, ticks, SIDE)?;
-    let mut trial = Trial::new(alloc)?;
+    let mut trial = Trial::new(alloc);
+    let own = &mut trial.refusals.own;
+    let points = points_or_retry(alloc, generator, ticks, SIDE, own)?;
     for tick in 0..ticks {
-        take_tick(generator, &points, deletes, &mut trial, steps)?;
-        trial.compare(alloc, &Case { list, tick })?;
+        let case = Case { list, tick };
+        take_tick(alloc, generator, &points, deletes, case, &mut trial, steps)?;
+        trial.compare(alloc, &case)?;
         if tick % ROUND == 0 {
             let width = generator.below(SIDE);
             let rect = random_rect(generator, SIDE, width);
@@ -103,9 +100,11 @@ fn check_list<L: Ledger>(
 
 /// A tick: the delete of a point at a random place of the list, or the insert of the next point.
 fn take_tick<L: Ledger>(
+    alloc: Global,
     generator: &mut Generator,
     points: &[Point],
     deletes: u32,
+    case: Case,
     trial: &mut Trial,
     steps: &mut Steps<L>,
 ) -> Result<(), Failure>
@@ -119,7 +118,8 @@ fn take_tick<L: Ledger>(
     let live = trial.live();
     if live > 0 && generator.below(ODDS) < deletes {
         let place = generator.below(live as u32) as usize;
-        return trial.delete(place, steps);
+        return trial.delete(alloc, place, &case, steps);
     }
-    trial.insert(points[trial.inserted() as usize], steps)
+    let point = points[trial.inserted() as usize];
+    trial.insert(alloc, point, &case, steps)
 }

@@ -1,9 +1,9 @@
 //! Counts by a stack and by one part.
 ghost use Rattle.std.specs.Prelude.{◌≡◌, ◌+◌, ◌*◌, ◌/◌, ◌<◌};
 
-use crate::asking::answer_over;
+use crate::asking::answer_or_retry;
 use level_slots::Stack;
-use map_samples::{Failure, Samples, Watch, answer_of};
+use map_samples::{Failure, Samples, Watch, answer_of, do_or_retry};
 use map_shapes::{CountIn, Rect};
 use query_laws::NoMemory;
 use query_laws::step_ledger::Steps;
@@ -20,26 +20,33 @@ pub(crate) enum Counted<'a> {
 }
 
 impl Counted<'_> {
-    /// How many points lie in a rectangle, and how many parts were consulted for that.
+    /// How many points lie in a rectangle, and how many parts were consulted for that. It asks twice for memory, and counts a refusal.
     fn count<L: Ledger>(
         &self,
         alloc: Global,
         rect: Rect,
+        refused: &mut u64,
         steps: &mut Steps<L>,
     ) -> Result<(u64, u32), NoMemory> {
+        let question = CountIn(rect);
         match *self {
-            Counted::Stack(stack) => answer_over(alloc, &CountIn(rect), stack, steps),
-            Counted::Part(part) => Ok((answer_of(alloc, &CountIn(rect), part, steps)?, 1)),
+            Counted::Stack(stack) => answer_or_retry(alloc, &question, stack, refused, steps),
+            Counted::Part(part) => {
+                let count = do_or_retry(refused, || answer_of(alloc, &question, part, steps))?;
+                Ok((count, 1))
+            }
         }
     }
 }
 
-/// Counts in each rectangle, and prints the sum of the answers modulo 2^64, the parts, the touches and the times.
+/// Counts in each rectangle, and prints the sum of the answers modulo 2^64, the parts, the touches and the times. It asks twice for memory,
+/// and counts a refusal.
 pub(crate) fn ask_about_each<R: Print + Clock + AllocGlobal, L: Ledger>(
     watch: &Watch<'_, R>,
     word: &str,
     rects: &[Rect],
     counted: Counted<'_>,
+    refused: &mut u64,
     steps: &mut Steps<L>,
 ) -> Result<(), Failure> {
     let alloc = watch.rt.alloc();
@@ -48,8 +55,11 @@ pub(crate) fn ask_about_each<R: Print + Clock + AllocGlobal, L: Ledger>(
     steps.start_lap();
     for rect in rects {
         let begun = watch.start()?;
-        let (count, consulted) = counted.count(alloc, *rect, steps)?;
-        watch.stop(begun, &mut times)?;
+        let (count, consulted) = counted.count(alloc, *rect, refused, steps)?;
+        let nanoseconds = watch.since(begun)?;
+        if watch.is_on {
+            do_or_retry(refused, || times.push(nanoseconds))?;
+        }
         answers = answers.wrapping_add(count);
         parts = parts.wrapping_add(consulted as u64);
     }

@@ -5,12 +5,14 @@ ghost use Rattle.map_shapes.specs.declared.point.Point.{Point};
 ghost use Rattle.stack_trials.specs.Trial.{AreNumbered};
 
 use crate::numbering::insert_next;
+use crate::preparing::prepare_or_retry;
+use crate::refusals::Refusals;
 use level_slots::Stack;
-use map_samples::{Failure, Samples, Watch};
+use map_samples::{Failure, Samples, Watch, do_or_retry};
 use map_shapes::Point;
 use query_laws::step_ledger::Steps;
 use range_tree::RangeBuilder;
-use std::alloc::Global;
+use std::alloc::{AllocError, Global};
 use std::fmt;
 use std::sync::ledger::Ledger;
 use std::time::Clock;
@@ -87,8 +89,14 @@ impl Costs {
         }
     }
 
-    /// Takes in an insert with its stamp, and its times where these are wanted.
-    fn take_in(&mut self, cost: Cost, stamp: u64, is_timed: bool) -> Result<(), Failure> {
+    /// Takes in an insert with its stamp, and its times where these are wanted. It asks twice for their memory, and counts a refusal.
+    fn take_in(
+        &mut self,
+        cost: Cost,
+        stamp: u64,
+        is_timed: bool,
+        refused: &mut u64,
+    ) -> Result<(), AllocError> {
         self.turns = self.turns.wrapping_add(cost.turns);
         self.marks = self.marks.wrapping_add(cost.marks);
         self.touches = self.touches.wrapping_add(cost.touches);
@@ -98,18 +106,25 @@ impl Costs {
             self.slowest_at = stamp;
         }
         if is_timed {
-            self.preparing.push(cost.preparing)?;
-            self.ticking.push(cost.ticking)?;
-            self.both.push(cost.nanoseconds())?;
+            return self.take_times(cost, refused);
         }
         Ok(())
     }
+
+    /// Takes in the times of an insert.
+    fn take_times(&mut self, cost: Cost, refused: &mut u64) -> Result<(), AllocError> {
+        let (preparing, ticking, both) = (&mut self.preparing, &mut self.ticking, &mut self.both);
+        do_or_retry(refused, || preparing.push(cost.preparing))?;
+        do_or_retry(refused, || ticking.push(cost.ticking))?;
+        do_or_retry(refused, || both.push(cost.nanoseconds()))
+    }
 }
 
-/// The stack into which all points were inserted; prints what that took, and its times.
+/// The stack into which all points were inserted; prints what that took, and its times. It asks twice for memory, and counts the refusals.
 pub(crate) fn grown<R: Print + Clock + AllocGlobal, L: Ledger>(
     watch: &Watch<'_, R>,
     points: &[Point],
+    refusals: &mut Refusals,
     steps: &mut Steps<L>,
 ) -> Result<Stack<RangeBuilder>, Failure>
     requires few { length points.now ≤ 2 ^ 31 }
@@ -119,8 +134,8 @@ pub(crate) fn grown<R: Print + Clock + AllocGlobal, L: Ledger>(
     let mut stack = Stack::<RangeBuilder>::new(alloc);
     let mut costs = Costs::new(alloc);
     for point in points {
-        let cost = insert(watch, *point, &mut stack, steps)?;
-        costs.take_in(cost, point.stamp, watch.is_on)?;
+        let cost = insert(watch, *point, &mut stack, &mut refusals.preparing, steps)?;
+        costs.take_in(cost, point.stamp, watch.is_on, &mut refusals.own)?;
     }
     report(watch, &stack, costs)?;
     Ok(stack)
@@ -131,11 +146,12 @@ fn held_by(stack: &Stack<RangeBuilder>) -> u64 {
     stack.rooms().saturating_add(stack.kept())
 }
 
-/// Takes the memory for a tick, and inserts the next point.
+/// Takes the memory for a tick, and inserts the next point. It asks twice, and counts a refusal.
 fn insert<R: Clock, L: Ledger>(
     watch: &Watch<'_, R>,
     point: Point,
     stack: &mut Stack<RangeBuilder>,
+    refused: &mut u64,
     steps: &mut Steps<L>,
 ) -> Result<Cost, Failure>
     requires light { weight_of stack.old.levels < 2 ^ 31 }
@@ -147,7 +163,7 @@ fn insert<R: Clock, L: Ledger>(
     let held = held_by(stack);
     let parts = stack.parts();
     let begun = watch.start()?;
-    stack.prepare()?;
+    prepare_or_retry(stack, refused)?;
     let preparing = watch.since(begun)?;
     let memory = held_by(stack).saturating_sub(held);
     steps.start_lap();

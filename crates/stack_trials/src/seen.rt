@@ -1,4 +1,5 @@
 //! What was done in trials, and what was answered.
+use crate::refusals::Refusals;
 use std::fmt;
 
 /// Sums of one trial or more, modulo 2^64.
@@ -18,6 +19,8 @@ pub struct Seen {
     pub counts: u64,
     /// The identifiers in answers to lists.
     pub ids: u64,
+    /// They aren't printed with the others.
+    pub refusals: Refusals,
 }
 
 impl Seen {
@@ -31,6 +34,7 @@ impl Seen {
             consulted: self.consulted.wrapping_add(other.consulted),
             counts: self.counts.wrapping_add(other.counts),
             ids: self.ids.wrapping_add(other.ids),
+            refusals: self.refusals.plus(other.refusals),
         }
     }
 }
@@ -45,6 +49,7 @@ impl fmt::Display for Seen {
             consulted,
             counts,
             ids,
+            refusals: _,
         } = *self;
         write!(
             f,

@@ -71,7 +71,7 @@ fn insert_up_to<L: Ledger>(
 {
     let mut seen = Vec::new(alloc);
     for stamp in 0..count {
-        trial.insert(point(stamp), steps)?;
+        trial.insert(alloc, point(stamp), &stamp, steps)?;
         trial.compare(alloc, &stamp)?;
         seen.push(row_of(alloc, trial, steps)?)?;
     }
@@ -85,7 +85,7 @@ fn traced<L: Ledger>(alloc: Global, blank: Blank) -> Result<Vec<Row>, Failure>
     requires shares { blank.parts ≡ SHARES }
 {
     let mut steps = Steps::<L>::new(blank);
-    let mut trial = Trial::new(alloc)?;
+    let mut trial = Trial::new(alloc);
     insert_up_to(alloc, &mut trial, 12, &mut steps)
 }
 
@@ -96,10 +96,10 @@ fn deleted<L: Ledger>(alloc: Global, blank: Blank) -> Result<Row, Failure>
     requires shares { blank.parts ≡ SHARES }
 {
     let mut steps = Steps::<L>::new(blank);
-    let mut trial = Trial::new(alloc)?;
+    let mut trial = Trial::new(alloc);
     insert_up_to(alloc, &mut trial, 5, &mut steps)?;
     if trial.live() > 0 {
-        trial.delete(0, &mut steps)?;
+        trial.delete(alloc, 0, &5, &mut steps)?;
     }
     row_of(alloc, &trial, &mut steps)
 }

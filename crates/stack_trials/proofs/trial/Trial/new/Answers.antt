@@ -10,6 +10,5 @@ empty = record { weighs = refl; numbered = record { each = All-nil (λ (p : Poin
 
 pub returns-clause-alike : goal.returns-clause-alike
 returns-clause-alike c =
-    let points = c.in_ok-new.field-0.points.items in
-    subst (λ levels. AreAlike 0 levels points) (sym (ap (λ s. s.levels) c.new.ensures))
-    (subst (λ list. AreAlike 0 [] list) (sym c.in_ok-new.ensures) empty)
+    subst (λ levels. AreAlike 0 levels c.new-2.result.items) (sym (ap (λ s. s.levels) c.new.ensures))
+    (subst (λ points. AreAlike 0 [] points) (sym c.new-2.ensures.items) empty)
