@@ -17,7 +17,7 @@ use map_shapes::{CountIn, ListIn, Point, Rect};
 use query_laws::NoMemory;
 use query_laws::step_ledger::Steps;
 use range_tree::RangeBuilder;
-use std::alloc::{AllocError, Global};
+use std::alloc::Global;
 use std::fmt::Debug;
 use std::sync::ledger::Ledger;
 
@@ -108,11 +108,14 @@ impl Beside<'_> {
     ) -> Result<Vec<u64>, NoMemory>
         ensures { IfOk result (λ ids. ids.items ≡ ids_in rect.now (map (λ e. e.item) self.now.collection.now.entries)) }
     {
-        let question = ListIn(*rect);
-        let (ids, _parts) = do_or_retry(refused, || {
-            answer_over(alloc, &question, self.collection, steps)
-        })?;
-        Ok(ids.into_vec())
+        match answer_over(alloc, &ListIn(*rect), self.collection, steps) {
+            Ok((ids, _parts)) => Ok(ids.into_vec()),
+            Err(_refused) => {
+                *refused = refused.wrapping_add(1);
+                let (ids, _parts) = answer_over(alloc, &ListIn(*rect), self.collection, steps)?;
+                Ok(ids.into_vec())
+            }
+        }
     }
 
     /// The identifiers that the list finds.
@@ -121,10 +124,16 @@ impl Beside<'_> {
         alloc: Global,
         rect: &Rect,
         refused: &mut u64,
-    ) -> Result<Vec<u64>, AllocError>
+    ) -> Result<Vec<u64>, NoMemory>
         ensures { IfOk result (λ ids. ids.items ≡ ids_in rect.now self.now.list.now.points.items) }
     {
-        do_or_retry(refused, || self.list.list(alloc, rect))
+        match self.list.list(alloc, rect) {
+            Ok(ids) => Ok(ids),
+            Err(_refused) => {
+                *refused = refused.wrapping_add(1);
+                Ok(self.list.list(alloc, rect)?)
+            }
+        }
     }
 }
 
