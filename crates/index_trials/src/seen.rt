@@ -1,4 +1,6 @@
 //! What was done in trials, and what was answered.
+ghost use Rattle.std.specs.Prelude.{◌≡◌, ◌+◌, ◌^◌, ◌%◌};
+
 use crate::reading::Reading;
 use crate::refusals::Refusals;
 use std::fmt;
@@ -32,7 +34,11 @@ pub struct Seen {
 
 impl Seen {
     /// Takes in what an index tells after an update.
-    pub fn take_in(&mut self, reading: &Reading) {
+    pub fn take_in(&mut self, reading: &Reading)
+        ensures live { self.new.live ≡ (self.old.live + reading.now.live) % 2 ^ 64 }
+        ensures counts { self.new.counts ≡ self.old.counts }
+        ensures consulted { self.new.consulted ≡ self.old.consulted }
+    {
         self.live = self.live.wrapping_add(reading.live);
         self.unwalked = self.unwalked.wrapping_add(reading.unwalked.unwrap_or(0));
         self.weight = self.weight.wrapping_add(reading.weight);

@@ -2,9 +2,9 @@
 ghost use Rattle.std.specs.Prelude.{◌≡◌, ◌≤◌, OnOk, IfSome, IsTrue, length};
 ghost use Rattle.id_chain.specs.Chain.{is_linked};
 
-use crate::{Collection, Reading, answer_over, check_given_up, check_indexes, measure_index};
+use crate::{Collection, Reading, answer_over, check_given_up, check_indexes};
 use id_chain::{Chain, Handle};
-use map_samples::{Failure, Watch};
+use map_samples::Failure;
 use map_shapes::{CountIn, Point, Rect};
 use query_laws::NoMemory;
 use query_laws::step_ledger::{SHARES, Steps, blank};
@@ -13,7 +13,6 @@ use std::alloc::Global;
 use std::marker::Brand;
 use std::sync::ledger::{Blank, Ledger};
 use std::test::Fail;
-use std::time::Clock;
 
 /// A rectangle with all points.
 const ALL: Rect = Rect {
@@ -201,19 +200,13 @@ fn updates_are_given_up(rt: HostRuntime) -> Result<(), Fail> {
     Ok(())
 }
 
-/// Compares two hundred indexes with plain lists, and measures one of 32 points with times.
-fn run_trials<R: Print + Clock + AllocGlobal, L: Ledger>(
-    rt: &R,
-    blank: Blank,
-) -> Result<(), Failure>
+/// Compares two hundred indexes with plain lists.
+fn run_trials<R: Print + AllocGlobal, L: Ledger>(rt: &R, blank: Blank) -> Result<(), Failure>
     requires name { blank.name ≡ L.name }
     requires parts { blank.parts ≡ L.parts }
     requires shares { blank.parts ≡ SHARES }
 {
-    let mut steps = Steps::<L>::new(blank);
-    check_indexes(rt, 1, &mut steps)?;
-    let watch = Watch { rt, is_on: true };
-    measure_index(&watch, 1, 5, &mut steps)
+    check_indexes(rt, 1, &mut Steps::<L>::new(blank))
 }
 
 #[test]

@@ -1,6 +1,7 @@
 //! A collection beside a plain list.
-ghost use Rattle.std.specs.Prelude.{◌≡◌, ◌+◌, ◌<◌, ◌≤◌, ◌^◌, IfOk, OnOk, OnErr, IsTrue, length, map, remove, vec_len, vec_capacity};
+ghost use Rattle.std.specs.Prelude.{◌≡◌, ◌+◌, ◌<◌, ◌≤◌, ◌^◌, ◌%◌, IfOk, OnOk, OnErr, IsTrue, length, map, remove, vec_len, vec_capacity};
 ghost use Rattle.map_shapes.specs.Questions.{count_in, ids_in};
+ghost use Rattle.stack_levels.specs.Levels.{parts_of};
 ghost use Rattle.index_trials.specs.Reading.{is_light};
 ghost use Rattle.index_trials.specs.Trial.{AreAlike};
 
@@ -8,11 +9,10 @@ use crate::asking::answer_over;
 use crate::collection::Collection;
 use crate::light::expect_light;
 use crate::reading::Reading;
-use crate::retrying::do_or_retry;
 use crate::seen::Seen;
 use crate::walking::items_of;
 use id_chain::Handle;
-use map_samples::{Failure, PlainList, expect_same, sum_of};
+use map_samples::{Failure, PlainList, do_or_retry, expect_same, sum_of};
 use map_shapes::{CountIn, ListIn, Point, Rect};
 use query_laws::NoMemory;
 use query_laws::step_ledger::Steps;
@@ -51,6 +51,7 @@ impl Beside<'_> {
     pub fn compare<C: Debug>(&self, alloc: Global, case: &C) -> Result<Reading, Failure>
         ensures live { OnOk result (length self.now.collection.now.entries ≡ length self.now.list.now.points.items) }
         ensures light { IfOk result (λ reading. IsTrue (is_light reading)) }
+        ensures told { IfOk result (λ reading. reading.live ≡ length self.now.list.now.points.items) }
     {
         let reading = Reading::of(self.collection);
         let live = self.list.live() as u64;
@@ -68,7 +69,9 @@ impl Beside<'_> {
         rect: Rect,
         steps: &mut Steps<L>,
     ) -> Result<(u64, u32), Failure>
-        ensures { OnOk result (count_in rect (map (λ e. e.item) self.now.collection.now.entries) ≡ count_in rect self.now.list.now.points.items) }
+        ensures same { OnOk result (count_in rect (map (λ e. e.item) self.now.collection.now.entries) ≡ count_in rect self.now.list.now.points.items) }
+        ensures count { IfOk result (λ told. told.0 ≡ count_in rect self.now.list.now.points.items) }
+        ensures consulted { IfOk result (λ told. told.1 ≡ parts_of self.now.collection.now.index.main.levels) }
     {
         let (count, consulted) = answer_over(alloc, &CountIn(rect), self.collection, steps)?;
         expect_same(alloc, "count", &rect, &count, &self.list.count(&rect))?;
@@ -165,8 +168,8 @@ impl Trial {
         self.list.points.reserve(1)?;
         self.collection.reserve(1)?;
         let handle = self.collection.add(point, steps)?;
-        self.handles.push(handle).unwrap();
-        self.list.points.push(point).unwrap();
+        self.handles.push_reserved(handle);
+        self.list.points.push_reserved(point);
         self.added += 1;
         self.seen.added = self.seen.added.wrapping_add(1);
         Ok(())
@@ -215,7 +218,9 @@ impl Trial {
     ///
     /// `Differs` where it isn't so.
     pub fn compare<C: Debug>(&mut self, case: &C) -> Result<(), Failure>
+        // The invariant alone says `live`; the comparison stands in the clauses of `Beside::compare`, whose reading is summed (`told`).
         ensures live { OnOk result (length self.old.collection.entries ≡ length self.old.list.points.items) }
+        ensures told { OnOk result (self.new.seen.live ≡ (self.old.seen.live + length self.old.list.points.items) % 2 ^ 64) }
         ensures same_collection { self.new.collection ≡ self.old.collection }
         ensures same_list { self.new.list ≡ self.old.list }
         ensures same_handles { self.new.handles ≡ self.old.handles }
@@ -253,8 +258,11 @@ impl Trial {
     ///
     /// `Differs` where an answer of the index isn't that of the list, or where not each part was consulted once.
     pub fn ask_about<L: Ledger>(&mut self, rect: Rect, steps: &mut Steps<L>) -> Result<(), Failure>
+        // The invariant alone says `counts` and `ids`; the comparison stands in the clauses of `Beside::count` and `Beside::list`.
         ensures counts { OnOk result (count_in rect (map (λ e. e.item) self.old.collection.entries) ≡ count_in rect self.old.list.points.items) }
         ensures ids { OnOk result (ids_in rect (map (λ e. e.item) self.old.collection.entries) ≡ ids_in rect self.old.list.points.items) }
+        ensures counted { OnOk result (self.new.seen.counts ≡ (self.old.seen.counts + count_in rect self.old.list.points.items) % 2 ^ 64) }
+        ensures consulted { OnOk result (self.new.seen.consulted ≡ (self.old.seen.consulted + parts_of self.old.collection.index.main.levels) % 2 ^ 64) }
         ensures same_collection { self.new.collection ≡ self.old.collection }
         ensures same_list { self.new.list ≡ self.old.list }
         ensures same_handles { self.new.handles ≡ self.old.handles }

@@ -7,7 +7,8 @@ ghost use Rattle.std.specs.Prelude.{◌≡◌};
 
 use crate::words::{Job, Size, command, job_of};
 use build_trials::{check_builds, measure_build};
-use index_trials::{check_indexes, measure_index};
+use index_costs::measure_index;
+use index_trials::check_indexes;
 use map_samples::{Failure, Watch};
 use part_trials::{check_parts, measure_part};
 use query_laws::step_ledger::{SHARES, Steps, blank};

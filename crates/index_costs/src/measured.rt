@@ -1,14 +1,12 @@
 //! A collection of random points, and what its updates take.
 ghost use Rattle.std.specs.Prelude.{◌≡◌, ◌≤◌, length};
 
-use crate::collection::Collection;
 use crate::cost::{Cost, Rebuild, Update};
-use crate::order::Order;
-use crate::refusals::Refusals;
-use crate::retrying::{add_or_retry, do_or_retry, remove_or_retry};
+use crate::retrying::{add_or_retry, remove_or_retry};
 use builder_trait::Builder;
 use id_chain::Handle;
-use map_samples::{Failure, Generator, Watch};
+use index_trials::{Collection, Order, Refusals};
+use map_samples::{Failure, Generator, Watch, do_or_retry};
 use map_shapes::Point;
 use query_laws::step_ledger::Steps;
 use range_tree::RangeBuilder;
@@ -116,7 +114,7 @@ impl Measured {
         let nanoseconds = watch.since(begun)?;
         if order != Order::Oldest {
             let handles = &mut self.handles;
-            do_or_retry(&mut self.refusals.own, || Ok(handles.push(handle)?))?;
+            do_or_retry(&mut self.refusals.own, || handles.push(handle))?;
         }
         Ok(cost_of(Update::Add, nanoseconds, before, &self.collection, steps))
     }

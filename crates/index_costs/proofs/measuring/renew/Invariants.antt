@@ -1,5 +1,5 @@
 use Rattle.std.proofs.Common.{◌≤◌, ◌+◌, ◌^◌}
-use Rattle.index_trials.proofs.measuring.renew.Given as goal
+use Rattle.index_costs.proofs.measuring.renew.Given as goal
 
 abbrev pub invariant-loop-renewed : goal.invariant-loop-renewed
 invariant-loop-renewed g l = l.measured.added ≤ 2 ^ 20 + l._renewed

@@ -4,8 +4,7 @@ ghost use Rattle.std.specs.Prelude.{◌≡◌, ◌+◌, ◌*◌, ◌<◌, ◌≤
 use crate::bound::Bound;
 use crate::cost::Costs;
 use crate::measured::Measured;
-use crate::order::Order;
-use crate::reading::Reading;
+use index_trials::{Order, Reading};
 use map_samples::{Failure, Generator, Watch};
 use query_laws::step_ledger::Steps;
 use range_tree::RangeBuilder;

@@ -1,6 +1,5 @@
 //! The bound of one update.
 ghost use Rattle.std.specs.Prelude.{◌≡◌, ◌<◌, ◌≤◌, ◌^◌, ◌+◌, ◌*◌};
-ghost use Rattle.stack_levels.specs.Cost.{quotas};
 
 use builder_trait::Builder;
 

@@ -1,35 +1,13 @@
-//! Work and updates whose memory is asked for twice.
+//! Updates whose memory is asked for twice.
 ghost use Rattle.std.specs.Prelude.{◌≡◌, ◌+◌, ◌<◌, ◌≤◌, ◌^◌, ◌++◌, ◌∷◌, [], Ok, Some, IfOk, OnErr, IsTrue, length};
 ghost use Rattle.id_chain.specs.Chain.{HandlesDiffer, is_linked, item_at, without_handle};
 
-use crate::collection::Collection;
-use crate::refusals::Refusals;
 use builder_trait::{Builder, Part};
 use id_chain::Handle;
+use index_trials::{Collection, Refusals};
 use query_laws::step_ledger::Steps;
 use query_laws::{Item, NoMemory};
 use std::sync::ledger::Ledger;
-
-/// Does some work, and does it once more where memory is refused, which it counts: so a trial goes on after a refusal, and tells what that changed.
-///
-/// `NoMemory` where it is refused twice.
-pub fn do_or_retry<T: Drop, F: FnMut() -> Result<T, NoMemory>>(
-    refused: &mut u64,
-    mut work: F,
-) -> Result<T, NoMemory>
-where
-    F: Drop,
-    requires { F.IsAlwaysCallable work }
-    ensures { IfOk result (λ done. (state : F) × F.post state (Ok done)) }
-{
-    match work() {
-        Ok(done) => Ok(done),
-        Err(_refused) => {
-            *refused = refused.wrapping_add(1);
-            work()
-        }
-    }
-}
 
 /// Adds an item, and tries once more where memory is refused, which it counts.
 ///

@@ -1,8 +1,7 @@
 //! What updates cost.
 ghost use Rattle.std.specs.Prelude.{◌≡◌};
 
-use crate::retrying::do_or_retry;
-use map_samples::{Failure, Samples};
+use map_samples::{Failure, Samples, do_or_retry};
 use std::alloc::Global;
 use std::fmt;
 
@@ -144,9 +143,9 @@ impl Costs {
     /// Takes in the times of an update; those of a swap also apart.
     fn take_time(&mut self, cost: Cost, refused: &mut u64) -> Result<(), Failure> {
         let (times, swaps) = (&mut self.times, &mut self.swaps);
-        do_or_retry(refused, || Ok(times.push(cost.nanoseconds)?))?;
+        do_or_retry(refused, || times.push(cost.nanoseconds))?;
         if cost.rebuild == Rebuild::Ended {
-            do_or_retry(refused, || Ok(swaps.push(cost.nanoseconds)?))?;
+            do_or_retry(refused, || swaps.push(cost.nanoseconds))?;
         }
         let slowest = self.slowest.map_or(0, |(_number, cost)| cost.nanoseconds);
         if slowest < cost.nanoseconds {
