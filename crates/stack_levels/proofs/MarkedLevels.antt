@@ -265,11 +265,10 @@ module _ {Item : Type 0} where
       halfway-marked [] levels' h some same tower rooms = absurd (omega (arith, some))
       halfway-marked (l ∷ above) levels' h some same tower rooms =
           let l' = same.0 in
-          let above' = same.1 in
           subst (AreHalfway contents stamp before) (sym same.2) (
             ap (λ v. v.level) same.3 ∙ h.0,
             ap (λ v. v.construction) same.3 ∙ h.1,
-            halfway-from_tower contents stamp before l' l' above' (subst (AreLevels contents stamp before) same.2 tower) (subst (HaveRoomsAbove IsDue) same.2 rooms)
+            halfway-from_tower contents stamp before l' l' same.1 (subst (AreLevels contents stamp before) same.2 tower) (subst (HaveRoomsAbove IsDue) same.2 rooms)
                 (stays refl (omega arith)) refl,
           )
 

@@ -31,13 +31,11 @@ make_rooms-requires g t c κs within =
 pub returns-clause-kept : goal.returns-clause-kept
 returns-clause-kept g t c =
     let lower = c.args.lower.now in
-    let level = c.in-Some.level.now in
-    let above = c.in-Some.above.now in
     let level' = c.forecast.new.self in
     subst (λ ls. KeepRooms lower ls (level' ∷ c.make_rooms.new.above)) (sym c.in-Some.ensures.cases.0) (
       c.forecast.ensures.same,
       (λ due held. c.in_ok-forecast.ensures.made ∙ c.is_due_soon.ensures ∙ le-leb (2 ^ lower.level) (ticks_of lower + 2) due),
-      KeepRooms-from level level' above c.make_rooms.new.above c.forecast.ensures.same c.make_rooms.ensures.kept,
+      KeepRooms-from c.in-Some.level.now level' c.in-Some.above.now c.make_rooms.new.above c.forecast.ensures.same c.make_rooms.ensures.kept,
     )
 
 pub returns-clause-ready : goal.returns-clause-ready

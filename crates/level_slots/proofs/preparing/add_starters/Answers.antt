@@ -8,13 +8,12 @@ add_starter-requires-clause-levels g c = c.loop-alloc.invariant.kept.levels c.re
 pub loop-alloc-preserved : goal.loop-alloc-preserved
 loop-alloc-preserved g c =
     let more = c.in_ok-add_starter.ensures.more in
-    let before = c.loop-alloc.invariant.more in
     record {
       kept = IsKept-then g.B.Part.Part.contents g.B.Item.Item.stamp g.B.Item.Item.before g.B.Builder.SLOPE g.B.Builder.BASE
           c.loop-alloc.invariant.kept c.add_starter.ensures.kept;
       begun = c.add_starter.ensures.begun;
       few = omega (arith, more, c.loop-alloc-test.true, c.len.ensures);
-      more = omega (arith, more, before);
+      more = omega (arith, more, c.loop-alloc.invariant.more);
       lowest = c.add_starter.ensures.lowest;
       no_less = omega (arith, c.loop-alloc.invariant.no_less, c.add_starter.ensures.no_less);
     }

@@ -22,8 +22,7 @@ pub returns-clause-lowest : goal.returns-clause-lowest
 returns-clause-lowest g c most four within =
     let contents = g.B.Part.Part.contents in
     let lowest = c.in-Some.lowest.now in
-    let new = c.take_builder.new.self in
-    let held = held-lowest c.args.levels.now lowest new c.requires.some c.in-Some.ensures.item.1 in
+    let held = held-lowest c.args.levels.now lowest c.take_builder.new.self c.requires.some c.in-Some.ensures.item.1 in
     let zero = lowest_level contents g.B.Item.Item.stamp g.B.Item.Item.before c.args.levels.now lowest c.requires.some c.in-Some.ensures.item.1 c.requires.levels in
     let none = lowest_construction contents g.B.Item.Item.stamp g.B.Item.Item.before c.args.levels.now lowest c.requires.some c.in-Some.ensures.item.1 c.requires.levels in
     ⊎_elim

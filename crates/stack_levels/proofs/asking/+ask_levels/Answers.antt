@@ -46,11 +46,10 @@ returns-in_ok-ask_levels-in-Some-clause-joined g t c =
     let laws = g.met.Q.Question.decomposable in
     let lowest = c.in-Some.lowest.now in
     let above = c.in-Some.above.now in
-    let mid = c.ask_levels.new.asking in
     let split = sym c.in-Some.ensures.cases.0 in
     let sum : parts_of above + length lowest.parts ≡ parts_of (lowest ∷ above) = omega arith in
     IfOk-weaker c.ask.result _ _
-    (λ _ e. asked_over-then laws c.args.asking.now mid c.ask.new.asking (live_items contents above) (live_in contents lowest) (parts_of above)
+    (λ _ e. asked_over-then laws c.args.asking.now c.ask_levels.new.asking c.ask.new.asking (live_items contents above) (live_in contents lowest) (parts_of above)
     (length lowest.parts) c.requires.lawful c.in_ok-ask_levels-in-Some.ensures.joined e
     (ap (live_items contents) split) (sum ∙ ap parts_of split))
     c.ask.ensures.joined

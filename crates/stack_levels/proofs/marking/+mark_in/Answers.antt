@@ -63,8 +63,6 @@ returns-then-mark_in-clause-levels g p c =
     let contents = g.B.Part.Part.contents in
     let stamp = g.B.Item.Item.stamp in
     let before = g.B.Item.Item.before in
-    let x = c.args.item.now in
-    let s = stamp x in
     let level = c.in-Some.level.now in
     let above = c.in-Some.above.now in
     let split = c.in-Some.ensures.cases.0 in
@@ -74,23 +72,15 @@ pub returns-then-mark_in-clause-found : goal.returns-then-mark_in-clause-found
 returns-then-mark_in-clause-found g p c =
     let contents = g.B.Part.Part.contents in
     let stamp = g.B.Item.Item.stamp in
-    let before = g.B.Item.Item.before in
-    let x = c.args.item.now in
-    let s = stamp x in
+    let s = stamp c.args.item.now in
     let level = c.in-Some.level.now in
     let above = c.in-Some.above.now in
-    let split = c.in-Some.ensures.cases.0 in
     let on : has_stamp stamp s (live_items contents above) ≡ true = sym c.mark_in.ensures.found ∙ c.if-mark_in.true in
-    subst (λ ls. true ≡ has_stamp stamp s (live_items contents ls)) (sym split)
+    subst (λ ls. true ≡ has_stamp stamp s (live_items contents ls)) (sym c.in-Some.ensures.cases.0)
     (sym (has_stamp-append stamp s (live_items contents above) (live_in contents level) ∙ ap (λ b. b || has_stamp stamp s (live_in contents level)) on))
 
 pub returns-then-mark_in-clause-rooms : goal.returns-then-mark_in-clause-rooms
 returns-then-mark_in-clause-rooms g p c rooms =
-    let contents = g.B.Part.Part.contents in
-    let stamp = g.B.Item.Item.stamp in
-    let before = g.B.Item.Item.before in
-    let x = c.args.item.now in
-    let s = stamp x in
     let level = c.in-Some.level.now in
     let above = c.in-Some.above.now in
     let split = c.in-Some.ensures.cases.0 in
@@ -98,11 +88,6 @@ returns-then-mark_in-clause-rooms g p c rooms =
 
 pub returns-then-mark_in-clause-rooms_ahead : goal.returns-then-mark_in-clause-rooms_ahead
 returns-then-mark_in-clause-rooms_ahead g p c rooms =
-    let contents = g.B.Part.Part.contents in
-    let stamp = g.B.Item.Item.stamp in
-    let before = g.B.Item.Item.before in
-    let x = c.args.item.now in
-    let s = stamp x in
     let level = c.in-Some.level.now in
     let above = c.in-Some.above.now in
     let split = c.in-Some.ensures.cases.0 in
@@ -112,9 +97,7 @@ pub returns-then-mark_in-clause-live : goal.returns-then-mark_in-clause-live
 returns-then-mark_in-clause-live g p c =
     let contents = g.B.Part.Part.contents in
     let stamp = g.B.Item.Item.stamp in
-    let before = g.B.Item.Item.before in
-    let x = c.args.item.now in
-    let s = stamp x in
+    let s = stamp c.args.item.now in
     let level = c.in-Some.level.now in
     let above = c.in-Some.above.now in
     let split = c.in-Some.ensures.cases.0 in
@@ -130,9 +113,7 @@ pub returns-then-mark_in-clause-cost : goal.returns-then-mark_in-clause-cost
 returns-then-mark_in-clause-cost g p c g' light =
     let contents = g.B.Part.Part.contents in
     let stamp = g.B.Item.Item.stamp in
-    let before = g.B.Item.Item.before in
-    let x = c.args.item.now in
-    let s = stamp x in
+    let s = stamp c.args.item.now in
     let level = c.in-Some.level.now in
     let above = c.in-Some.above.now in
     let split = c.in-Some.ensures.cases.0 in
@@ -147,8 +128,6 @@ mark_and_note-requires-clause-tower g p c =
     let contents = g.B.Part.Part.contents in
     let stamp = g.B.Item.Item.stamp in
     let before = g.B.Item.Item.before in
-    let x = c.args.item.now in
-    let s = stamp x in
     let level = c.in-Some.level.now in
     let above = c.in-Some.above.now in
     let split = c.in-Some.ensures.cases.0 in
@@ -161,9 +140,6 @@ pub mark_and_note-requires-clause-apart : goal.mark_and_note-requires-clause-apa
 mark_and_note-requires-clause-apart g p c =
     let contents = g.B.Part.Part.contents in
     let stamp = g.B.Item.Item.stamp in
-    let before = g.B.Item.Item.before in
-    let x = c.args.item.now in
-    let s = stamp x in
     let level = c.in-Some.level.now in
     let above = c.in-Some.above.now in
     let split = c.in-Some.ensures.cases.0 in
@@ -174,37 +150,25 @@ pub mark_and_note-requires-clause-owner : goal.mark_and_note-requires-clause-own
 mark_and_note-requires-clause-owner g p c =
     let contents = g.B.Part.Part.contents in
     let stamp = g.B.Item.Item.stamp in
-    let before = g.B.Item.Item.before in
     let x = c.args.item.now in
     let s = stamp x in
-    let level = c.in-Some.level.now in
-    let above = c.in-Some.above.now in
-    let split = c.in-Some.ensures.cases.0 in
-    All-second (λ y. stamp y ≡ s → y ≡ x) (all_items contents above) (items_in contents level)
-    (subst (λ ls. OwnsStamp stamp x (all_items contents ls)) split c.requires.owner)
+    All-second (λ y. stamp y ≡ s → y ≡ x) (all_items contents c.in-Some.above.now) (items_in contents c.in-Some.level.now)
+    (subst (λ ls. OwnsStamp stamp x (all_items contents ls)) c.in-Some.ensures.cases.0 c.requires.owner)
 
 pub returns-else-mark_in-clause-found : goal.returns-else-mark_in-clause-found
 returns-else-mark_in-clause-found g p c =
     let contents = g.B.Part.Part.contents in
     let stamp = g.B.Item.Item.stamp in
-    let before = g.B.Item.Item.before in
-    let x = c.args.item.now in
-    let s = stamp x in
+    let s = stamp c.args.item.now in
     let level = c.in-Some.level.now in
     let above = c.in-Some.above.now in
-    let split = c.in-Some.ensures.cases.0 in
     let off : has_stamp stamp s (live_items contents above) ≡ false = sym c.mark_in.ensures.found ∙ c.if-mark_in.false in
     c.mark_and_note.ensures.found
-    ∙ sym (ap (λ ls. has_stamp stamp s (live_items contents ls)) split
+    ∙ sym (ap (λ ls. has_stamp stamp s (live_items contents ls)) c.in-Some.ensures.cases.0
     ∙ has_stamp-append stamp s (live_items contents above) (live_in contents level) ∙ ap (λ b. b || has_stamp stamp s (live_in contents level)) off)
 
 pub returns-else-mark_in-clause-unfound : goal.returns-else-mark_in-clause-unfound
 returns-else-mark_in-clause-unfound g p c unfound =
-    let contents = g.B.Part.Part.contents in
-    let stamp = g.B.Item.Item.stamp in
-    let before = g.B.Item.Item.before in
-    let x = c.args.item.now in
-    let s = stamp x in
     let level = c.in-Some.level.now in
     let above = c.in-Some.above.now in
     let split = c.in-Some.ensures.cases.0 in
@@ -215,24 +179,11 @@ returns-else-mark_in-clause-unfound g p c unfound =
 
 pub returns-else-mark_in-clause-same : goal.returns-else-mark_in-clause-same
 returns-else-mark_in-clause-same g p c =
-    let contents = g.B.Part.Part.contents in
-    let stamp = g.B.Item.Item.stamp in
-    let before = g.B.Item.Item.before in
-    let x = c.args.item.now in
-    let s = stamp x in
-    let level = c.in-Some.level.now in
-    let above = c.in-Some.above.now in
-    let split = c.in-Some.ensures.cases.0 in
-    subst (λ ls. IsSameBelow ls (c.mark_and_note.new.level ∷ c.mark_and_note.new.above)) (sym split)
+    subst (λ ls. IsSameBelow ls (c.mark_and_note.new.level ∷ c.mark_and_note.new.above)) (sym c.in-Some.ensures.cases.0)
     (c.mark_and_note.new.level, c.mark_and_note.new.above, refl, c.mark_and_note.ensures.same)
 
 pub returns-else-mark_in-clause-rooms : goal.returns-else-mark_in-clause-rooms
 returns-else-mark_in-clause-rooms g p c rooms =
-    let contents = g.B.Part.Part.contents in
-    let stamp = g.B.Item.Item.stamp in
-    let before = g.B.Item.Item.before in
-    let x = c.args.item.now in
-    let s = stamp x in
     let level = c.in-Some.level.now in
     let above = c.in-Some.above.now in
     let split = c.in-Some.ensures.cases.0 in
@@ -243,11 +194,6 @@ returns-else-mark_in-clause-rooms g p c rooms =
 
 pub returns-else-mark_in-clause-rooms_ahead : goal.returns-else-mark_in-clause-rooms_ahead
 returns-else-mark_in-clause-rooms_ahead g p c rooms =
-    let contents = g.B.Part.Part.contents in
-    let stamp = g.B.Item.Item.stamp in
-    let before = g.B.Item.Item.before in
-    let x = c.args.item.now in
-    let s = stamp x in
     let level = c.in-Some.level.now in
     let above = c.in-Some.above.now in
     let split = c.in-Some.ensures.cases.0 in
@@ -260,54 +206,27 @@ pub returns-else-mark_in-clause-live : goal.returns-else-mark_in-clause-live
 returns-else-mark_in-clause-live g p c =
     let contents = g.B.Part.Part.contents in
     let stamp = g.B.Item.Item.stamp in
-    let before = g.B.Item.Item.before in
-    let x = c.args.item.now in
-    let s = stamp x in
-    let level = c.in-Some.level.now in
-    let above = c.in-Some.above.now in
+    let s = stamp c.args.item.now in
     let split = c.in-Some.ensures.cases.0 in
     subst (λ ls. live_items contents c.mark_and_note.new.above ++ live_in contents c.mark_and_note.new.level ≡ without stamp s (live_items contents ls)) (sym split)
     (ap₂ (λ l m. l ++ m) (live-noted contents c.mark_in.new.levels c.mark_and_note.new.above c.mark_and_note.ensures.noted ∙ c.mark_in.ensures.live) c.mark_and_note.ensures.live
-    ∙ sym (without-append stamp s (live_items contents above) (live_in contents level)))
+    ∙ sym (without-append stamp s (live_items contents c.in-Some.above.now) (live_in contents c.in-Some.level.now)))
 
 pub returns-else-mark_in-clause-items : goal.returns-else-mark_in-clause-items
 returns-else-mark_in-clause-items g p c =
     let contents = g.B.Part.Part.contents in
-    let stamp = g.B.Item.Item.stamp in
-    let before = g.B.Item.Item.before in
-    let x = c.args.item.now in
-    let s = stamp x in
-    let level = c.in-Some.level.now in
-    let above = c.in-Some.above.now in
-    let split = c.in-Some.ensures.cases.0 in
     ap₂ (λ l m. l ++ m) (items-noted contents c.mark_in.new.levels c.mark_and_note.new.above c.mark_and_note.ensures.noted ∙ c.mark_in.ensures.items) c.mark_and_note.ensures.items
-    ∙ sym (ap (all_items contents) split)
+    ∙ sym (ap (all_items contents) c.in-Some.ensures.cases.0)
 
 pub returns-else-mark_in-clause-weight : goal.returns-else-mark_in-clause-weight
 returns-else-mark_in-clause-weight g p c =
-    let contents = g.B.Part.Part.contents in
-    let stamp = g.B.Item.Item.stamp in
-    let before = g.B.Item.Item.before in
-    let x = c.args.item.now in
-    let s = stamp x in
-    let level = c.in-Some.level.now in
-    let above = c.in-Some.above.now in
-    let split = c.in-Some.ensures.cases.0 in
     ap₂ (λ m n. m + n)
     (ap₂ (λ n k. n * 2 ^ k) c.mark_and_note.ensures.as_many (ap (λ v. v.level) c.mark_and_note.ensures.same))
     (weight-noted c.mark_in.new.levels c.mark_and_note.new.above c.mark_and_note.ensures.noted ∙ c.mark_in.ensures.weight)
-    ∙ sym (ap weight_of split)
+    ∙ sym (ap weight_of c.in-Some.ensures.cases.0)
 
 pub returns-else-mark_in-clause-as_many : goal.returns-else-mark_in-clause-as_many
 returns-else-mark_in-clause-as_many g p c =
-    let contents = g.B.Part.Part.contents in
-    let stamp = g.B.Item.Item.stamp in
-    let before = g.B.Item.Item.before in
-    let x = c.args.item.now in
-    let s = stamp x in
-    let level = c.in-Some.level.now in
-    let above = c.in-Some.above.now in
-    let split = c.in-Some.ensures.cases.0 in
     let rest = length-noted c.mark_in.new.levels c.mark_and_note.new.above c.mark_and_note.ensures.noted ∙ c.mark_in.ensures.as_many in
     omega (arith, rest, c.in-Some.ensures.cases.1)
 
@@ -315,9 +234,7 @@ pub returns-else-mark_in-clause-cost : goal.returns-else-mark_in-clause-cost
 returns-else-mark_in-clause-cost g p c g' light =
     let contents = g.B.Part.Part.contents in
     let stamp = g.B.Item.Item.stamp in
-    let before = g.B.Item.Item.before in
-    let x = c.args.item.now in
-    let s = stamp x in
+    let s = stamp c.args.item.now in
     let level = c.in-Some.level.now in
     let above = c.in-Some.above.now in
     let split = c.in-Some.ensures.cases.0 in

@@ -13,10 +13,9 @@ is_at e = cc
 
 pub note_above-requires : goal.note_above-requires
 note_above-requires g c =
-    let before = g.B.Item.Item.before in
     record {
       early = λ l rest was. (
-        (subst (IsTower g.B.Part.Part.contents g.B.Item.Item.stamp before c.args.level.now) was c.requires.tower).0.early,
+        (subst (IsTower g.B.Part.Part.contents g.B.Item.Item.stamp g.B.Item.Item.before c.args.level.now) was c.requires.tower).0.early,
         All-head (IsPunctual g.B.Builder.SLOPE g.B.Builder.BASE) l rest (subst (All (IsPunctual g.B.Builder.SLOPE g.B.Builder.BASE)) was c.requires.punctual),
       );
     }
@@ -26,8 +25,7 @@ returns-in-Some-clause-tower g c =
     let contents = g.B.Part.Part.contents in
     let stamp = g.B.Item.Item.stamp in
     let before = g.B.Item.Item.before in
-    let x = c.args.item.now in
-    tower-marked contents stamp before x c.args.level.now c.mark.new.self c.args.above.now c.note_above.new.above c.mark.ensures.marked
+    tower-marked contents stamp before c.args.item.now c.args.level.now c.mark.new.self c.args.above.now c.note_above.new.above c.mark.ensures.marked
     (ap (λ v. v.level) c.mark.ensures.same) (ap ticks_of c.mark.ensures.same) c.note_above.ensures.noted
     (λ next next' rest was now. record {
       stays = λ far a b built.
@@ -47,8 +45,7 @@ returns-in-None-clause-tower g c =
     let contents = g.B.Part.Part.contents in
     let stamp = g.B.Item.Item.stamp in
     let before = g.B.Item.Item.before in
-    let x = c.args.item.now in
-    tower-marked contents stamp before x c.args.level.now c.mark.new.self c.args.above.now c.args.above.now c.mark.ensures.marked
+    tower-marked contents stamp before c.args.item.now c.args.level.now c.mark.new.self c.args.above.now c.args.above.now c.mark.ensures.marked
     (ap (λ v. v.level) c.mark.ensures.same) (ap ticks_of c.mark.ensures.same) (AreNoted-refl c.args.above.now)
     (λ next next' rest was now.
     let same : next ∷ rest ≡ next' ∷ rest = sym was ∙ now in

@@ -11,8 +11,7 @@ use Rattle.global_rebuild.proofs.shadow.Shadow.take_next.Goals as goal
 -- one more is live
 more : (g : Over) (c : goal.After-self-1 g) → live_in g.B.Part.Part.contents c.insert.new.self ≡ live_in g.B.Part.Part.contents c.args.self.now.stack + 1
 more g c =
-    let contents = g.B.Part.Part.contents in
-    omega (arith, Permuted-length c.insert.ensures.live, ap length c.in_ok-prepare.ensures.live, ap (λ r. live_in contents r.stack) c.self.view_is)
+    omega (arith, Permuted-length c.insert.ensures.live, ap length c.in_ok-prepare.ensures.live, ap (λ r. live_in g.B.Part.Part.contents r.stack) c.self.view_is)
 
 pub returns-clause-dead : goal.returns-clause-dead
 returns-clause-dead g c =

@@ -20,12 +20,7 @@ use Rattle.level_slots.proofs.stack.Stack.delete.Goals as goal
 
 pub take_out-requires-clause-levels : goal.take_out-requires-clause-levels
 take_out-requires-clause-levels g c =
-    let contents = g.B.Part.Part.contents in
-    let stamp = g.B.Item.Item.stamp in
-    let before = g.B.Item.Item.before in
-    let v = c.self.inside in
-    let st = c.self.invariant.0 in
-    subst (AreAllLevels contents stamp before) (sym c.deref_mut.ensures.value) st.levels
+    subst (AreAllLevels g.B.Part.Part.contents g.B.Item.Item.stamp g.B.Item.Item.before) (sym c.deref_mut.ensures.value) c.self.invariant.0.levels
 
 pub take_out-requires-clause-rooms : goal.take_out-requires-clause-rooms
 take_out-requires-clause-rooms g c =
@@ -39,12 +34,7 @@ take_out-requires-clause-punctual g c =
 
 pub take_out-requires-clause-apart : goal.take_out-requires-clause-apart
 take_out-requires-clause-apart g c =
-    let contents = g.B.Part.Part.contents in
-    let stamp = g.B.Item.Item.stamp in
-    let before = g.B.Item.Item.before in
-    let v = c.self.inside in
-    let st = c.self.invariant.0 in
-    subst (λ ls. AllStampsDiffer stamp (all_items contents ls)) (sym c.deref_mut.ensures.value) st.apart
+    subst (λ ls. AllStampsDiffer g.B.Item.Item.stamp (all_items g.B.Part.Part.contents ls)) (sym c.deref_mut.ensures.value) c.self.invariant.0.apart
 
 pub take_out-requires-clause-live : goal.take_out-requires-clause-live
 take_out-requires-clause-live g c =
@@ -100,9 +90,7 @@ pub returns-clause-live : goal.returns-clause-live
 returns-clause-live g c =
     let contents = g.B.Part.Part.contents in
     let stamp = g.B.Item.Item.stamp in
-    let before = g.B.Item.Item.before in
     let v = c.self.inside in
-    let st = c.self.invariant.0 in
     let new = c.take_out.new.levels in
     let value : c.deref_mut.result.now ≡ v.levels.items = c.deref_mut.ensures.value in
     let whole = written v.levels.len v.levels.items new (sym c.deref_mut.ensures.len ∙ ap length value) (c.take_out.ensures.as_many ∙ ap length value) in
@@ -113,10 +101,7 @@ returns-clause-live g c =
 pub returns-clause-items : goal.returns-clause-items
 returns-clause-items g c =
     let contents = g.B.Part.Part.contents in
-    let stamp = g.B.Item.Item.stamp in
-    let before = g.B.Item.Item.before in
     let v = c.self.inside in
-    let st = c.self.invariant.0 in
     let new = c.take_out.new.levels in
     let value : c.deref_mut.result.now ≡ v.levels.items = c.deref_mut.ensures.value in
     let whole = written v.levels.len v.levels.items new (sym c.deref_mut.ensures.len ∙ ap length value) (c.take_out.ensures.as_many ∙ ap length value) in

@@ -19,12 +19,7 @@ take_in-requires-clause-some g c =
 
 pub take_in-requires-clause-levels : goal.take_in-requires-clause-levels
 take_in-requires-clause-levels g c =
-    let contents = g.B.Part.Part.contents in
-    let stamp = g.B.Item.Item.stamp in
-    let before = g.B.Item.Item.before in
-    let v = c.self.inside in
-    let st = c.self.invariant.0 in
-    subst (AreAllLevels contents stamp before) (sym c.deref_mut.ensures.value) st.levels
+    subst (AreAllLevels g.B.Part.Part.contents g.B.Item.Item.stamp g.B.Item.Item.before) (sym c.deref_mut.ensures.value) c.self.invariant.0.levels
 
 pub take_in-requires-clause-rooms : goal.take_in-requires-clause-rooms
 take_in-requires-clause-rooms g c =
@@ -40,13 +35,10 @@ pub take_in-requires-clause-apart : goal.take_in-requires-clause-apart
 take_in-requires-clause-apart g c =
     let contents = g.B.Part.Part.contents in
     let stamp = g.B.Item.Item.stamp in
-    let before = g.B.Item.Item.before in
-    let v = c.self.inside in
-    let st = c.self.invariant.0 in
     subst (λ ls. AllStampsDiffer stamp ((contents c.part_of-part.result).items ++ all_items contents ls)) (sym c.deref_mut.ensures.value)
-    (apart stamp (all_items contents v.levels.items) c.args.item (contents c.part_of-part.result).items c.part_of-part.ensures.items
+    (apart stamp (all_items contents c.self.inside.levels.items) c.args.item (contents c.part_of-part.result).items c.part_of-part.ensures.items
     (subst (λ (s : Stacked g.row.B-Part.Denot g.row.B-Item.Denot). All (λ x. stamp x ≢ stamp c.args.item) (all_items contents s.levels)) (sym c.self.view_is) c.requires.apart)
-    st.apart)
+    c.self.invariant.0.apart)
 
 pub overflow_sub-self : goal.overflow_sub-self
 overflow_sub-self g c = omega (arith, c.requires.spare, ap (λ v. v.spare) c.self.view_is)
@@ -97,10 +89,7 @@ invariant_of-self g c =
 pub returns-clause-live : goal.returns-clause-live
 returns-clause-live g c =
     let contents = g.B.Part.Part.contents in
-    let stamp = g.B.Item.Item.stamp in
-    let before = g.B.Item.Item.before in
     let v = c.self.inside in
-    let st = c.self.invariant.0 in
     let new = c.take_in.new.levels in
     let value : c.deref_mut.result.now ≡ v.levels.items = c.deref_mut.ensures.value in
     let whole = written v.levels.len v.levels.items new (sym c.deref_mut.ensures.len ∙ ap length value) (c.take_in.ensures.as_many ∙ ap length value) in
@@ -111,10 +100,7 @@ returns-clause-live g c =
 pub returns-clause-items : goal.returns-clause-items
 returns-clause-items g c =
     let contents = g.B.Part.Part.contents in
-    let stamp = g.B.Item.Item.stamp in
-    let before = g.B.Item.Item.before in
     let v = c.self.inside in
-    let st = c.self.invariant.0 in
     let new = c.take_in.new.levels in
     let value : c.deref_mut.result.now ≡ v.levels.items = c.deref_mut.ensures.value in
     let whole = written v.levels.len v.levels.items new (sym c.deref_mut.ensures.len ∙ ap length value) (c.take_in.ensures.as_many ∙ ap length value) in
@@ -171,9 +157,8 @@ returns-clause-cost g c g' light =
 
 pub returns-clause-some_turns : goal.returns-clause-some_turns
 returns-clause-some_turns g c =
-    let v = c.self.inside in
     let new = c.take_in.new.levels in
-    let value : c.deref_mut.result.now ≡ v.levels.items = c.deref_mut.ensures.value in
+    let value : c.deref_mut.result.now ≡ c.self.inside.levels.items = c.deref_mut.ensures.value in
     let light : weight_of new < 2 ^ (31 + 1) = omega (arith, c.take_in.ensures.weight, ap weight_of value, ap (λ s. weight_of s.levels) c.self.view_is, c.requires.light) in
     let ticked = c.take_in.ensures.cost 31 light in
     omega (arith, c.part_of-part.ensures.some_turns, ticked.spent.turns_spent)

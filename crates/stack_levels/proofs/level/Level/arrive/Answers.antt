@@ -9,8 +9,7 @@ use Rattle.stack_levels.proofs.level.Level.arrive.Goals as goal
 pub invariant_of-self : goal.invariant_of-self
 invariant_of-self g c =
     let h = c.self.invariant in
-    let level = c.self.inside.level in
-    let IsOne : g.row.B-Part.Denot → Type 0 = λ p. IsOfLevel level (g.B.Part.Part.contents p) in
+    let IsOne : g.row.B-Part.Denot → Type 0 = λ p. IsOfLevel c.self.inside.level (g.B.Part.Part.contents p) in
     let same = ap (λ v. v.level) c.self.view_is in
     record {
       most = h.most;
