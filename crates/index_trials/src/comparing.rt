@@ -6,7 +6,7 @@ use crate::order::Order;
 use crate::pace::Pace;
 use crate::seen::Seen;
 use crate::trial::Trial;
-use map_samples::{Failure, Generator, random_points, random_rect};
+use map_samples::{Failure, Generator, points_or_retry, random_rect};
 use map_shapes::{Point, Rect};
 use query_laws::NoMemory;
 use query_laws::step_ledger::Steps;
@@ -108,7 +108,8 @@ fn check_list<L: Ledger>(
     } else {
         Pace::in_waves(generator)
     };
-    let points = draw_points(alloc, generator, updates, &mut seen.refusals.own)?;
+    let own = &mut seen.refusals.own;
+    let points = points_or_retry(alloc, generator, updates, SIDE, own)?;
     let mut trial = Trial::new(alloc, seen);
     for update in 0..updates {
         let case = Case {
@@ -123,27 +124,6 @@ fn check_list<L: Ledger>(
     }
     trial.ask_about(ALL, steps)?;
     Ok(trial.seen)
-}
-
-/// Seeded points for so many adds. It asks for their memory twice, and draws the same both times.
-fn draw_points(
-    alloc: Global,
-    generator: &mut Generator,
-    n: usize,
-    refused: &mut u64,
-) -> Result<Vec<Point>, AllocError>
-    ensures count { IfOk result (λ points. vec_len points ≡ n) }
-    ensures stamps { IfOk result (λ points. (k : ℕ) (p : Point) → slice_get points.items k ≡ Some p → p.stamp ≡ 0 + k) }
-{
-    let state = generator.state;
-    match random_points(alloc, generator, 0, n, SIDE) {
-        Ok(points) => Ok(points),
-        Err(_refused) => {
-            *refused = refused.wrapping_add(1);
-            generator.state = state;
-            random_points(alloc, generator, 0, n, SIDE)
-        }
-    }
 }
 
 /// Begins fewer updates than so many, and gives them up.

@@ -93,7 +93,7 @@ impl Beside<'_> {
         ensures { OnOk result (ids_in rect (map (λ e. e.item) self.now.collection.now.entries) ≡ ids_in rect self.now.list.now.points.items) }
     {
         let ids = self.ids_of_index(alloc, &rect, refused, steps)?;
-        let wanted = self.ids_of_list(alloc, &rect, refused)?;
+        let wanted = do_or_retry(refused, || self.list.list(alloc, &rect))?;
         expect_same(alloc, "list", &rect, &ids, &wanted)?;
         Ok(ids)
     }
@@ -108,32 +108,11 @@ impl Beside<'_> {
     ) -> Result<Vec<u64>, NoMemory>
         ensures { IfOk result (λ ids. ids.items ≡ ids_in rect.now (map (λ e. e.item) self.now.collection.now.entries)) }
     {
-        match answer_over(alloc, &ListIn(*rect), self.collection, steps) {
-            Ok((ids, _parts)) => Ok(ids.into_vec()),
-            Err(_refused) => {
-                *refused = refused.wrapping_add(1);
-                let (ids, _parts) = answer_over(alloc, &ListIn(*rect), self.collection, steps)?;
-                Ok(ids.into_vec())
-            }
-        }
-    }
-
-    /// The identifiers that the list finds.
-    fn ids_of_list(
-        &self,
-        alloc: Global,
-        rect: &Rect,
-        refused: &mut u64,
-    ) -> Result<Vec<u64>, NoMemory>
-        ensures { IfOk result (λ ids. ids.items ≡ ids_in rect.now self.now.list.now.points.items) }
-    {
-        match self.list.list(alloc, rect) {
-            Ok(ids) => Ok(ids),
-            Err(_refused) => {
-                *refused = refused.wrapping_add(1);
-                Ok(self.list.list(alloc, rect)?)
-            }
-        }
+        let question = ListIn(*rect);
+        let (ids, _parts) = do_or_retry(refused, || {
+            answer_over(alloc, &question, self.collection, steps)
+        })?;
+        Ok(ids.into_vec())
     }
 }
 

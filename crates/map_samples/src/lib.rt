@@ -5,6 +5,7 @@
 #![tactic(auto)]
 
 mod both_orders;
+mod drawing;
 mod expected;
 mod failure;
 mod generator;
@@ -17,6 +18,7 @@ mod summary;
 mod watch;
 
 pub use both_orders::{BothOrders, filled, level_for, part_of, sorted};
+pub use drawing::points_or_retry;
 pub use expected::expect_same;
 pub use failure::Failure;
 pub use generator::Generator;

@@ -1,5 +1,5 @@
 //! Work whose memory is asked for twice.
-ghost use Rattle.std.specs.Prelude.{Ok, IfOk};
+ghost use Rattle.std.specs.Prelude.{◌≡◌, ◌⊎◌, ◌+◌, ◌%◌, ◌^◌, Err, IsOk};
 
 /// Does some work, and does it once more where memory is refused, which it counts: so a trial goes on after a refusal, and tells what that
 /// changed. The counter wraps.
@@ -12,7 +12,8 @@ pub fn do_or_retry<T: Drop, E: Drop, F: FnMut() -> Result<T, E>>(
 where
     F: Drop,
     requires { F.IsAlwaysCallable work }
-    ensures { IfOk result (λ done. (state : F) × F.post state (Ok done)) }
+    ensures { (IsOk result × F.post work result × (refused.new ≡ refused.old))
+        ⊎ ((refusal : E) × (state : F) × F.step work (Err refusal) state × F.post state result × (refused.new ≡ (refused.old + 1) % 2 ^ 64)) }
 {
     match work() {
         Ok(done) => Ok(done),

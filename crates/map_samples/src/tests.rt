@@ -1,7 +1,9 @@
-//! Numbers from outside, levels, what is told of numbers, and a plain list.
+//! Numbers from outside, levels, what is told of numbers, a plain list, and work that is done twice.
 ghost use Rattle.std.specs.Prelude.{◌<◌, ◌^◌};
 
-use crate::{Generator, PlainList, Samples, Summary, level_for};
+use crate::{
+    Generator, PlainList, Samples, Summary, do_or_retry, level_for, points_or_retry, random_points,
+};
 use map_shapes::{Point, Rect};
 use std::test::Fail;
 
@@ -39,6 +41,35 @@ fn tells_of_numbers(rt: HostRuntime) -> Result<(), Fail> {
         "count 1000 mean 500 p50 501 p99 991 p99.9 1000 max 1000"
     );
     assert!(rt; Samples::new(rt.alloc()).summary().is_none());
+    Ok(())
+}
+
+#[test]
+fn does_refused_work_once_more(rt: HostRuntime) {
+    for (refusals, done, counted) in [(0, Ok(1), 0), (1, Ok(2), 1), (2, Err(2), 1)] {
+        let mut calls = 0u32;
+        let mut refused = 0;
+        let result = do_or_retry(&mut refused, || {
+            calls = calls.wrapping_add(1);
+            if calls > refusals {
+                Ok(calls)
+            } else {
+                Err(calls)
+            }
+        });
+        assert_eq!(rt; (result, refused), (done, counted), "at {refusals}");
+    }
+}
+
+#[test]
+fn draws_the_same_points(rt: HostRuntime) -> Result<(), Fail> {
+    let mut refused = 0;
+    let points = points_or_retry(rt.alloc(), &mut Generator::new(7), 3, 16, &mut refused)?;
+    let again = random_points(rt.alloc(), &mut Generator::new(7), 0, 3, 16)?;
+    assert_eq!(rt; (points.len(), refused), (3, 0));
+    for (point, same) in points.iter().zip(again.iter()) {
+        assert_eq!(rt; (point.x, point.y, point.w), (same.x, same.y, same.w));
+    }
     Ok(())
 }
 

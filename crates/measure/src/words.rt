@@ -12,14 +12,14 @@ const MOST: usize = 1_048_576;
 const TOP_LEVEL: u32 = 20;
 
 /// A number of points or lines.
-#[derive(Clone, Copy, Debug)]
+#[derive(Clone, Copy, Debug, PartialEq, Eq)]
 pub struct Size {
     pub number: usize,
     pub ghost few: { number ≤ 2 ^ 20 },
 }
 
 /// The level of a construction, or of a number of points.
-#[derive(Clone, Copy, Debug)]
+#[derive(Clone, Copy, Debug, PartialEq, Eq)]
 pub struct Level {
     pub number: u32,
     pub ghost least: { 1 ≤ number },
@@ -27,7 +27,7 @@ pub struct Level {
 }
 
 /// What is asked for. A seed is that of all random numbers.
-#[derive(Clone, Copy, Debug)]
+#[derive(Clone, Copy, Debug, PartialEq, Eq)]
 pub enum Job<'a> {
     /// What a range part of so many points costs, with times or without.
     Part {

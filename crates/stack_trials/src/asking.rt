@@ -4,6 +4,7 @@ ghost use Rattle.stack_levels.specs.Levels.{live_items, parts_of};
 
 use builder_trait::{Answers, Asking, Builder, Part};
 use level_slots::Stack;
+use map_samples::do_or_retry;
 use query_laws::step_ledger::Steps;
 use query_laws::{NoMemory, Question};
 use std::alloc::Global;
@@ -49,11 +50,5 @@ where
     ensures consulted { IfOk result (λ given. given.1 ≡ parts_of stack.now.levels) }
     ensures refusable { IsErr result → IsTrue Q.refusable }
 {
-    match answer_over(alloc, question, stack, steps) {
-        Ok(given) => Ok(given),
-        Err(_refused) => {
-            *refused = refused.wrapping_add(1);
-            answer_over(alloc, question, stack, steps)
-        }
-    }
+    do_or_retry(refused, || answer_over(alloc, question, stack, steps))
 }

@@ -3,10 +3,9 @@ ghost use Rattle.std.specs.Prelude.{◌≡◌, ◌+◌, ◌<◌, ◌≤◌, ◌^
 ghost use Rattle.map_shapes.specs.declared.point.Point.{Point};
 ghost use Rattle.stack_trials.specs.Trial.{AreAlike};
 
-use crate::drawing::points_or_retry;
 use crate::seen::Seen;
 use crate::trial::{ALL, Trial};
-use map_samples::{Failure, Generator, random_rect};
+use map_samples::{Failure, Generator, points_or_retry, random_rect};
 use map_shapes::Point;
 use query_laws::step_ledger::Steps;
 use std::alloc::Global;

@@ -4,7 +4,6 @@
 mod asking;
 mod comparing;
 mod counting;
-mod drawing;
 mod growing;
 mod measuring;
 mod memory;

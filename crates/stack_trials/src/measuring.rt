@@ -4,12 +4,12 @@ ghost use Rattle.std.specs.List.Sorted.{IsPermutation};
 ghost use Rattle.query_laws.specs.Orders.{AllStampsDiffer};
 
 use crate::counting::{Counted, ask_about_each};
-use crate::drawing::points_or_retry;
 use crate::growing::grown;
 use crate::memory::bytes_held;
 use crate::refusals::Refusals;
 use map_samples::{
-    BothOrders, Failure, Generator, Watch, do_or_retry, part_of, random_rect, sorted,
+    BothOrders, Failure, Generator, Watch, do_or_retry, part_of, points_or_retry, random_rect,
+    sorted,
 };
 use map_shapes::{Point, Rect};
 use query_laws::step_ledger::Steps;
@@ -49,7 +49,7 @@ pub fn measure_stack<R: Print + Clock + Files + AllocGlobal, L: Ledger>(
     let own = &mut refusals.own;
     report_memory(watch, bytes_held(watch, own)?.saturating_sub(before), size)?;
     ask_about_each(watch, "stack", &rects, Counted::Stack(&stack), own, steps)?;
-    let orders = sorted_or_retry(alloc, &points, own)?;
+    let orders = do_or_retry(own, || sorted_copy(alloc, &points))?;
     let part = do_or_retry(own, || part_of::<RangeBuilder, L>(alloc, &orders, steps))?;
     ask_about_each(watch, "part", &rects, Counted::Part(&part), own, steps)?;
     refusals.report(watch.rt)?;
@@ -90,14 +90,10 @@ fn rects_or_retry(
     ensures { IfOk result (λ rects. vec_len rects ≡ n) }
 {
     let state = generator.state;
-    match random_rects(alloc, generator, n) {
-        Ok(rects) => Ok(rects),
-        Err(_refused) => {
-            *refused = refused.wrapping_add(1);
-            generator.state = state;
-            random_rects(alloc, generator, n)
-        }
-    }
+    do_or_retry(refused, || {
+        generator.state = state;
+        random_rects(alloc, generator, n)
+    })
 }
 
 /// The points in both orders. It copies them, so that it can be done twice.
@@ -107,23 +103,4 @@ fn sorted_copy(alloc: Global, points: &[Point]) -> Result<BothOrders<Point>, All
     ensures { IfOk result (λ orders. IsPermutation points.now orders.items) }
 {
     sorted(alloc, Vec::from_slice(alloc, points)?)
-}
-
-/// The same, and once more where memory is refused, which it counts.
-fn sorted_or_retry(
-    alloc: Global,
-    points: &[Point],
-    refused: &mut u64,
-) -> Result<BothOrders<Point>, AllocError>
-    requires few { length points.now ≤ 2 ^ 31 }
-    requires apart { AllStampsDiffer (λ p. p.stamp) points.now }
-    ensures { IfOk result (λ orders. IsPermutation points.now orders.items) }
-{
-    match sorted_copy(alloc, points) {
-        Ok(orders) => Ok(orders),
-        Err(_refused) => {
-            *refused = refused.wrapping_add(1);
-            sorted_copy(alloc, points)
-        }
-    }
 }

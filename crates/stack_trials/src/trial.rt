@@ -12,7 +12,7 @@ use crate::refusals::Refusals;
 use crate::seen::Seen;
 use crate::trace::Trace;
 use level_slots::Stack;
-use map_samples::{Failure, PlainList, expect_same, sum_of};
+use map_samples::{Failure, PlainList, do_or_retry, expect_same, sum_of};
 use map_shapes::{CountIn, ListIn, Point, Rect};
 use query_laws::step_ledger::Steps;
 use range_tree::RangeBuilder;
@@ -254,11 +254,5 @@ fn ids_or_retry(
 ) -> Result<Vec<u64>, AllocError>
     ensures { IfOk result (λ ids. ids.items ≡ ids_in rect.now list.now.points.items) }
 {
-    match list.list(alloc, rect) {
-        Ok(ids) => Ok(ids),
-        Err(_refused) => {
-            *refused = refused.wrapping_add(1);
-            list.list(alloc, rect)
-        }
-    }
+    do_or_retry(refused, || list.list(alloc, rect))
 }

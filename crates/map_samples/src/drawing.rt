@@ -3,7 +3,9 @@ ghost use Rattle.std.specs.Prelude.{◌≡◌, ◌+◌, ◌<◌, ◌≤◌, ◌^
 ghost use Rattle.query_laws.specs.Orders.{AllStampsDiffer};
 ghost use Rattle.map_shapes.specs.declared.point.Point.{Point};
 
-use map_samples::{Generator, random_points};
+use crate::generator::Generator;
+use crate::random::random_points;
+use crate::retrying::do_or_retry;
 use map_shapes::Point;
 use std::alloc::{AllocError, Global};
 
@@ -11,7 +13,7 @@ use std::alloc::{AllocError, Global};
 /// more.
 ///
 /// `AllocError` where it is refused twice.
-pub(crate) fn points_or_retry(
+pub fn points_or_retry(
     alloc: Global,
     generator: &mut Generator,
     n: usize,
@@ -25,12 +27,14 @@ pub(crate) fn points_or_retry(
     ensures apart { IfOk result (λ points. AllStampsDiffer (λ p. p.stamp) points.items) }
 {
     let state = generator.state;
-    match random_points(alloc, generator, 0, n, side) {
-        Ok(points) => Ok(points),
-        Err(_refused) => {
-            *refused = refused.wrapping_add(1);
+    do_or_retry(
+        refused,
+        ||
+            requires positive { 0 < side }
+            requires side { side ≤ 2 ^ 31 }
+        {
             generator.state = state;
             random_points(alloc, generator, 0, n, side)
-        }
-    }
+        },
+    )
 }
