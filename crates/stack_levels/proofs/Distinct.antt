@@ -48,6 +48,13 @@ module _ {Item : Type 0} where
         AllPairs-front (λ x y. stamp x ≢ stamp y) xs within.0
         (AllStampsDiffer-permuted stamp (Permuted-sym within.1) apart)
 
+    -- the items of one of two lists
+    pub AllStampsDiffer-front : (xs ys : List Item) → AllStampsDiffer stamp (xs ++ ys) → AllStampsDiffer stamp xs
+    AllStampsDiffer-front = AllPairs-front (λ x y. stamp x ≢ stamp y)
+
+    pub AllStampsDiffer-back : (xs ys : List Item) → AllStampsDiffer stamp (xs ++ ys) → AllStampsDiffer stamp ys
+    AllStampsDiffer-back xs ys = AllStampsDiffer-part ys (xs ++ ys) (IsPartOf-back xs ys)
+
     -- the stamps of one part differ from those of another
     pub StampsDiffer-parts : (xs ys : List Item) → AllStampsDiffer stamp (xs ++ ys) → StampsDiffer stamp xs ys
     StampsDiffer-parts xs ys apart k l x y at_x at_y =

@@ -1,7 +1,7 @@
 -- The lists of a level.
-use Rattle.std.proofs.Common.{◌≡◌, ℕ, zero, suc, ◌+◌, ◌<◌, ◌≤◌, Option, Some, None, List, [], ◌∷◌, ◌++◌, ◌∙◌, length, take, drop, remove, option_to_list, All, arith, refl, ap, sym, subst}
+use Rattle.std.proofs.Common.{◌≡◌, ℕ, ◌+◌, ◌<◌, ◌≤◌, Option, Some, None, List, [], ◌∷◌, ◌++◌, ◌∙◌, length, take, drop, remove, option_to_list, All, arith, refl, ap, sym, subst}
 use Rattle.std.specs.Option.{is_some}
-use Rattle.std.proofs.lemmas.List.{length-append, length_push, drop-drop}
+use Rattle.std.proofs.lemmas.List.{length-append, length_push, drop-drop, take_at}
 use Rattle.std.proofs.lemmas.List.Elements.{All-pop, All-push, All-tail}
 use Rattle.builder_trait.specs.Parts.{Contents}
 use Rattle.builder_trait.specs.Builders.{Progress, begun}
@@ -68,23 +68,15 @@ module _ {P B Item : Type 0} {contents : P → Contents Item} {progress : B → 
   IsLevel-building c same few =
       IsLevel-of (λ c' is. let e : c ≡ c' = cc in ap (λ v. v.level) (sym e) ∙ same) h.parts_held h.builders_held h.tables_held few
 
-  pub IsLevel-built : IsLevel contents progress level parts parts_room None room builders builders_room tables tables_room
-  IsLevel-built = IsLevel-of (λ c is. absurd cc) h.parts_held h.builders_held h.tables_held (omega (arith, h.few))
+  pub IsLevel-built : {construction' : Option (Construction Item)} → construction' ≡ None
+      → IsLevel contents progress level parts parts_room construction' room builders builders_room tables tables_room
+  IsLevel-built none =
+      IsLevel-of (λ c is. let wrong : None ≡ Some c = sym none ∙ is in absurd cc) h.parts_held h.builders_held h.tables_held
+      (omega (arith, h.few, ap (λ o. one_if (is_some o)) none))
 
 -- a slice of a whole list was written
 pub written : {A : Type 0} (n : ℕ) (old new : List A) → n ≡ length old → length new ≡ length old → take n (new ++ drop (length new) old) ≡ new
-written {A} n old new same as_long = subst (λ k. take k (new ++ drop (length new) old) ≡ new) (as_long ∙ sym same)
-    (ap (λ l. take (length new) (new ++ l)) (none_left old (length new) (omega (arith, as_long))) ∙ whole new)
-  where
-    none_left : (l : List A) (k : ℕ) → length l ≤ k → drop k l ≡ []
-    none_left [] zero few = refl
-    none_left [] (suc k) few = refl
-    none_left (x ∷ l) zero few = absurd (omega (arith, few))
-    none_left (x ∷ l) (suc k) few = none_left l k (omega (arith, few))
-
-    whole : (l : List A) → take (length l) (l ++ []) ≡ l
-    whole [] = refl
-    whole (x ∷ l) = ap (λ m. x ∷ m) (whole l)
+written n old new same as_long = take_at new (drop (length new) old) n (as_long ∙ sym same)
 
 -- one element fewer at the front
 pub drop_more : {A : Type 0} (n : ℕ) (xs : List A) → drop 1 (drop n xs) ≡ drop (n + 1) xs

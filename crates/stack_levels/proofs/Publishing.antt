@@ -1,7 +1,7 @@
 -- The items of two neighbouring levels, where a part is published.
 use Rattle.std.proofs.Common.{◌≡◌, ℕ, suc, ◌+◌, ◌*◌, ◌^◌, ◌≤◌, ◌∙◌, List, [], ◌∷◌, ◌++◌, length, get_or, drop, refl, ap, ap₂, sym, subst, arith, append_assoc}
 use Rattle.std.specs.List.{flat_map}
-use Rattle.std.proofs.Math.Nat.{pow-suc}
+use Rattle.std.proofs.lemmas.Grind.{pow_more}
 use Rattle.std.proofs.Math.Pow.{pow_mono}
 use Rattle.std.proofs.lemmas.List.{flat_map_more, length-append}
 use Rattle.query_laws.specs.Permuted.{Permuted}
@@ -32,7 +32,7 @@ are_oldest {P} xs {held} {a} {b} same two first second = subst (λ l. l ≡ a �
     told (x ∷ y ∷ rest) two' at at' = ap₂ (λ p q. p ∷ q ∷ rest) (sym at) (sym at')
 
 pub doubled : (n : ℕ) → 2 ^ (n + 1) ≡ 2 * 2 ^ n
-doubled n = let next : n + 1 ≡ suc n = omega arith in ap (λ k. 2 ^ k) next ∙ omega (arith, pow-suc 2 n)
+doubled n = omega (arith, pow_more 2 n)
 
 -- the items of the two oldest parts are among those of all
 pub oldest_items : {P A : Type 0} (f : P → List A) (xs : List P) (a b : P) → xs ≡ a ∷ b ∷ drop 2 xs → IsPartOf (f a ++ f b) (flat_map f xs)

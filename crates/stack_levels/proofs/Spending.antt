@@ -4,7 +4,7 @@ use Rattle.std.specs.List.{range_with_len}
 use Rattle.std.proofs.lemmas.Bool.{cases_lt}
 use Rattle.std.proofs.lemmas.List.Sums.{sum_by-cons}
 use Rattle.query_laws.specs.StepLedger.{Counts, Spends}
-use Rattle.query_laws.proofs.Counting.{Spends-nothing, Spends-then, Spends-within}
+use Rattle.query_laws.proofs.Counting.{Spends-then, Spends-within}
 use Rattle.partial_build.specs.Quota.{quota}
 use Rattle.stack_levels.specs.Cost.{IsWithin, quotas}
 
@@ -19,9 +19,6 @@ IsWithin-of {turns} {marks} {touches} {turns'} {marks'} {touches'} {old} {new} s
       spent = subst (λ n. Spends old new (new.turns - old.turns) n (16 * (new.turns - old.turns) + n * touches')) marked
           (subst (λ n. Spends old new n marks (16 * n + marks * touches')) taken (Spends-within spent refl refl bound));
     }
-
-pub IsWithin-nothing : (turns marks touches : ℕ) (steps : Counts) → IsWithin turns marks touches steps steps
-IsWithin-nothing turns marks touches steps = IsWithin-of (Spends-nothing steps) (omega arith) (omega arith) (omega arith)
 
 pub IsWithin-more : {turns marks touches turns' marks' touches' : ℕ} {old new : Counts} → IsWithin turns marks touches old new
     → turns ≤ turns' → marks ≤ marks' → touches ≤ touches' → IsWithin turns' marks' touches' old new

@@ -7,7 +7,7 @@ use Rattle.query_laws.specs.StepLedger.{Counts, Spends}
 use Rattle.builder_trait.specs.Parts.{Contents, OwnsStamp, has_stamp, marked}
 use Rattle.stack_levels.specs.Slots.{asked_in}
 use Rattle.stack_levels.specs.Marking.{Lacks, AreMarkedAt, nowhere, here, later}
-use Rattle.stack_levels.proofs.Distinct.{AllStampsDiffer-part, IsPartOf-back}
+use Rattle.stack_levels.proofs.Distinct.{AllStampsDiffer-back}
 use Rattle.stack_levels.proofs.Marks.{All-first, All-second, others_lack, lives, asked-here, asked-later, Spends-here, Spends-both}
 use Rattle.stack_levels.proofs.Publishing.{none_of}
 use Rattle.stack_levels.proofs.level.+mark_parts.Goals as goal
@@ -81,8 +81,7 @@ mark_parts-requires g p c κs lives =
     let part = c.in-Some.part.now in
     let rest = c.in-Some.rest.now in
     let split = c.in-Some.ensures.cases in
-    let apart = AllStampsDiffer-part stamp (flat_map f rest) (f part ++ flat_map f rest) (IsPartOf-back (f part) (flat_map f rest))
-    (subst (λ ps. AllStampsDiffer stamp (flat_map f ps)) split.0 c.requires.apart) in
+    let apart = AllStampsDiffer-back stamp (f part) (flat_map f rest) (subst (λ ps. AllStampsDiffer stamp (flat_map f ps)) split.0 c.requires.apart) in
     let owner = All-second (λ y. stamp y ≡ stamp x → y ≡ x) (f part) (flat_map f rest)
     (subst (λ ps. OwnsStamp stamp x (flat_map f ps)) split.0 c.requires.owner) in (
       omega (arith, c.decreases, split.1),

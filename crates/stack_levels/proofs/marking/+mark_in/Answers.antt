@@ -10,7 +10,7 @@ use Rattle.stack_levels.specs.Levels.{lowest_held, weight_of, live_items, all_it
 use Rattle.stack_levels.specs.Neighbours.{IsPunctual}
 use Rattle.stack_levels.specs.Towers.{IsDue, IsDueSoon, HaveRoomsAbove, AreLevels}
 use Rattle.stack_levels.specs.Marking.{IsSameBelow}
-use Rattle.stack_levels.proofs.Distinct.{AllStampsDiffer-part, IsPartOf-front, IsPartOf-back}
+use Rattle.stack_levels.proofs.Distinct.{AllStampsDiffer-front, AllStampsDiffer-back}
 use Rattle.stack_levels.proofs.Publishing.{none_of}
 use Rattle.stack_levels.proofs.Marks.{All-first, All-second, has_stamp-append, without-append, without-lacking, Spends-both}
 use Rattle.stack_levels.proofs.MarkedLevels.{Follows-due, Follows-soon, rooms-over, rooms-marked, same-noted, held-noted, tower-over, lacks-below, asked-above, asked-both, light_level, levels_from_tower}
@@ -31,8 +31,8 @@ mark_in-requires g p c κs lives =
     let punctual : Slots g.row.B-Part.Denot g.row.B-Item.Denot → Type 0 = IsPunctual g.B.Builder.SLOPE g.B.Builder.BASE in
     let levels = levels_from_tower contents stamp before level above (subst (AreLevels contents stamp before) split c.requires.levels) in
     let on_time = All-tail punctual level above (subst (All punctual) split c.requires.punctual) in
-    let apart = AllStampsDiffer-part stamp (all_items contents above) (all_items contents above ++ items_in contents level)
-    (IsPartOf-front (all_items contents above) (items_in contents level)) (subst (λ ls. AllStampsDiffer stamp (all_items contents ls)) split c.requires.apart) in
+    let apart = AllStampsDiffer-front stamp (all_items contents above) (items_in contents level)
+    (subst (λ ls. AllStampsDiffer stamp (all_items contents ls)) split c.requires.apart) in
     let owner = All-first (λ y. stamp y ≡ stamp x → y ≡ x) (all_items contents above) (items_in contents level)
     (subst (λ ls. OwnsStamp stamp x (all_items contents ls)) split c.requires.owner) in
     (omega (arith, c.decreases, c.in-Some.ensures.cases.1), (lives.0, (lives.1.0, (lives.1.1.0, (lives.1.1.1, (levels, (on_time, (apart, owner))))))))
@@ -83,8 +83,8 @@ mark_and_note-requires g p c =
     record {
       tower = tower-over contents stamp before level above c.mark_in.new.levels (subst (AreLevels contents stamp before) split c.requires.levels) h.levels h.same;
       punctual = h.unfound c.if-mark_in.false;
-      apart = AllStampsDiffer-part stamp (items_in contents level) (all_items contents above ++ items_in contents level)
-          (IsPartOf-back (all_items contents above) (items_in contents level)) (subst (λ ls. AllStampsDiffer stamp (all_items contents ls)) split c.requires.apart);
+      apart = AllStampsDiffer-back stamp (all_items contents above) (items_in contents level)
+          (subst (λ ls. AllStampsDiffer stamp (all_items contents ls)) split c.requires.apart);
       owner = All-second (λ y. stamp y ≡ stamp x → y ≡ x) (all_items contents above) (items_in contents level)
           (subst (λ ls. OwnsStamp stamp x (all_items contents ls)) split c.requires.owner);
     }

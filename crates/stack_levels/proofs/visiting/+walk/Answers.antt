@@ -10,7 +10,7 @@ use Rattle.stack_levels.specs.Levels.{weight_of, live_items, all_items}
 use Rattle.stack_levels.specs.Neighbours.{IsPunctual}
 use Rattle.stack_levels.specs.Towers.{IsHalfway, IsTower, IsDue, HaveRooms, HaveRoomsAbove, HaveRoomsAhead}
 use Rattle.stack_levels.specs.Cost.{IsWithin, quotas}
-use Rattle.stack_levels.proofs.Distinct.{AllStampsDiffer-part, IsPartOf-back, IsPartOf-refl}
+use Rattle.stack_levels.proofs.Distinct.{AllStampsDiffer-part, AllStampsDiffer-back, IsPartOf-refl}
 use Rattle.stack_levels.proofs.Publishing.{none_of}
 use Rattle.stack_levels.proofs.MarkedLevels.{light_below}
 use Rattle.stack_levels.proofs.Towers.{place, rooms_above, halfway-from_tower, below-same, rooms-walked, live-walked, items-walked, part_of_rest, weight-walked, weight-rest}
@@ -31,8 +31,7 @@ visit-requires g p c =
       below = h.0;
       roomy = h.1;
       place = place contents stamp before c.in-Some.level.now c.in-Some.above.now h.2;
-      apart = AllStampsDiffer-part stamp (items_in contents lower) (all_items contents (lower ∷ c.args.above.now))
-          (IsPartOf-back (all_items contents c.args.above.now) (items_in contents lower)) c.requires.apart;
+      apart = AllStampsDiffer-back stamp (all_items contents c.args.above.now) (items_in contents lower) c.requires.apart;
     }
 
 pub walk-requires : goal.walk-requires
