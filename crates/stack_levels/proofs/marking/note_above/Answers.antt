@@ -14,11 +14,10 @@ read_twice {P} {Item} {levels} {next} {l} {next'} {l'} {above} {rest} Q split wa
     let to : next' ≡ l' = cc in
     subst (Q l) to (subst (λ v. Q v next') from h)
 
-pub note-requires-clause-early : goal.note-requires-clause-early
-note-requires-clause-early g c = (c.requires.early c.in-Some.next.now c.in-Some._above.now c.in-Some.ensures.cases.0).0
-
-pub note-requires-clause-punctual : goal.note-requires-clause-punctual
-note-requires-clause-punctual g c = (c.requires.early c.in-Some.next.now c.in-Some._above.now c.in-Some.ensures.cases.0).1
+pub note-requires : goal.note-requires
+note-requires g c =
+    let h = c.requires.early c.in-Some.next.now c.in-Some._above.now c.in-Some.ensures.cases.0 in
+    record { early = h.0; punctual = h.1 }
 
 pub returns-then-place-ge2-clause-noted : goal.returns-then-place-ge2-clause-noted
 returns-then-place-ge2-clause-noted g c = AreNoted-refl c.args.above.now

@@ -2,10 +2,9 @@ use Rattle.std.proofs.Common.{◌≡◌, ℕ, ◌+◌, ◌-◌, ◌*◌, ◌^◌
 use Rattle.std.proofs.lemmas.Bool.{cases_lt}
 use Rattle.std.proofs.lemmas.List.Elements.{All-cons}
 use Rattle.query_laws.specs.Orders.{AllStampsDiffer}
-use Rattle.query_laws.specs.Permuted.{Permuted}
 use Rattle.query_laws.proofs.Permutations.{Permuted-refl}
 use Rattle.partial_build.specs.Quota.{quota}
-use Rattle.stack_levels.specs.Slots.{IsPartOf, ticks_of, held_in, items_in}
+use Rattle.stack_levels.specs.Slots.{ticks_of, held_in, items_in}
 use Rattle.stack_levels.specs.Levels.{weight_of, live_items, all_items}
 use Rattle.stack_levels.specs.Neighbours.{IsPunctual}
 use Rattle.stack_levels.specs.Towers.{IsHalfway, IsTower, IsDue, HaveRooms, HaveRoomsAbove, HaveRoomsAhead}
@@ -78,10 +77,8 @@ returns-in-Some g p c =
         w.tower,
       );
       punctual = All-cons (IsPunctual slope base) level' above' (λ c' is. v.punctual c' (sym (ap (λ l. l.construction) w.same) ∙ is)) w.punctual;
-      live = subst (λ ls. Permuted (live_items contents (lower' ∷ level' ∷ above')) (live_items contents (lower ∷ ls))) (sym split)
-          (live-walked contents stamp before v.visited above (level' ∷ above') w.live);
-      items = subst (λ ls. IsPartOf (all_items contents (lower' ∷ level' ∷ above')) (all_items contents (lower ∷ ls))) (sym split)
-          (items-walked contents stamp before v.visited above (level' ∷ above') w.items);
+      live = rw split (live-walked contents stamp before v.visited above (level' ∷ above') w.live);
+      items = rw split (items-walked contents stamp before v.visited above (level' ∷ above') w.items);
       weight = weight-walked contents stamp before v.visited above level' above' w.weight ∙ ap (λ ls. weight_of (lower ∷ ls)) (sym split);
       same = v.same_below;
       as_many = omega (arith, w.as_many, c.in-Some.ensures.cases.1);

@@ -1,9 +1,8 @@
-use Rattle.std.proofs.Common.{◌≡◌, ℕ, ◌+◌, ◌-◌, ◌*◌, ◌^◌, ◌<◌, ◌∙◌, ◌∷◌, Some, None, map, drop, subst, sym, ap, arith}
+use Rattle.std.proofs.Common.{◌≡◌, ℕ, ◌+◌, ◌-◌, ◌*◌, ◌^◌, ◌<◌, ◌∙◌, Some, None, map, drop, subst, sym, ap, arith}
 use Rattle.std.proofs.lemmas.List.Elements.{All-cons}
 use Rattle.query_laws.specs.Orders.{AllStampsDiffer}
-use Rattle.query_laws.specs.Permuted.{Permuted}
-use Rattle.stack_levels.specs.Slots.{IsPartOf, held_in}
-use Rattle.stack_levels.specs.Levels.{lowest_held, weight_of, live_items, all_items}
+use Rattle.stack_levels.specs.Slots.{held_in}
+use Rattle.stack_levels.specs.Levels.{lowest_held, weight_of, all_items}
 use Rattle.stack_levels.specs.Neighbours.{IsPunctual}
 use Rattle.stack_levels.specs.Cost.{IsWithin, quotas}
 use Rattle.stack_levels.specs.Towers.{AreHalfway, HaveRoomsNext}
@@ -24,15 +23,14 @@ returns g c =
     let contents = g.B.Part.Part.contents in
     let split = c.in-Some.ensures.cases.0 in
     let w = c.walk.ensures in
-    let new = c.walk.new.lower ∷ c.walk.new.above in
     let h = subst (AreHalfway contents g.B.Item.Item.stamp g.B.Item.Item.before) split c.requires.halfway in
     let none : c.walk.new.lower.construction ≡ None = ap (λ v. v.construction) w.same ∙ h.1 in
     record {
       levels = (ap (λ v. v.level) w.same ∙ h.0, none, w.tower);
       punctual = All-cons (IsPunctual g.B.Builder.SLOPE g.B.Builder.BASE) c.walk.new.lower c.walk.new.above
           (λ c' is. let wrong : None ≡ Some c' = sym none ∙ is in absurd cc) w.punctual;
-      live = subst (λ ls. Permuted (live_items contents new) (live_items contents ls)) (sym split) w.live;
-      items = subst (λ ls. IsPartOf (all_items contents new) (all_items contents ls)) (sym split) w.items;
+      live = rw split w.live;
+      items = rw split w.items;
       weight = w.weight ∙ sym (ap weight_of split);
       rooms = λ next. w.rooms (subst HaveRoomsNext split next);
       held_above = w.held ∙ sym (ap (λ ls. drop 1 (map held_in ls)) split);
