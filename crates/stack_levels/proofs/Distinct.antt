@@ -1,13 +1,14 @@
 -- Lists of items with different stamps, and parts of them.
-use Rattle.std.proofs.Common.{◌≡◌, ◌≢◌, ℕ, ◌+◌, ◌<◌, List, [], ◌∷◌, ◌++◌, length, get_or, sym, ap, subst, ◌∙◌, arith, All, AllPairs, append_assoc}
+use Rattle.std.proofs.Common.{◌≡◌, ◌≢◌, ℕ, ◌+◌, ◌<◌, List, [], ◌∷◌, ◌++◌, length, get_or, Some, slice_get, sym, ap, subst, ◌∙◌, arith, All, AllPairs, append_assoc}
 use Rattle.std.proofs.lemmas.List.{get_or_append_left, append-nil, get_or-append-add, length-append}
 use Rattle.std.proofs.lemmas.List.Kept.{AllPairs-cons}
-use Rattle.std.proofs.lemmas.Option.{slice_get_within, get_or_from_slice_get}
+use Rattle.std.proofs.lemmas.Option.{slice_get_within, slice_get-get_or, get_or_from_slice_get}
 use Rattle.query_laws.specs.Permuted.{Permuted, composed}
-use Rattle.query_laws.proofs.Permutations.{Permuted-refl, Permuted-sym, Permuted-append, Permuted-append_left, Permuted-append_right, Permuted-append_comm}
+use Rattle.query_laws.proofs.Permutations.{Permuted-refl, Permuted-sym, Permuted-append, Permuted-append_left, Permuted-append_comm}
 use Rattle.query_laws.specs.Orders.{AllStampsDiffer}
 use Rattle.query_laws.proofs.Stamps.{AllStampsDiffer-permuted}
 use Rattle.ordered_merge.specs.Merging.{StampsDiffer}
+use Rattle.partial_build.proofs.Stamps.{Permuted-crossed}
 use Rattle.stack_levels.specs.Slots.{IsPartOf}
 
 module _ {A : Type 0} (R : A → A → Type 0) where
@@ -37,23 +38,22 @@ module _ {Item : Type 0} where
         (composed (Permuted-append_left second.0 first.1) second.1),
   )
 
-  exchanged : (a b c d : List Item) → Permuted ((a ++ b) ++ (c ++ d)) ((a ++ c) ++ (b ++ d))
-  exchanged a b c d =
-      subst (λ l. Permuted l ((a ++ c) ++ (b ++ d))) (sym (append_assoc a b (c ++ d)))
-      (subst (λ l. Permuted (a ++ (b ++ (c ++ d))) l) (sym (append_assoc a c (b ++ d)))
-      (Permuted-append_right a
-      (subst (λ l. Permuted l (c ++ (b ++ d))) (append_assoc b c d)
-      (subst (λ l. Permuted ((b ++ c) ++ d) l) (append_assoc c b d) (Permuted-append_left d (Permuted-append_comm b c))))))
-
   pub IsPartOf-append : (xs ys us vs : List Item) → IsPartOf xs ys → IsPartOf us vs → IsPartOf (xs ++ us) (ys ++ vs)
   IsPartOf-append xs ys us vs first second =
-      (first.0 ++ second.0, composed (exchanged xs us first.0 second.0) (Permuted-append first.1 second.1))
+      (first.0 ++ second.0, composed (Permuted-crossed xs us first.0 second.0) (Permuted-append first.1 second.1))
 
   module _ (stamp : Item → ℕ) where
     pub AllStampsDiffer-part : (xs ys : List Item) → IsPartOf xs ys → AllStampsDiffer stamp ys → AllStampsDiffer stamp xs
     AllStampsDiffer-part xs ys within apart =
         AllPairs-front (λ x y. stamp x ≢ stamp y) xs within.0
         (AllStampsDiffer-permuted stamp (Permuted-sym within.1) apart)
+
+    -- the items of one of two lists
+    pub AllStampsDiffer-front : (xs ys : List Item) → AllStampsDiffer stamp (xs ++ ys) → AllStampsDiffer stamp xs
+    AllStampsDiffer-front = AllPairs-front (λ x y. stamp x ≢ stamp y)
+
+    pub AllStampsDiffer-back : (xs ys : List Item) → AllStampsDiffer stamp (xs ++ ys) → AllStampsDiffer stamp ys
+    AllStampsDiffer-back xs ys = AllStampsDiffer-part ys (xs ++ ys) (IsPartOf-back xs ys)
 
     -- the stamps of one part differ from those of another
     pub StampsDiffer-parts : (xs ys : List Item) → AllStampsDiffer stamp (xs ++ ys) → StampsDiffer stamp xs ys
@@ -64,6 +64,11 @@ module _ {Item : Type 0} where
         let second : get_or (xs ++ ys) (length xs + l) x ≡ y = get_or-append-add xs ys l x ∙ get_or_from_slice_get ys l y x at_y in
         λ same. apart k (length xs + l) x (omega arith) (omega (arith, inside_other, length-append xs ys))
         (ap stamp first ∙ same ∙ ap stamp (sym second))
+
+    pub none_same : (xs ys : List Item) → AllStampsDiffer stamp (xs ++ ys) → (k : ℕ) (x : Item) → slice_get xs k ≡ Some x
+        → All (λ y. stamp y ≢ stamp x) ys
+    none_same xs ys apart k x at l d within same =
+        StampsDiffer-parts xs ys apart k l x (get_or ys l d) at (slice_get-get_or ys l d within) (sym same)
 
     pub AllStampsDiffer-push : (x : Item) (xs : List Item) → All (λ y. stamp y ≢ stamp x) xs → AllStampsDiffer stamp xs
         → AllStampsDiffer stamp (x ∷ xs)

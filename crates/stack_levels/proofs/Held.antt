@@ -1,13 +1,13 @@
 -- The lists of a level.
-use Rattle.std.proofs.Common.{◌≡◌, ℕ, zero, suc, ◌+◌, ◌<◌, ◌≤◌, Option, Some, None, List, [], ◌∷◌, ◌++◌, ◌∙◌, length, take, drop, remove, option_to_list, arith, refl, ap, sym, subst}
+use Rattle.std.proofs.Common.{◌≡◌, ℕ, ◌+◌, ◌<◌, ◌≤◌, Option, Some, None, List, [], ◌∷◌, ◌++◌, ◌∙◌, length, take, drop, remove, option_to_list, All, arith, refl, ap, sym, subst}
 use Rattle.std.specs.Option.{is_some}
-use Rattle.std.proofs.lemmas.List.{length-append, drop-drop}
-use Rattle.std.proofs.lemmas.List.Elements.{All-append, All-cons, All-nil, All-pop, All-tail}
+use Rattle.std.proofs.lemmas.List.{length-append, length_push, drop-drop, take_at}
+use Rattle.std.proofs.lemmas.List.Elements.{All-pop, All-push, All-tail}
 use Rattle.builder_trait.specs.Parts.{Contents}
-use Rattle.builder_trait.specs.Builders.{Progress}
+use Rattle.builder_trait.specs.Builders.{Progress, begun}
 use Rattle.partial_build.specs.Construction.{Construction}
 use Rattle.stack_levels.specs.Slots.{one_if}
-use Rattle.stack_levels.specs.Level.{AreHeld, IsLevel}
+use Rattle.stack_levels.specs.Level.{AreHeld, IsLevel, IsOfLevel}
 
 pub counted : {X : Type 0} {o : Option X} {x : X} → o ≡ Some x → one_if (is_some o) ≡ 1
 counted {X} {o} {x} is = subst (λ p. one_if (is_some p) ≡ 1) (sym is) refl
@@ -17,72 +17,66 @@ length-rest [] some = absurd (omega (arith, some))
 length-rest (x ∷ xs) some = omega arith
 
 module _ {X : Type 0} {IsOne : X → Type 0} {most : ℕ} {room : ℕ} where
-  pub AreHeld-push : (xs : List X) (x : X) → AreHeld IsOne most xs room → IsOne x → length xs < most → AreHeld IsOne most (xs ++ x ∷ []) room
-  AreHeld-push xs x h one less = record {
-    each = All-append IsOne xs (x ∷ []) h.each (All-cons IsOne x [] one (All-nil IsOne));
-    few = omega (arith, less, length-append xs (x ∷ []));
-    place = h.place;
+  pub AreHeld-push : (xs : List X) (x : X) {ys : List X} {room' : ℕ} → ys ≡ xs ++ x ∷ [] → room' ≡ room → AreHeld IsOne most xs room → IsOne x
+      → length xs < most → AreHeld IsOne most ys room'
+  AreHeld-push xs x same as_wide h one less = record {
+    each = subst (All IsOne) (sym same) (All-push IsOne xs x h.each one);
+    few = omega (arith, less, ap length same, length_push xs x);
+    place = omega (arith, h.place, as_wide);
   }
 
-  pub AreHeld-rest : (xs : List X) → 0 < length xs → AreHeld IsOne most xs room → AreHeld IsOne most (remove xs 0) room
-  AreHeld-rest [] some h = absurd (omega (arith, some))
-  AreHeld-rest (x ∷ xs) some h = record {
-    each = All-tail IsOne x xs h.each;
-    few = omega (arith, h.few);
-    place = h.place;
+  pub AreHeld-rest : (xs : List X) {ys : List X} {room' : ℕ} → ys ≡ remove xs 0 → room' ≡ room → 0 < length xs → AreHeld IsOne most xs room
+      → AreHeld IsOne most ys room'
+  AreHeld-rest [] same as_wide some h = absurd (omega (arith, some))
+  AreHeld-rest (x ∷ xs) same as_wide some h = record {
+    each = subst (All IsOne) (sym same) (All-tail IsOne x xs h.each);
+    few = omega (arith, h.few, ap length same);
+    place = omega (arith, h.place, as_wide);
   }
 
-  pub AreHeld-popped : (xs ys : List X) (last : Option X) → xs ≡ ys ++ option_to_list last → AreHeld IsOne most xs room
-      → AreHeld IsOne most ys room
-  AreHeld-popped xs ys last same h = record {
+  pub AreHeld-popped : (xs ys : List X) (last : Option X) {room' : ℕ} → xs ≡ ys ++ option_to_list last → room' ≡ room → AreHeld IsOne most xs room
+      → AreHeld IsOne most ys room'
+  AreHeld-popped xs ys last same as_wide h = record {
     each = (All-pop IsOne xs ys last same h.each).0;
     few = omega (arith, h.few, ap length same, length-append ys (option_to_list last));
-    place = h.place;
+    place = omega (arith, h.place, as_wide);
   }
 
 module _ {P B Item : Type 0} {contents : P → Contents Item} {progress : B → Progress Item} {level : ℕ} {parts : List P} {parts_room : ℕ}
     {construction : Option (Construction Item)} {room : Option ℕ} {builders : List B} {builders_room : ℕ} {tables : List ℕ} {tables_room : ℕ}
     (h : IsLevel contents progress level parts parts_room construction room builders builders_room tables tables_room) where
-  pub IsLevel-building : (c : Construction Item) → c.level ≡ level
-      → length parts + 1 + one_if (is_some room) + length builders ≤ 5
-      → IsLevel contents progress level parts parts_room (Some c) room builders builders_room tables tables_room
-  IsLevel-building c same few = record {
+  -- the same level and room, with another construction and other lists
+  pub IsLevel-of : {parts' : List P} {parts_room' : ℕ} {construction' : Option (Construction Item)} {builders' : List B} {builders_room' : ℕ}
+      {tables' : List ℕ} {tables_room' : ℕ} → ((c : Construction Item) → construction' ≡ Some c → c.level ≡ level)
+      → AreHeld (λ p. IsOfLevel level (contents p)) 3 parts' parts_room' → AreHeld (λ b. progress b ≡ begun level) 5 builders' builders_room'
+      → AreHeld (λ t. t ≡ level) 2 tables' tables_room' → length parts' + one_if (is_some construction') + one_if (is_some room) + length builders' ≤ 5
+      → IsLevel contents progress level parts' parts_room' construction' room builders' builders_room' tables' tables_room'
+  IsLevel-of builds parts_held builders_held tables_held few = record {
     most = h.most;
-    parts_held = h.parts_held;
-    builds = λ c' is. let e : c ≡ c' = cc in ap (λ v. v.level) (sym e) ∙ same;
+    parts_held = parts_held;
+    builds = builds;
     rooms = h.rooms;
-    builders_held = h.builders_held;
-    tables_held = h.tables_held;
+    builders_held = builders_held;
+    tables_held = tables_held;
     no_room_at_zero = h.no_room_at_zero;
     few = few;
   }
 
-  pub IsLevel-built : IsLevel contents progress level parts parts_room None room builders builders_room tables tables_room
-  IsLevel-built = record {
-    most = h.most;
-    parts_held = h.parts_held;
-    builds = λ c is. absurd cc;
-    rooms = h.rooms;
-    builders_held = h.builders_held;
-    tables_held = h.tables_held;
-    no_room_at_zero = h.no_room_at_zero;
-    few = omega (arith, h.few);
-  }
+  pub IsLevel-building : (c : Construction Item) → c.level ≡ level
+      → length parts + 1 + one_if (is_some room) + length builders ≤ 5
+      → IsLevel contents progress level parts parts_room (Some c) room builders builders_room tables tables_room
+  IsLevel-building c same few =
+      IsLevel-of (λ c' is. let e : c ≡ c' = cc in ap (λ v. v.level) (sym e) ∙ same) h.parts_held h.builders_held h.tables_held few
+
+  pub IsLevel-built : {construction' : Option (Construction Item)} → construction' ≡ None
+      → IsLevel contents progress level parts parts_room construction' room builders builders_room tables tables_room
+  IsLevel-built none =
+      IsLevel-of (λ c is. let wrong : None ≡ Some c = sym none ∙ is in absurd cc) h.parts_held h.builders_held h.tables_held
+      (omega (arith, h.few, ap (λ o. one_if (is_some o)) none))
 
 -- a slice of a whole list was written
 pub written : {A : Type 0} (n : ℕ) (old new : List A) → n ≡ length old → length new ≡ length old → take n (new ++ drop (length new) old) ≡ new
-written {A} n old new same as_long = subst (λ k. take k (new ++ drop (length new) old) ≡ new) (as_long ∙ sym same)
-    (ap (λ l. take (length new) (new ++ l)) (none_left old (length new) (omega (arith, as_long))) ∙ whole new)
-  where
-    none_left : (l : List A) (k : ℕ) → length l ≤ k → drop k l ≡ []
-    none_left [] zero few = refl
-    none_left [] (suc k) few = refl
-    none_left (x ∷ l) zero few = absurd (omega (arith, few))
-    none_left (x ∷ l) (suc k) few = none_left l k (omega (arith, few))
-
-    whole : (l : List A) → take (length l) (l ++ []) ≡ l
-    whole [] = refl
-    whole (x ∷ l) = ap (λ m. x ∷ m) (whole l)
+written n old new same as_long = take_at new (drop (length new) old) n (as_long ∙ sym same)
 
 -- one element fewer at the front
 pub drop_more : {A : Type 0} (n : ℕ) (xs : List A) → drop 1 (drop n xs) ≡ drop (n + 1) xs

@@ -1,10 +1,11 @@
 -- An item that is marked as dead, in lists of parts.
-use Rattle.std.proofs.Common.{◌≡◌, ◌≢◌, ℕ, suc, ◌+◌, ◌*◌, ◌<◌, ◌==◌, ◌||◌, Bool, true, false, not, cond, if◌then◌else◌, Option, Some, List, [], ◌∷◌, ◌++◌, ◌∙◌, length, get_or, All, slice_get, refl, sym, ap, ap₂, subst, arith}
+use Rattle.std.proofs.Common.{◌≡◌, ◌≢◌, ℕ, zero, suc, ◌+◌, ◌*◌, ◌==◌, ◌||◌, Bool, true, false, not, cond, if◌then◌else◌, Option, Some, List, [], ◌∷◌, ◌++◌, ◌∙◌, length, get_or, All, slice_get, refl, sym, ap, ap₂, subst, arith}
 use Rattle.std.specs.List.{flat_map, items_where_true}
 use Rattle.std.proofs.lemmas.Bool.Decides.{nat_tests}
 use Rattle.std.proofs.lemmas.List.{get_or_append_left, get_or-append-add, length-append}
-use Rattle.std.proofs.lemmas.List.Elements.{All-cons, All-head, All-nil, All-tail}
-use Rattle.std.proofs.lemmas.Option.{get_or_from_slice_get, slice_get_within, slice_get-get_or}
+use Rattle.std.proofs.lemmas.List.Elements.{All-cons, All-head, All-nil, All-tail, filter-append}
+use Rattle.std.proofs.lemmas.List.Folds.{Any-from_list_any, list_any-append}
+use Rattle.std.proofs.lemmas.Option.{get_or_from_slice_get, slice_get_within, slice_get_read}
 use Rattle.query_laws.specs.Orders.{AllStampsDiffer}
 use Rattle.query_laws.specs.StepLedger.{Counts, Spends}
 use Rattle.query_laws.proofs.Counting.{Spends-then, Spends-within}
@@ -14,7 +15,7 @@ use Rattle.partial_build.specs.Construction.{live_of}
 use Rattle.stack_levels.specs.Slots.{asked_in}
 use Rattle.stack_levels.specs.Level.{IsOfLevel}
 use Rattle.stack_levels.specs.Marking.{IsLiveIn, Lacks, AreMarkedAt, nowhere, here, later}
-use Rattle.stack_levels.proofs.Distinct.{StampsDiffer-parts}
+use Rattle.stack_levels.proofs.Distinct.{none_same}
 
 module _ {A : Type 0} (Q : A → Type 0) where
   pub All-first : (xs ys : List A) → All Q (xs ++ ys) → All Q xs
@@ -27,40 +28,26 @@ module _ {A : Type 0} (Q : A → Type 0) where
   All-each f [] h = All-nil (λ p. All Q (f p))
   All-each f (p ∷ ps) h = All-cons (λ q. All Q (f q)) p ps (All-first (f p) (flat_map f ps) h) (All-each f ps (All-second (f p) (flat_map f ps) h))
 
-or_first : (a b : Bool) → (a || b) ≡ false → a ≡ false
-or_first true b off = off
-or_first false b off = refl
+told_same : (a b : ℕ) → (a == b) ≡ true → a ≡ b
+told_same a b e = grind (arith, nat_tests)
 
-or_second : (a b : Bool) → (a || b) ≡ false → b ≡ false
-or_second true b off = absurd cc
-or_second false b off = off
+both_off : (a b : Bool) → (a || b) ≡ false → (a ≡ false) × (b ≡ false)
+both_off true b off = absurd cc
+both_off false b off = (refl, off)
 
 module _ {Item : Type 0} (stamp : Item → ℕ) (s : ℕ) where
   pub has_stamp-append : (xs ys : List Item) → has_stamp stamp s (xs ++ ys) ≡ (has_stamp stamp s xs || has_stamp stamp s ys)
-  has_stamp-append [] ys = refl
-  has_stamp-append (x ∷ xs) ys = by (stamp x == s) (has_stamp-append xs ys)
-    where
-      by : (b : Bool) → has_stamp stamp s (xs ++ ys) ≡ (has_stamp stamp s xs || has_stamp stamp s ys)
-          → (b || has_stamp stamp s (xs ++ ys)) ≡ ((b || has_stamp stamp s xs) || has_stamp stamp s ys)
-      by true rest = refl
-      by false rest = rest
+  has_stamp-append = list_any-append (λ x. stamp x == s)
 
   pub without-append : (xs ys : List Item) → without stamp s (xs ++ ys) ≡ without stamp s xs ++ without stamp s ys
-  without-append [] ys = refl
-  without-append (x ∷ xs) ys = by (not (stamp x == s)) (without-append xs ys)
-    where
-      by : (b : Bool) → without stamp s (xs ++ ys) ≡ without stamp s xs ++ without stamp s ys
-          → cond b (x ∷ without stamp s (xs ++ ys)) (without stamp s (xs ++ ys)) ≡ cond b (x ∷ without stamp s xs) (without stamp s xs) ++ without stamp s ys
-      by true rest = ap (λ l. x ∷ l) rest
-      by false rest = rest
+  without-append = filter-append (λ x. not (stamp x == s))
 
   -- no item has the stamp
   pub without-lacking : (xs : List Item) → has_stamp stamp s xs ≡ false → without stamp s xs ≡ xs
   without-lacking [] off = refl
   without-lacking (x ∷ xs) off =
-      let here : (stamp x == s) ≡ false = or_first (stamp x == s) (has_stamp stamp s xs) off in
-      ap (λ b. cond (not b) (x ∷ without stamp s xs) (without stamp s xs)) here
-      ∙ ap (λ l. x ∷ l) (without-lacking xs (or_second (stamp x == s) (has_stamp stamp s xs) off))
+      let here = both_off (stamp x == s) (has_stamp stamp s xs) off in
+      ap (λ b. cond (not b) (x ∷ without stamp s xs) (without stamp s xs)) here.0 ∙ ap (λ l. x ∷ l) (without-lacking xs here.1)
 
   -- no live item has it: no flag falls
   pub fallen-lacking : (xs : List Item) (flags : List Bool) → length flags ≡ length xs → has_stamp stamp s (items_where_true flags xs) ≡ false
@@ -69,27 +56,24 @@ module _ {Item : Type 0} (stamp : Item → ℕ) (s : ℕ) where
   fallen-lacking [] (flag ∷ flags) same off = absurd (omega (arith, same))
   fallen-lacking (x ∷ xs) [] same off = absurd (omega (arith, same))
   fallen-lacking (x ∷ xs) (true ∷ flags) same off =
-      let here : (stamp x == s) ≡ false = or_first (stamp x == s) (has_stamp stamp s (items_where_true flags xs)) off in
-      ap₂ (λ b l. not b ∷ l) here
-      (fallen-lacking xs flags (omega (arith, same)) (or_second (stamp x == s) (has_stamp stamp s (items_where_true flags xs)) off))
+      let here = both_off (stamp x == s) (has_stamp stamp s (items_where_true flags xs)) off in
+      ap₂ (λ b l. not b ∷ l) here.0 (fallen-lacking xs flags (omega (arith, same)) here.1)
   fallen-lacking (x ∷ xs) (false ∷ flags) same off = ap (λ l. false ∷ l) (fallen-lacking xs flags (omega (arith, same)) off)
 
-  -- a live item that has it
-  pub live_at : (xs : List Item) (flags : List Bool) → has_stamp stamp s (items_where_true flags xs) ≡ true
-      → (k : ℕ) × (y : Item) × (slice_get xs k ≡ Some y) × (slice_get flags k ≡ Some true) × (stamp y ≡ s)
-  live_at xs [] on = absurd cc
-  live_at [] (flag ∷ flags) on = absurd cc
-  live_at (x ∷ xs) (true ∷ flags) on = by (stamp x == s) refl (live_at xs flags)
-    where
-      by : (b : Bool) → (stamp x == s) ≡ b
-          → (has_stamp stamp s (items_where_true flags xs) ≡ true
-          → (k : ℕ) × (y : Item) × (slice_get xs k ≡ Some y) × (slice_get flags k ≡ Some true) × (stamp y ≡ s))
-          → (k : ℕ) × (y : Item) × (slice_get (x ∷ xs) k ≡ Some y) × (slice_get (true ∷ flags) k ≡ Some true) × (stamp y ≡ s)
-      by true test rest_of = (0, x, refl, refl, grind (arith, nat_tests, test))
-      by false test rest_of =
-          let rest = rest_of (sym (ap (λ b. b || has_stamp stamp s (items_where_true flags xs)) test) ∙ on) in
-          (suc rest.0, rest.1, rest.2, rest.3, rest.4)
-  live_at (x ∷ xs) (false ∷ flags) on = let rest = live_at xs flags on in (suc rest.0, rest.1, rest.2, rest.3, rest.4)
+  -- an item that has it
+  pub stands : (xs : List Item) → has_stamp stamp s xs ≡ true → (k : ℕ) × (x : Item) × (slice_get xs k ≡ Some x) × (stamp x ≡ s)
+  stands xs on =
+      let at = Any-from_list_any (λ x. stamp x == s) xs on in
+      (at.0, at.1, slice_get_read xs (length xs) at.0 at.1 refl at.2 (sym at.3), told_same (stamp at.1) s at.4)
+
+-- where a live item stands among all
+live_at : {Item : Type 0} (xs : List Item) (flags : List Bool) (k : ℕ) (x : Item) → slice_get (items_where_true flags xs) k ≡ Some x
+    → (i : ℕ) × (slice_get xs i ≡ Some x) × (slice_get flags i ≡ Some true)
+live_at xs [] k x at = absurd cc
+live_at [] (flag ∷ flags) k x at = absurd cc
+live_at (y ∷ xs) (true ∷ flags) zero x at = (0, at, refl)
+live_at (y ∷ xs) (true ∷ flags) (suc k) x at = let rest = live_at xs flags k x at in (suc rest.0, rest.1, rest.2)
+live_at (y ∷ xs) (false ∷ flags) k x at = let rest = live_at xs flags k x at in (suc rest.0, rest.1, rest.2)
 
 module _ {P Item : Type 0} (contents : P → Contents Item) (stamp : Item → ℕ) (x : Item) where
   -- the part has it, and no other one of the list
@@ -97,8 +81,7 @@ module _ {P Item : Type 0} (contents : P → Contents Item) (stamp : Item → �
       → IsLiveIn (contents p) x → All (λ q. Lacks stamp (stamp x) (contents q)) ps
   others_lack p ps apart live =
       let rest = flat_map (λ q. (contents q).items) ps in
-      let differ : All (λ y. stamp y ≢ stamp x) rest =
-      λ l d within same. StampsDiffer-parts stamp (contents p).items rest apart live.0 l x (get_or rest l d) live.1 (slice_get-get_or rest l d within) (sym same) in
+      let differ = none_same stamp (contents p).items rest apart live.0 x live.1 in
       let each = All-each (λ y. stamp y ≢ stamp x) (λ q. (contents q).items) ps differ in
       λ k d within. has_stamp_none stamp (stamp x) (contents (get_or ps k d)).items (contents (get_or ps k d)).flags (each k d within)
 
@@ -144,12 +127,11 @@ module _ {P Item : Type 0} (contents : P → Contents Item) (stamp : Item → �
   -- the item itself lives there
   pub lives : (p : P) → OwnsStamp stamp x (contents p).items → has_stamp stamp (stamp x) (live_of (contents p)) ≡ true → IsLiveIn (contents p) x
   lives p owner on =
-      let found = live_at stamp (stamp x) (contents p).items (contents p).flags on in
-      let inside : found.0 < length (contents p).items = slice_get_within (contents p).items found.0 found.1 found.2 in
-      let is : found.1 ≡ x =
-      sym (get_or_from_slice_get (contents p).items found.0 found.1 x found.2)
-      ∙ owner found.0 x inside (ap stamp (get_or_from_slice_get (contents p).items found.0 found.1 x found.2) ∙ found.4) in
-      (found.0, found.2 ∙ ap (λ y. Some y) is, found.3)
+      let at = stands stamp (stamp x) (live_of (contents p)) on in
+      let found = live_at (contents p).items (contents p).flags at.0 at.1 at.2 in
+      let here : get_or (contents p).items found.0 x ≡ at.1 = get_or_from_slice_get (contents p).items found.0 at.1 x found.1 in
+      let is : at.1 ≡ x = sym here ∙ owner found.0 x (slice_get_within (contents p).items found.0 at.1 found.1) (ap stamp here ∙ at.3) in
+      (found.0, found.1 ∙ ap (λ y. Some y) is, found.2)
 
   -- the marks of one part and of the others
   pub asked-here : (p : P) (ps : List P) → has_stamp stamp (stamp x) (live_of (contents p)) ≡ true → asked_in contents stamp (stamp x) (p ∷ ps) ≡ 1
@@ -175,6 +157,7 @@ module _ {P Item : Type 0} (contents : P → Contents Item) (stamp : Item → �
 pub Spends-here : {old new : Counts} {t : ℕ} (n : ℕ) → Spends old new 0 1 t → n ≡ 1 → Spends old new 0 n (n * t)
 Spends-here {old} {new} {t} n spent one = subst (λ m. Spends old new 0 m (m * t)) (sym one) (Spends-within spent refl refl (omega arith))
 
-pub Spends-later : {old mid new : Counts} {t : ℕ} (n m : ℕ) → Spends old mid 0 1 t → Spends mid new 0 m (m * t) → n ≡ 1 + m → Spends old new 0 n (n * t)
-Spends-later {old} {mid} {new} {t} n m first rest sum =
-    subst (λ k. Spends old new 0 k (k * t)) (sym sum) (Spends-within (Spends-then first rest) refl refl (omega arith))
+pub Spends-both : {old mid new : Counts} (t n m k : ℕ) → Spends old mid 0 n (n * t) → Spends mid new 0 m (m * t) → k ≡ n + m → Spends old new 0 k (k * t)
+Spends-both {old} {mid} {new} t n m k first second sum =
+    let shared : n * t + m * t ≡ (n + m) * t = grind arith in
+    subst (λ j. Spends old new 0 j (j * t)) (sym sum) (Spends-within (Spends-then first second) refl refl (omega (arith, shared)))

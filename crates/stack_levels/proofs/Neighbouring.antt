@@ -1,13 +1,11 @@
 -- Neighbouring levels through a tick.
 use Rattle.std.proofs.Common.{◌≡◌, ℕ, suc, ◌+◌, ◌*◌, ◌^◌, ◌<◌, ◌≤◌, ◌⊎◌, ◌∙◌, Bool, Option, [], ◌∷◌, ◌++◌, Some, None, false, length, drop, inl, inr, refl, ap, ap₂, sym, subst, arith}
-use Rattle.std.specs.List.{flat_map}
 use Rattle.std.specs.Option.{option_map_or, is_some}
 use Rattle.std.proofs.lemmas.Nat.{pow_pos}
-use Rattle.query_laws.specs.Permuted.{Permuted}
 use Rattle.query_laws.proofs.Permutations.{Permuted-refl}
 use Rattle.builder_trait.specs.Parts.{Contents}
-use Rattle.partial_build.specs.Construction.{Builds, live_of}
-use Rattle.stack_levels.specs.Slots.{Slots, IsPartOf, ticks_of, weight_in, live_in, items_in}
+use Rattle.partial_build.specs.Construction.{Builds}
+use Rattle.stack_levels.specs.Slots.{Slots, ticks_of, weight_in, live_in, items_in}
 use Rattle.stack_levels.specs.Neighbours.{IsBelow, IsVisited, IsConstructionOf, IsFed, stays, arrives, IsPublication}
 use Rattle.stack_levels.proofs.Distinct.{IsPartOf-refl}
 use Rattle.stack_levels.proofs.Publishing.{doubled, live-published, items-published, weight-published}
@@ -63,10 +61,8 @@ module _ {P Item : Type 0} (contents : P → Contents Item) (stamp : Item → �
         clock = λ _. omega (arith, h.clock two, ticked);
       };
       advances = stays same (omega (arith, ticked));
-      live = subst (λ ps. Permuted (flat_map (λ p. live_of (contents p)) ps ++ live_in contents lower) (live_in contents old ++ live_in contents lower))
-          (sym same) (Permuted-refl (live_in contents old ++ live_in contents lower));
-      items = subst (λ ps. IsPartOf (flat_map (λ p. (contents p).items) ps ++ items_in contents lower) (items_in contents old ++ items_in contents lower))
-          (sym same) (IsPartOf-refl (items_in contents old ++ items_in contents lower));
+      live = rw same (Permuted-refl (live_in contents old ++ live_in contents lower));
+      items = rw same (IsPartOf-refl (items_in contents old ++ items_in contents lower));
       weight = ap₂ (λ n k. n * 2 ^ k + weight_in lower) (ap length same) level;
       rooms = inl two;
     }
@@ -84,10 +80,8 @@ module _ {P Item : Type 0} (contents : P → Contents Item) (stamp : Item → �
         clock = λ more. absurd (omega (arith, more, h.few, fewer));
       };
       advances = arrives p.fresh (p.arrived ∙ ap (λ ps. ps ++ p.fresh ∷ []) same) (none_ticks new p.none) (ended ∙ ticked);
-      live = subst (λ ps. Permuted (live_in contents new ++ live_in contents lower') (flat_map (λ q. live_of (contents q)) ps ++ live_in contents lower))
-          same (live-published contents p);
-      items = subst (λ ps. IsPartOf (items_in contents new ++ items_in contents lower') (flat_map (λ q. (contents q).items) ps ++ items_in contents lower))
-          same (items-published contents p);
+      live = rw (← same) (live-published contents p);
+      items = rw (← same) (items-published contents p);
       weight = weight-published contents p (level ∙ h.next_level) (same_level ∙ sym level) same_below
           ∙ ap₂ (λ n k. n * 2 ^ k + weight_in lower) (ap length same) level;
       rooms = elim rooms [

@@ -1,5 +1,5 @@
 -- Two neighbouring levels, where an item of the lower one is marked as dead.
-use Rattle.std.proofs.Common.{◌≡◌, ℕ, ◌+◌, ◌-◌, ◌*◌, ◌^◌, ◌≤◌, ◌∙◌, Bool, Option, Some, None, List, [], ◌∷◌, length, refl, sym, ap, ap₂, subst, arith}
+use Rattle.std.proofs.Common.{◌≡◌, ℕ, ◌+◌, ◌≤◌, ◌∙◌, Bool, Option, Some, None, List, [], ◌∷◌, length, refl, sym, ap, subst, arith}
 use Rattle.std.specs.Option.{option_map, is_some}
 use Rattle.builder_trait.specs.Parts.{Contents, marked}
 use Rattle.partial_build.specs.Construction.{Builds}
@@ -9,6 +9,7 @@ use Rattle.stack_levels.specs.Towers.{IsTower}
 use Rattle.stack_levels.specs.Marking.{IsLiveIn, Lacks, AreMarkedAt, nowhere, here, later, AreNoted}
 use Rattle.stack_levels.proofs.Marks.{unmarked, length-marked}
 use Rattle.stack_levels.proofs.Neighbouring.{not_some}
+use Rattle.stack_levels.proofs.Towers.{below-kept}
 
 module _ {P Item : Type 0} (contents : P → Contents Item) (stamp : Item → ℕ) (before : ℕ → Item → Item → Bool) (x : Item) where
   -- what a note of the item does to the construction into a level, where the item was live at a place of the level below
@@ -64,20 +65,11 @@ module _ {P Item : Type 0} (contents : P → Contents Item) (stamp : Item → �
   tower-upper : (l l' : Slots P Item) (above : List (Slots P Item)) → l'.level ≡ l.level → l'.parts ≡ l.parts → ticks_of l' ≡ ticks_of l
       → IsTower contents stamp before l above → IsTower contents stamp before l' above
   tower-upper l l' [] level parts ticks tower = omega (arith, tower, ap length parts)
-  tower-upper l l' (next ∷ above) level parts ticks tower =
-      let h = tower.0 in
-      let as_long = ap length parts in
-      let weight : (length l'.parts - 2) * 2 ^ l'.level ≡ (length l.parts - 2) * 2 ^ l.level = ap₂ (λ n k. (n - 2) * 2 ^ k) as_long level in (
-        record {
-          next_level = h.next_level ∙ ap (λ k. k + 1) (sym level);
-          few = omega (arith, h.few, as_long);
-          idle = λ less. h.idle (omega (arith, less, as_long));
-          fed = λ a b rest are. h.fed a b rest (sym parts ∙ are);
-          early = h.early;
-          clock = λ two. omega (arith, weight, ticks, h.clock (omega (arith, two, as_long)));
-        },
-        tower.1,
-      )
+  tower-upper l l' (next ∷ above) level parts ticks tower = (
+    below-kept contents stamp before l l' next next tower.0 level (ap length parts) (omega (arith, ticks)) refl (λ none. none) refl
+        (λ a b rest are. tower.0.fed a b rest (sym parts ∙ are)),
+    tower.1,
+  )
 
   -- the levels above a level whose parts were marked
   pub tower-marked : {place : Option ℕ} (l l' : Slots P Item) (above above' : List (Slots P Item)) → AreMarkedAt contents stamp x place l.parts l'.parts
@@ -88,19 +80,10 @@ module _ {P Item : Type 0} (contents : P → Contents Item) (stamp : Item → �
       subst (IsTower contents stamp before l') (sym noted) (omega (arith, tower, length-marked contents stamp x parts))
   tower-marked {place} l l' (next ∷ rest) above' parts level ticks noted how tower =
       let next' = noted.0 in
-      let h = tower.0 in
-      let as_long = length-marked contents stamp x parts in
       let same_level : next'.level ≡ next.level = ap (λ v. v.level) noted.2 in
-      let same_parts : next'.parts ≡ next.parts = ap (λ v. v.parts) noted.2 in
-      let weight : (length l'.parts - 2) * 2 ^ l'.level ≡ (length l.parts - 2) * 2 ^ l.level = ap₂ (λ n k. (n - 2) * 2 ^ k) as_long level in
       subst (IsTower contents stamp before l') (sym noted.1) (
-        record {
-          next_level = same_level ∙ h.next_level ∙ ap (λ k. k + 1) (sym level);
-          few = omega (arith, h.few, as_long);
-          idle = λ less. not_some next'.construction (noted.4 ∙ ap is_some (h.idle (omega (arith, less, as_long))));
-          fed = fed-marked place l.parts l'.parts l l' next next' parts refl refl (how next next' rest refl noted.1) h.fed;
-          early = omega (arith, h.early, noted.3, ap (λ k. 2 ^ k) same_level);
-          clock = λ two. omega (arith, weight, ticks, noted.3, h.clock (omega (arith, two, as_long)));
-        },
-        tower-upper next next' rest same_level same_parts noted.3 tower.1,
+        below-kept contents stamp before l l' next next' tower.0 level (length-marked contents stamp x parts) (omega (arith, ticks)) same_level
+            (λ none. not_some next'.construction (noted.4 ∙ ap is_some none)) noted.3
+            (fed-marked place l.parts l'.parts l l' next next' parts refl refl (how next next' rest refl noted.1) tower.0.fed),
+        tower-upper next next' rest same_level (ap (λ v. v.parts) noted.2) noted.3 tower.1,
       )

@@ -4,7 +4,7 @@ use Rattle.std.specs.List.{range_with_len}
 use Rattle.std.proofs.lemmas.Bool.{cases_lt}
 use Rattle.std.proofs.lemmas.List.Sums.{sum_by-cons}
 use Rattle.query_laws.specs.StepLedger.{Counts, Spends}
-use Rattle.query_laws.proofs.Counting.{Spends-nothing, Spends-then, Spends-within}
+use Rattle.query_laws.proofs.Counting.{Spends-then, Spends-within}
 use Rattle.partial_build.specs.Quota.{quota}
 use Rattle.stack_levels.specs.Cost.{IsWithin, quotas}
 
@@ -19,9 +19,6 @@ IsWithin-of {turns} {marks} {touches} {turns'} {marks'} {touches'} {old} {new} s
       spent = subst (λ n. Spends old new (new.turns - old.turns) n (16 * (new.turns - old.turns) + n * touches')) marked
           (subst (λ n. Spends old new n marks (16 * n + marks * touches')) taken (Spends-within spent refl refl bound));
     }
-
-pub IsWithin-nothing : (turns marks touches : ℕ) (steps : Counts) → IsWithin turns marks touches steps steps
-IsWithin-nothing turns marks touches steps = IsWithin-of (Spends-nothing steps) (omega arith) (omega arith) (omega arith)
 
 pub IsWithin-more : {turns marks touches turns' marks' touches' : ℕ} {old new : Counts} → IsWithin turns marks touches old new
     → turns ≤ turns' → marks ≤ marks' → touches ≤ touches' → IsWithin turns' marks' touches' old new
@@ -59,20 +56,14 @@ module _ (slope base : ℕ) where
   -- a level is visited, where it isn't too high, and then those above it
   pub IsWithin-level : (touches : ℕ → ℕ) → ((g h : ℕ) → g ≤ h → touches g ≤ touches h) → (k g : ℕ) {old mid new : Counts}
       → IsWithin (quota slope base (k + 1)) 2 (touches (k + 1)) old mid → k + 1 ≤ g
-      → IsWithin (quotas slope base (k + 2) g) (2 * (g - (k + 1))) (touches g) mid new
+      → IsWithin (quotas slope base (k + 1 + 1) g) (2 * (g - (k + 1))) (touches g) mid new
       → IsWithin (quotas slope base (k + 1) g) (2 * (g - k)) (touches g) old new
-  IsWithin-level touches rise k g {old} {mid} {new} first few rest =
-      let sum : quota slope base (k + 1) + quotas slope base (k + 2) g ≡ quotas slope base (k + 1) g =
-      sym (quotas-first (k + 1) g few ∙ ap (λ n. quota slope base (k + 1) + quotas slope base n g) (omega arith)) in
-      let marks : 2 + 2 * (g - (k + 1)) ≡ 2 * (g - k) = omega (arith, few) in
-      subst (λ n. IsWithin n (2 * (g - k)) (touches g) old new) sum
-      (subst (λ m. IsWithin (quota slope base (k + 1) + quotas slope base (k + 2) g) m (touches g) old new) marks
-      (IsWithin-then (IsWithin-more first (omega arith) (omega arith) (rise (k + 1) g few)) rest))
+  IsWithin-level touches rise k g {old} {mid} first few rest =
+      let here : IsWithin (quota slope base (k + 1)) 2 (touches g) old mid = IsWithin-more first (omega arith) (omega arith) (rise (k + 1) g few) in
+      IsWithin-more (IsWithin-then here rest) (omega (arith, quotas-first (k + 1) g few)) (omega (arith, few)) (omega arith)
 
   -- nothing was done at a level
   pub IsWithin-above : {touches : ℕ} (k g : ℕ) {old new : Counts}
-      → IsWithin (quotas slope base (k + 2) g) (2 * (g - (k + 1))) touches old new
+      → IsWithin (quotas slope base (k + 1 + 1) g) (2 * (g - (k + 1))) touches old new
       → IsWithin (quotas slope base (k + 1) g) (2 * (g - k)) touches old new
-  IsWithin-above k g rest =
-      let same : (k + 1) + 1 ≡ k + 2 = omega arith in
-      IsWithin-more rest (subst (λ n. quotas slope base n g ≤ quotas slope base (k + 1) g) same (quotas-fewer (k + 1) g)) (omega arith) (omega arith)
+  IsWithin-above k g rest = IsWithin-more rest (quotas-fewer (k + 1) g) (omega arith) (omega arith)

@@ -3,8 +3,7 @@ use Rattle.std.proofs.Common.{◌≡◌, ℕ, ◌+◌, ◌-◌, ◌*◌, ◌^◌
 use Rattle.std.specs.List.{flat_map}
 use Rattle.std.specs.Option.{option_map_or}
 use Rattle.std.proofs.lemmas.Bool.{cases_lt}
-use Rattle.std.proofs.lemmas.List.{append-nil, length-append}
-use Rattle.std.proofs.lemmas.Grind.{flat_map-append}
+use Rattle.std.proofs.lemmas.List.{flat_map_more, length-append}
 use Rattle.query_laws.specs.Permuted.{Permuted, composed}
 use Rattle.query_laws.proofs.Permutations.{Permuted-append_comm, Permuted-append_left, Permuted-append_right}
 use Rattle.builder_trait.specs.Parts.{Contents}
@@ -43,6 +42,22 @@ module _ {P Item : Type 0} (contents : P → Contents Item) (stamp : Item → �
       let second : y ≡ b = cc in
       fed a b parts (same ∙ ap₂ (λ p q. p ∷ q ∷ parts) first second) c is
 
+  -- the lower level has as many parts, and isn't further on; the upper one has the same ticks, and runs if it did
+  pub below-kept : {ahead ahead' : ℕ} (lower lower' l l' : Slots P Item) → IsBelow contents stamp before ahead lower l → lower'.level ≡ lower.level
+      → length lower'.parts ≡ length lower.parts → ticks_of lower' + ahead' ≤ ticks_of lower + ahead → l'.level ≡ l.level
+      → (l.construction ≡ None → l'.construction ≡ None) → ticks_of l' ≡ ticks_of l → IsFed contents stamp before lower' l'
+      → IsBelow contents stamp before ahead' lower' l'
+  below-kept lower lower' l l' h under as_long later level idle ticks fed =
+      let weight : (length lower'.parts - 2) * 2 ^ lower'.level ≡ (length lower.parts - 2) * 2 ^ lower.level = ap₂ (λ n k. (n - 2) * 2 ^ k) as_long under in
+      record {
+        next_level = level ∙ h.next_level ∙ ap (λ k. k + 1) (sym under);
+        few = omega (arith, as_long, h.few);
+        idle = λ less. idle (h.idle (omega (arith, less, as_long)));
+        fed = fed;
+        early = omega (arith, h.early, ticks, ap (λ k. 2 ^ k) level);
+        clock = λ two. omega (arith, weight, later, ticks, h.clock (omega (arith, two, as_long)));
+      }
+
   pub halfway-from_tower : (l l' : Slots P Item) (above : List (Slots P Item)) → IsTower contents stamp before l above → HaveRooms IsDue l above
       → Advances l l' → l'.level ≡ l.level → IsHalfway contents stamp before l' above
   halfway-from_tower l l' [] tower rooms (stays parts ticks) level = subst (λ ps. length ps < 2) (sym parts) tower
@@ -53,16 +68,8 @@ module _ {P Item : Type 0} (contents : P → Contents Item) (stamp : Item → �
       (cases_lt (length l.parts) 1)
   halfway-from_tower l l' (next ∷ above) tower rooms (stays parts ticks) level =
       let h = tower.0 in
-      let as_long : length l'.parts ≡ length l.parts = ap length parts in
-      let weight : (length l'.parts - 2) * 2 ^ l'.level ≡ (length l.parts - 2) * 2 ^ l.level = ap₂ (λ n k. (n - 2) * 2 ^ k) as_long level in (
-        record {
-          next_level = h.next_level ∙ ap (λ k. k + 1) (sym level);
-          few = omega (arith, as_long, h.few);
-          idle = λ less. h.idle (omega (arith, less, as_long));
-          fed = λ a b rest are. h.fed a b rest (sym parts ∙ are);
-          early = h.early;
-          clock = λ two. omega (arith, weight, ticks, h.clock (omega (arith, two, as_long)));
-        },
+      let as_long : length l'.parts ≡ length l.parts = ap length parts in (
+        below-kept l l' next next h level as_long (omega (arith, ticks)) refl (λ none. none) refl (λ a b rest are. h.fed a b rest (sym parts ∙ are)),
         (λ two none. absurd (omega (arith, none_ticks next none, h.clock (omega (arith, two, as_long))))),
         tower.1,
       )
@@ -99,15 +106,8 @@ module _ {P Item : Type 0} (contents : P → Contents Item) (stamp : Item → �
   pub below-same : {ahead : ℕ} (lower l l' : Slots P Item) → IsBelow contents stamp before ahead lower l → l'.level ≡ l.level
       → l'.construction ≡ l.construction → IsBelow contents stamp before ahead lower l'
   below-same lower l l' h level same =
-      let ticks : ticks_of l' ≡ ticks_of l = ap (λ o. option_map_or (λ c. c.ticks) o 0) same in
-      record {
-        next_level = level ∙ h.next_level;
-        few = h.few;
-        idle = λ less. same ∙ h.idle less;
-        fed = λ a b rest are c is. h.fed a b rest are c (sym same ∙ is);
-        early = omega (arith, h.early, ticks, ap (λ k. 2 ^ k) level);
-        clock = λ two. omega (arith, h.clock two, ticks);
-      }
+      below-kept lower lower l l' h refl refl (omega arith) level (λ none. same ∙ none) (ap (λ o. option_map_or (λ c. c.ticks) o 0) same)
+      (λ a b rest are c is. h.fed a b rest are c (sym same ∙ is))
 
 module _ {P Item : Type 0} where
   pub ahead-from_soon : (l l' : Slots P Item) (above : List (Slots P Item)) → HaveRooms IsDueSoon l above → ticks_of l' ≤ ticks_of l + 1
@@ -138,14 +138,11 @@ module _ {P Item : Type 0} where
   )
 
 regrouped : {A : Type 0} (xs ys zs ys' zs' : List A) → Permuted (ys' ++ zs') (ys ++ zs) → Permuted ((xs ++ ys') ++ zs') ((xs ++ ys) ++ zs)
-regrouped xs ys zs ys' zs' p =
-    subst (λ l. Permuted l ((xs ++ ys) ++ zs)) (sym (append_assoc xs ys' zs'))
-    (subst (Permuted (xs ++ (ys' ++ zs'))) (sym (append_assoc xs ys zs)) (Permuted-append_right xs p))
+regrouped xs ys zs ys' zs' p = rw (append_assoc xs ys' zs', append_assoc xs ys zs) (Permuted-append_right xs p)
 
 regrouped-part : {A : Type 0} (xs ys zs ys' zs' : List A) → IsPartOf (ys' ++ zs') (ys ++ zs) → IsPartOf ((xs ++ ys') ++ zs') ((xs ++ ys) ++ zs)
 regrouped-part xs ys zs ys' zs' p =
-    subst (λ l. IsPartOf l ((xs ++ ys) ++ zs)) (sym (append_assoc xs ys' zs'))
-    (subst (IsPartOf (xs ++ (ys' ++ zs'))) (sym (append_assoc xs ys zs)) (IsPartOf-append xs xs (ys' ++ zs') (ys ++ zs) (IsPartOf-refl xs) p))
+    rw (append_assoc xs ys' zs', append_assoc xs ys zs) (IsPartOf-append xs xs (ys' ++ zs') (ys ++ zs) (IsPartOf-refl xs) p)
 
 weighed : (l l' o n r r' m : ℕ) → n + l' ≡ o + l → m + r' ≡ n + r → l' + (m + r') ≡ l + (o + r)
 weighed l l' o n r r' m first second = omega (arith, first, second)
@@ -186,13 +183,11 @@ module _ {P Item : Type 0} (contents : P → Contents Item) (stamp : Item → �
       lighter l l' o n r same = omega (arith, same)
 
 -- the items of one more part
-pub pushed : {P A : Type 0} (f : P → List A) (xs : List A) (parts : List P) (p : P)
-    → Permuted (xs ++ flat_map f (parts ++ p ∷ [])) (f p ++ (xs ++ flat_map f parts))
-pushed f xs parts p =
-    let as_one : xs ++ flat_map f (parts ++ p ∷ []) ≡ (xs ++ flat_map f parts) ++ f p =
-    ap (λ l. xs ++ l) (flat_map-append f parts (p ∷ []) ∙ ap (λ l. flat_map f parts ++ l) (append-nil (f p)))
-    ∙ sym (append_assoc xs (flat_map f parts) (f p)) in
-    subst (λ l. Permuted l (f p ++ (xs ++ flat_map f parts))) (sym as_one) (Permuted-append_comm (xs ++ flat_map f parts) (f p))
+pub arrived : {P A : Type 0} (f : P → List A) (parts : List P) {parts' : List P} (xs : List A) {old : List A} (p : P) → parts' ≡ parts ++ p ∷ []
+    → xs ++ flat_map f parts ≡ old → Permuted (xs ++ flat_map f parts') (f p ++ old)
+arrived f parts {parts'} xs {old} p pushed same =
+    subst (λ l. Permuted l (f p ++ old)) (flat_map_more f xs parts p ∙ ap (λ ps. xs ++ flat_map f ps) (sym pushed))
+    (subst (λ l. Permuted ((xs ++ flat_map f parts) ++ f p) (f p ++ l)) same (Permuted-append_comm (xs ++ flat_map f parts) (f p)))
 
 module _ {P Item : Type 0} (contents : P → Contents Item) (stamp : Item → ℕ) (before : ℕ → Item → Item → Bool)
     (lowest : Slots P Item) (above : List (Slots P Item)) (h : AreAllLevels contents stamp before (lowest ∷ above)) where

@@ -1,4 +1,4 @@
-use Rattle.std.proofs.Common.{◌≡◌, ◌+◌, ◌∙◌, ◌∷◌, IsTrue, length, refl, ap, sym, subst, arith}
+use Rattle.std.proofs.Common.{◌≡◌, ◌+◌, ◌^◌, ◌<◌, ◌∙◌, ◌∷◌, IsTrue, length, refl, ap, sym, subst, arith}
 use Rattle.std.proofs.lemmas.Result.{IfOk-weaker}
 use Rattle.stack_levels.specs.Slots.{live_in}
 use Rattle.stack_levels.specs.Levels.{live_items, parts_of}
@@ -7,31 +7,12 @@ use Rattle.stack_levels.proofs.Joining.{asked_over, asked_over-then, asked_over-
 use Rattle.stack_levels.proofs.asking.+ask_levels.Goals as goal
 
 pub ask_levels-requires : goal.ask_levels-requires
-ask_levels-requires g t c κs lives = (
-  omega (arith, c.decreases, c.in-Some.ensures.cases.1),
-  (
-    lives.0,
-    (
-      lives.1.0,
-      (
-        lives.1.1.0,
-        (
-          lives.1.1.1.0,
-          (
-            lives.1.1.1.1.0,
-            (
-              lives.1.1.1.1.1.0,
-              (
-                lives.1.1.1.1.1.1,
-                (c.requires.going, (c.requires.lawful, omega (arith, c.requires.room, ap parts_of c.in-Some.ensures.cases.0))),
-              ),
-            ),
-          ),
-        ),
-      ),
-    ),
-  ),
-)
+ask_levels-requires g t c κs lives =
+    let more = lives.1.1.1 in
+    let room : c.args.asking.now.parts + parts_of c.in-Some.above.now < 2 ^ 32 = omega (arith, c.requires.room, ap parts_of c.in-Some.ensures.cases.0) in (
+      omega (arith, c.decreases, c.in-Some.ensures.cases.1),
+      (lives.0, (lives.1.0, (lives.1.1.0, (more.0, (more.1.0, (more.1.1.0, (more.1.1.1, (c.requires.going, (c.requires.lawful, room))))))))),
+    )
 
 pub returns-in_err-ask_levels-in-Some-clause-refused : goal.returns-in_err-ask_levels-in-Some-clause-refused
 returns-in_err-ask_levels-in-Some-clause-refused g t c _ = c.in_err-ask_levels-in-Some.ensures.refused refl

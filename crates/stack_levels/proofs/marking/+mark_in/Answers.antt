@@ -5,15 +5,15 @@ use Rattle.query_laws.specs.Orders.{AllStampsDiffer}
 use Rattle.query_laws.specs.StepLedger.{Spends}
 use Rattle.query_laws.proofs.Counting.{Spends-nothing, Spends-within}
 use Rattle.builder_trait.specs.Parts.{OwnsStamp, has_stamp, without}
-use Rattle.stack_levels.specs.Slots.{ticks_of, held_in, weight_in, live_in, items_in, asked_in}
-use Rattle.stack_levels.specs.Levels.{weight_of, live_items, all_items, asked}
+use Rattle.stack_levels.specs.Slots.{Slots, held_in, weight_in, live_in, items_in, asked_in}
+use Rattle.stack_levels.specs.Levels.{lowest_held, weight_of, live_items, all_items, asked}
 use Rattle.stack_levels.specs.Neighbours.{IsPunctual}
 use Rattle.stack_levels.specs.Towers.{IsDue, IsDueSoon, HaveRoomsAbove, AreLevels}
 use Rattle.stack_levels.specs.Marking.{IsSameBelow}
-use Rattle.stack_levels.proofs.Distinct.{AllStampsDiffer-part, IsPartOf-front, IsPartOf-back}
+use Rattle.stack_levels.proofs.Distinct.{AllStampsDiffer-front, AllStampsDiffer-back}
 use Rattle.stack_levels.proofs.Publishing.{none_of}
-use Rattle.stack_levels.proofs.Marks.{All-first, All-second, has_stamp-append, without-append, without-lacking}
-use Rattle.stack_levels.proofs.MarkedLevels.{Follows-due, Follows-soon, rooms-below, rooms-noted, rooms-over, held-noted, weight-noted, length-noted, live-noted, items-noted, tower-over, lacks-below, asked-above, asked-both, Spends-both, light_level, levels_from_tower}
+use Rattle.stack_levels.proofs.Marks.{All-first, All-second, has_stamp-append, without-append, without-lacking, Spends-both}
+use Rattle.stack_levels.proofs.MarkedLevels.{Follows-due, Follows-soon, rooms-over, rooms-marked, same-noted, held-noted, tower-over, lacks-below, asked-above, asked-both, light_level, levels_from_tower}
 use Rattle.stack_levels.proofs.marking.+mark_in.Goals as goal
 
 lighter : {m : ℕ} (a b : ℕ) → a + b < m → b < m
@@ -25,235 +25,124 @@ mark_in-requires g p c κs lives =
     let stamp = g.B.Item.Item.stamp in
     let before = g.B.Item.Item.before in
     let x = c.args.item.now in
-    let s = stamp x in
     let level = c.in-Some.level.now in
     let above = c.in-Some.above.now in
     let split = c.in-Some.ensures.cases.0 in
-    let apart : AllStampsDiffer stamp (all_items contents above ++ items_in contents level) =
-    subst (λ ls. AllStampsDiffer stamp (all_items contents ls)) split c.requires.apart in (
-      omega (arith, c.decreases, c.in-Some.ensures.cases.1),
-      (
-        lives.0,
-        (
-          lives.1.0,
-          (
-            lives.1.1.0,
-            (
-              lives.1.1.1,
-              (
-                levels_from_tower contents stamp before level above (subst (AreLevels contents stamp before) split c.requires.levels),
-                (
-                  All-tail (IsPunctual g.B.Builder.SLOPE g.B.Builder.BASE) level above (subst (All (IsPunctual g.B.Builder.SLOPE g.B.Builder.BASE)) split c.requires.punctual),
-                  (
-                    AllStampsDiffer-part stamp (all_items contents above) (all_items contents above ++ items_in contents level)
-                        (IsPartOf-front (all_items contents above) (items_in contents level)) apart,
-                    All-first (λ y. stamp y ≡ s → y ≡ x) (all_items contents above) (items_in contents level)
-                        (subst (λ ls. OwnsStamp stamp x (all_items contents ls)) split c.requires.owner),
-                  ),
-                ),
-              ),
-            ),
-          ),
-        ),
-      ),
-    )
+    let punctual : Slots g.row.B-Part.Denot g.row.B-Item.Denot → Type 0 = IsPunctual g.B.Builder.SLOPE g.B.Builder.BASE in
+    let levels = levels_from_tower contents stamp before level above (subst (AreLevels contents stamp before) split c.requires.levels) in
+    let on_time = All-tail punctual level above (subst (All punctual) split c.requires.punctual) in
+    let apart = AllStampsDiffer-front stamp (all_items contents above) (items_in contents level)
+    (subst (λ ls. AllStampsDiffer stamp (all_items contents ls)) split c.requires.apart) in
+    let owner = All-first (λ y. stamp y ≡ stamp x → y ≡ x) (all_items contents above) (items_in contents level)
+    (subst (λ ls. OwnsStamp stamp x (all_items contents ls)) split c.requires.owner) in
+    (omega (arith, c.decreases, c.in-Some.ensures.cases.1), (lives.0, (lives.1.0, (lives.1.1.0, (lives.1.1.1, (levels, (on_time, (apart, owner))))))))
 
-pub returns-then-mark_in-clause-levels : goal.returns-then-mark_in-clause-levels
-returns-then-mark_in-clause-levels g p c =
+pub returns-then-mark_in : goal.returns-then-mark_in
+returns-then-mark_in g p c =
     let contents = g.B.Part.Part.contents in
     let stamp = g.B.Item.Item.stamp in
     let before = g.B.Item.Item.before in
-    let level = c.in-Some.level.now in
-    let above = c.in-Some.above.now in
-    let split = c.in-Some.ensures.cases.0 in
-    tower-over contents stamp before level above c.mark_in.new.levels (subst (AreLevels contents stamp before) split c.requires.levels) c.mark_in.ensures.levels c.mark_in.ensures.same
-
-pub returns-then-mark_in-clause-found : goal.returns-then-mark_in-clause-found
-returns-then-mark_in-clause-found g p c =
-    let contents = g.B.Part.Part.contents in
-    let stamp = g.B.Item.Item.stamp in
-    let s = stamp c.args.item.now in
-    let level = c.in-Some.level.now in
-    let above = c.in-Some.above.now in
-    let on : has_stamp stamp s (live_items contents above) ≡ true = sym c.mark_in.ensures.found ∙ c.if-mark_in.true in
-    subst (λ ls. true ≡ has_stamp stamp s (live_items contents ls)) (sym c.in-Some.ensures.cases.0)
-    (sym (has_stamp-append stamp s (live_items contents above) (live_in contents level) ∙ ap (λ b. b || has_stamp stamp s (live_in contents level)) on))
-
-pub returns-then-mark_in-clause-rooms : goal.returns-then-mark_in-clause-rooms
-returns-then-mark_in-clause-rooms g p c rooms =
-    let level = c.in-Some.level.now in
-    let above = c.in-Some.above.now in
-    let split = c.in-Some.ensures.cases.0 in
-    rooms-over IsDue Follows-due level above c.mark_in.new.levels c.mark_in.ensures.same c.mark_in.ensures.rooms (subst (HaveRoomsAbove IsDue) split rooms)
-
-pub returns-then-mark_in-clause-rooms_ahead : goal.returns-then-mark_in-clause-rooms_ahead
-returns-then-mark_in-clause-rooms_ahead g p c rooms =
-    let level = c.in-Some.level.now in
-    let above = c.in-Some.above.now in
-    let split = c.in-Some.ensures.cases.0 in
-    rooms-over IsDueSoon Follows-soon level above c.mark_in.new.levels c.mark_in.ensures.same c.mark_in.ensures.rooms_ahead (subst (HaveRoomsAbove IsDueSoon) split rooms)
-
-pub returns-then-mark_in-clause-live : goal.returns-then-mark_in-clause-live
-returns-then-mark_in-clause-live g p c =
-    let contents = g.B.Part.Part.contents in
-    let stamp = g.B.Item.Item.stamp in
     let s = stamp c.args.item.now in
     let level = c.in-Some.level.now in
     let above = c.in-Some.above.now in
     let split = c.in-Some.ensures.cases.0 in
-    let on : has_stamp stamp s (live_items contents above) ≡ true = sym c.mark_in.ensures.found ∙ c.if-mark_in.true in
-    let apart : AllStampsDiffer stamp (all_items contents above ++ items_in contents level) =
-    subst (λ ls. AllStampsDiffer stamp (all_items contents ls)) split c.requires.apart in
-    let lacks = lacks-below contents stamp s level above apart on in
-    subst (λ ls. live_items contents c.mark_in.new.levels ++ live_in contents level ≡ without stamp s (live_items contents ls)) (sym split)
-    (ap₂ (λ l m. l ++ m) c.mark_in.ensures.live (sym (without-lacking stamp s (live_in contents level) lacks))
-    ∙ sym (without-append stamp s (live_items contents above) (live_in contents level)))
+    let new = c.mark_in.new.levels in
+    let h = c.mark_in.ensures in
+    let on : has_stamp stamp s (live_items contents above) ≡ true = sym h.found ∙ c.if-mark_in.true in
+    let lacks = lacks-below contents stamp s level above (subst (λ ls. AllStampsDiffer stamp (all_items contents ls)) split c.requires.apart) on in
+    record {
+      levels = tower-over contents stamp before level above new (subst (AreLevels contents stamp before) split c.requires.levels) h.levels h.same;
+      found = sym (ap (λ ls. has_stamp stamp s (live_items contents ls)) split
+          ∙ has_stamp-append stamp s (live_items contents above) (live_in contents level) ∙ ap (λ b. b || has_stamp stamp s (live_in contents level)) on);
+      unfound = λ off. absurd cc;
+      same = subst (λ ls. IsSameBelow ls (level ∷ new)) (sym split) (level, new, refl, refl);
+      rooms = λ rooms. rooms-over IsDue Follows-due level above new h.same h.rooms (subst (HaveRoomsAbove IsDue) split rooms);
+      rooms_ahead = λ rooms. rooms-over IsDueSoon Follows-soon level above new h.same h.rooms_ahead (subst (HaveRoomsAbove IsDueSoon) split rooms);
+      live = ap₂ (λ l m. l ++ m) h.live (sym (without-lacking stamp s (live_in contents level) lacks))
+          ∙ sym (ap (λ ls. without stamp s (live_items contents ls)) split ∙ without-append stamp s (live_items contents above) (live_in contents level));
+      items = ap (λ l. l ++ items_in contents level) h.items ∙ sym (ap (all_items contents) split);
+      weight = ap (λ n. weight_in level + n) h.weight ∙ sym (ap weight_of split);
+      held = ap (λ ns. held_in level ∷ ns) h.held ∙ sym (ap (map held_in) split);
+      lowest = sym (ap lowest_held split);
+      as_many = omega (arith, h.as_many, c.in-Some.ensures.cases.1);
+      cost = λ g' light. subst (λ n. Spends c.args.steps.now c.mark_in.new.steps 0 n (n * g.B.Part.Part.mark_touches g'))
+          (sym (ap (asked contents stamp s) split ∙ asked-above contents stamp s level above on))
+          (h.cost g' (lighter (weight_in level) (weight_of above) (subst (λ ls. weight_of ls < 2 ^ (g' + 1)) split light)));
+    }
 
-pub returns-then-mark_in-clause-cost : goal.returns-then-mark_in-clause-cost
-returns-then-mark_in-clause-cost g p c g' light =
-    let contents = g.B.Part.Part.contents in
-    let stamp = g.B.Item.Item.stamp in
-    let s = stamp c.args.item.now in
-    let level = c.in-Some.level.now in
-    let above = c.in-Some.above.now in
-    let split = c.in-Some.ensures.cases.0 in
-    let on : has_stamp stamp s (live_items contents above) ≡ true = sym c.mark_in.ensures.found ∙ c.if-mark_in.true in
-    let t = g.B.Part.Part.mark_touches g' in
-    let light' : weight_of (level ∷ above) < 2 ^ (g' + 1) = subst (λ ls. weight_of ls < 2 ^ (g' + 1)) split light in
-    let same : asked contents stamp s c.args.levels.now ≡ asked contents stamp s above = ap (asked contents stamp s) split ∙ asked-above contents stamp s level above on in
-    subst (λ n. Spends c.args.steps.now c.mark_in.new.steps 0 n (n * t)) (sym same) (c.mark_in.ensures.cost g' (lighter (weight_in level) (weight_of above) light'))
-
-pub mark_and_note-requires-clause-tower : goal.mark_and_note-requires-clause-tower
-mark_and_note-requires-clause-tower g p c =
+pub mark_and_note-requires : goal.mark_and_note-requires
+mark_and_note-requires g p c =
     let contents = g.B.Part.Part.contents in
     let stamp = g.B.Item.Item.stamp in
     let before = g.B.Item.Item.before in
-    let level = c.in-Some.level.now in
-    let above = c.in-Some.above.now in
-    let split = c.in-Some.ensures.cases.0 in
-    tower-over contents stamp before level above c.mark_in.new.levels (subst (AreLevels contents stamp before) split c.requires.levels) c.mark_in.ensures.levels c.mark_in.ensures.same
-
-pub mark_and_note-requires-clause-punctual : goal.mark_and_note-requires-clause-punctual
-mark_and_note-requires-clause-punctual g p c = c.mark_in.ensures.unfound c.if-mark_in.false
-
-pub mark_and_note-requires-clause-apart : goal.mark_and_note-requires-clause-apart
-mark_and_note-requires-clause-apart g p c =
-    let contents = g.B.Part.Part.contents in
-    let stamp = g.B.Item.Item.stamp in
-    let level = c.in-Some.level.now in
-    let above = c.in-Some.above.now in
-    let split = c.in-Some.ensures.cases.0 in
-    AllStampsDiffer-part stamp (items_in contents level) (all_items contents above ++ items_in contents level)
-    (IsPartOf-back (all_items contents above) (items_in contents level)) (subst (λ ls. AllStampsDiffer stamp (all_items contents ls)) split c.requires.apart)
-
-pub mark_and_note-requires-clause-owner : goal.mark_and_note-requires-clause-owner
-mark_and_note-requires-clause-owner g p c =
-    let contents = g.B.Part.Part.contents in
-    let stamp = g.B.Item.Item.stamp in
     let x = c.args.item.now in
-    let s = stamp x in
-    All-second (λ y. stamp y ≡ s → y ≡ x) (all_items contents c.in-Some.above.now) (items_in contents c.in-Some.level.now)
-    (subst (λ ls. OwnsStamp stamp x (all_items contents ls)) c.in-Some.ensures.cases.0 c.requires.owner)
-
-pub returns-else-mark_in-clause-found : goal.returns-else-mark_in-clause-found
-returns-else-mark_in-clause-found g p c =
-    let contents = g.B.Part.Part.contents in
-    let stamp = g.B.Item.Item.stamp in
-    let s = stamp c.args.item.now in
-    let level = c.in-Some.level.now in
-    let above = c.in-Some.above.now in
-    let off : has_stamp stamp s (live_items contents above) ≡ false = sym c.mark_in.ensures.found ∙ c.if-mark_in.false in
-    c.mark_and_note.ensures.found
-    ∙ sym (ap (λ ls. has_stamp stamp s (live_items contents ls)) c.in-Some.ensures.cases.0
-    ∙ has_stamp-append stamp s (live_items contents above) (live_in contents level) ∙ ap (λ b. b || has_stamp stamp s (live_in contents level)) off)
-
-pub returns-else-mark_in-clause-unfound : goal.returns-else-mark_in-clause-unfound
-returns-else-mark_in-clause-unfound g p c unfound =
     let level = c.in-Some.level.now in
     let above = c.in-Some.above.now in
     let split = c.in-Some.ensures.cases.0 in
-    let punctual = IsPunctual g.B.Builder.SLOPE g.B.Builder.BASE in
-    All-cons punctual c.mark_and_note.new.level c.mark_and_note.new.above
-    (λ c' is. All-head punctual level above (subst (All punctual) split c.requires.punctual) c' (sym (ap (λ v. v.construction) c.mark_and_note.ensures.same) ∙ is))
-    (subst (All punctual) (sym (c.mark_and_note.ensures.unfound unfound)) (c.mark_in.ensures.unfound c.if-mark_in.false))
+    let h = c.mark_in.ensures in
+    record {
+      tower = tower-over contents stamp before level above c.mark_in.new.levels (subst (AreLevels contents stamp before) split c.requires.levels) h.levels h.same;
+      punctual = h.unfound c.if-mark_in.false;
+      apart = AllStampsDiffer-back stamp (all_items contents above) (items_in contents level)
+          (subst (λ ls. AllStampsDiffer stamp (all_items contents ls)) split c.requires.apart);
+      owner = All-second (λ y. stamp y ≡ stamp x → y ≡ x) (all_items contents above) (items_in contents level)
+          (subst (λ ls. OwnsStamp stamp x (all_items contents ls)) split c.requires.owner);
+    }
 
-pub returns-else-mark_in-clause-same : goal.returns-else-mark_in-clause-same
-returns-else-mark_in-clause-same g p c =
-    subst (λ ls. IsSameBelow ls (c.mark_and_note.new.level ∷ c.mark_and_note.new.above)) (sym c.in-Some.ensures.cases.0)
-    (c.mark_and_note.new.level, c.mark_and_note.new.above, refl, c.mark_and_note.ensures.same)
-
-pub returns-else-mark_in-clause-rooms : goal.returns-else-mark_in-clause-rooms
-returns-else-mark_in-clause-rooms g p c rooms =
-    let level = c.in-Some.level.now in
-    let above = c.in-Some.above.now in
-    let split = c.in-Some.ensures.cases.0 in
-    rooms-below IsDue Follows-due level c.mark_and_note.new.level c.mark_and_note.new.above c.mark_and_note.ensures.as_many
-    (ap (λ v. v.level) c.mark_and_note.ensures.same) (ap ticks_of c.mark_and_note.ensures.same)
-    (rooms-noted IsDue Follows-due level c.mark_in.new.levels c.mark_and_note.new.above c.mark_and_note.ensures.noted
-    (rooms-over IsDue Follows-due level above c.mark_in.new.levels c.mark_in.ensures.same c.mark_in.ensures.rooms (subst (HaveRoomsAbove IsDue) split rooms)))
-
-pub returns-else-mark_in-clause-rooms_ahead : goal.returns-else-mark_in-clause-rooms_ahead
-returns-else-mark_in-clause-rooms_ahead g p c rooms =
-    let level = c.in-Some.level.now in
-    let above = c.in-Some.above.now in
-    let split = c.in-Some.ensures.cases.0 in
-    rooms-below IsDueSoon Follows-soon level c.mark_and_note.new.level c.mark_and_note.new.above c.mark_and_note.ensures.as_many
-    (ap (λ v. v.level) c.mark_and_note.ensures.same) (ap ticks_of c.mark_and_note.ensures.same)
-    (rooms-noted IsDueSoon Follows-soon level c.mark_in.new.levels c.mark_and_note.new.above c.mark_and_note.ensures.noted
-    (rooms-over IsDueSoon Follows-soon level above c.mark_in.new.levels c.mark_in.ensures.same c.mark_in.ensures.rooms_ahead (subst (HaveRoomsAbove IsDueSoon) split rooms)))
-
-pub returns-else-mark_in-clause-live : goal.returns-else-mark_in-clause-live
-returns-else-mark_in-clause-live g p c =
-    let contents = g.B.Part.Part.contents in
-    let stamp = g.B.Item.Item.stamp in
-    let s = stamp c.args.item.now in
-    let split = c.in-Some.ensures.cases.0 in
-    subst (λ ls. live_items contents c.mark_and_note.new.above ++ live_in contents c.mark_and_note.new.level ≡ without stamp s (live_items contents ls)) (sym split)
-    (ap₂ (λ l m. l ++ m) (live-noted contents c.mark_in.new.levels c.mark_and_note.new.above c.mark_and_note.ensures.noted ∙ c.mark_in.ensures.live) c.mark_and_note.ensures.live
-    ∙ sym (without-append stamp s (live_items contents c.in-Some.above.now) (live_in contents c.in-Some.level.now)))
-
-pub returns-else-mark_in-clause-items : goal.returns-else-mark_in-clause-items
-returns-else-mark_in-clause-items g p c =
-    let contents = g.B.Part.Part.contents in
-    ap₂ (λ l m. l ++ m) (items-noted contents c.mark_in.new.levels c.mark_and_note.new.above c.mark_and_note.ensures.noted ∙ c.mark_in.ensures.items) c.mark_and_note.ensures.items
-    ∙ sym (ap (all_items contents) c.in-Some.ensures.cases.0)
-
-pub returns-else-mark_in-clause-weight : goal.returns-else-mark_in-clause-weight
-returns-else-mark_in-clause-weight g p c =
-    ap₂ (λ m n. m + n)
-    (ap₂ (λ n k. n * 2 ^ k) c.mark_and_note.ensures.as_many (ap (λ v. v.level) c.mark_and_note.ensures.same))
-    (weight-noted c.mark_in.new.levels c.mark_and_note.new.above c.mark_and_note.ensures.noted ∙ c.mark_in.ensures.weight)
-    ∙ sym (ap weight_of c.in-Some.ensures.cases.0)
-
-pub returns-else-mark_in-clause-as_many : goal.returns-else-mark_in-clause-as_many
-returns-else-mark_in-clause-as_many g p c =
-    let rest = length-noted c.mark_in.new.levels c.mark_and_note.new.above c.mark_and_note.ensures.noted ∙ c.mark_in.ensures.as_many in
-    omega (arith, rest, c.in-Some.ensures.cases.1)
-
-pub returns-else-mark_in-clause-cost : goal.returns-else-mark_in-clause-cost
-returns-else-mark_in-clause-cost g p c g' light =
+pub returns-else-mark_in : goal.returns-else-mark_in
+returns-else-mark_in g p c =
     let contents = g.B.Part.Part.contents in
     let stamp = g.B.Item.Item.stamp in
     let s = stamp c.args.item.now in
     let level = c.in-Some.level.now in
     let above = c.in-Some.above.now in
     let split = c.in-Some.ensures.cases.0 in
-    let off : has_stamp stamp s (live_items contents above) ≡ false = sym c.mark_in.ensures.found ∙ c.if-mark_in.false in
-    let t = g.B.Part.Part.mark_touches g' in
-    let light' : weight_of (level ∷ above) < 2 ^ (g' + 1) = subst (λ ls. weight_of ls < 2 ^ (g' + 1)) split light in
-    let sum : asked contents stamp s c.args.levels.now ≡ asked contents stamp s above + asked_in contents stamp s level.parts =
-    ap (asked contents stamp s) split ∙ asked-both contents stamp s level above off in
-    let here : Spends c.mark_in.new.steps c.mark_and_note.new.steps 0 (asked_in contents stamp s level.parts) (asked_in contents stamp s level.parts * t) =
-    ⊎_elim
-    (λ none. let empty = none_of level.parts (omega (arith, none)) in
-    let nothing : asked_in contents stamp s level.parts ≡ 0 = ap (asked_in contents stamp s) empty in
-    subst (λ n. Spends c.mark_in.new.steps c.mark_and_note.new.steps 0 n (n * t)) (sym nothing)
-    (Spends-within (subst (λ n. Spends c.mark_in.new.steps c.mark_and_note.new.steps 0 n (n * g.B.Part.Part.mark_touches level.level)) nothing
-    (c.mark_and_note.ensures.cost level.level (omega arith))) refl refl (omega arith)))
-    (λ some. c.mark_and_note.ensures.cost g' (light_level (length level.parts) level.level g' (weight_of above) some light'))
-    (cases_lt (length level.parts) 1) in
-    Spends-both t (asked contents stamp s above) (asked_in contents stamp s level.parts) (asked contents stamp s c.args.levels.now)
-    (c.mark_in.ensures.cost g' (lighter (weight_in level) (weight_of above) light')) here sum
+    let punctual : Slots g.row.B-Part.Denot g.row.B-Item.Denot → Type 0 = IsPunctual g.B.Builder.SLOPE g.B.Builder.BASE in
+    let mid = c.mark_in.new.levels in
+    let level' = c.mark_and_note.new.level in
+    let above' = c.mark_and_note.new.above in
+    let h = c.mark_in.ensures in
+    let n = c.mark_and_note.ensures in
+    let off : has_stamp stamp s (live_items contents above) ≡ false = sym h.found ∙ c.if-mark_in.false in
+    let marks = asked_in contents stamp s level.parts in
+    let held : held_in level' ≡ held_in level = omega (arith, ap held_in n.same, n.as_many) in
+    record {
+      levels = n.tower;
+      found = n.found ∙ sym (ap (λ ls. has_stamp stamp s (live_items contents ls)) split
+          ∙ has_stamp-append stamp s (live_items contents above) (live_in contents level) ∙ ap (λ b. b || has_stamp stamp s (live_in contents level)) off);
+      unfound = λ unfound. All-cons punctual level' above'
+          (λ c' is. All-head punctual level above (subst (All punctual) split c.requires.punctual) c' (sym (ap (λ v. v.construction) n.same) ∙ is))
+          (subst (All punctual) (sym (n.unfound unfound)) (h.unfound c.if-mark_in.false));
+      same = subst (λ ls. IsSameBelow ls (level' ∷ above')) (sym split) (level', above', refl, n.same);
+      rooms = λ rooms. rooms-marked IsDue Follows-due level level' mid above' n.as_many n.same n.noted
+          (rooms-over IsDue Follows-due level above mid h.same h.rooms (subst (HaveRoomsAbove IsDue) split rooms));
+      rooms_ahead = λ rooms. rooms-marked IsDueSoon Follows-soon level level' mid above' n.as_many n.same n.noted
+          (rooms-over IsDueSoon Follows-soon level above mid h.same h.rooms_ahead (subst (HaveRoomsAbove IsDueSoon) split rooms));
+      live = ap₂ (λ l m. l ++ m)
+          (same-noted (live_items contents) (λ l l' rest same _. ap (λ v. live_items contents rest ++ live_in contents v) same) mid above' n.noted ∙ h.live) n.live
+          ∙ sym (ap (λ ls. without stamp s (live_items contents ls)) split ∙ without-append stamp s (live_items contents above) (live_in contents level));
+      items = ap₂ (λ l m. l ++ m)
+          (same-noted (all_items contents) (λ l l' rest same _. ap (λ v. all_items contents rest ++ items_in contents v) same) mid above' n.noted ∙ h.items) n.items
+          ∙ sym (ap (all_items contents) split);
+      weight = ap₂ (λ m k. m + k) (ap₂ (λ m k. m * 2 ^ k) n.as_many (ap (λ v. v.level) n.same))
+          (same-noted weight_of (λ l l' rest same _. ap (λ v. weight_in v + weight_of rest) same) mid above' n.noted ∙ h.weight) ∙ sym (ap weight_of split);
+      held = ap₂ (λ m ns. m ∷ ns) held (same-noted (map held_in) held-noted mid above' n.noted ∙ h.held) ∙ sym (ap (map held_in) split);
+      lowest = held ∙ sym (ap lowest_held split);
+      as_many = omega (arith, same-noted length (λ l l' rest _ _. refl) mid above' n.noted, h.as_many, c.in-Some.ensures.cases.1);
+      cost = λ g' light.
+          let t = g.B.Part.Part.mark_touches g' in
+          let spends = λ (n : ℕ) (m : ℕ). Spends c.mark_in.new.steps c.mark_and_note.new.steps 0 n (n * m) in
+          let light' : weight_of (level ∷ above) < 2 ^ (g' + 1) = subst (λ ls. weight_of ls < 2 ^ (g' + 1)) split light in
+          let here : spends marks t = ⊎_elim
+          (λ none. let nothing : marks ≡ 0 = ap (asked_in contents stamp s) (none_of level.parts (omega (arith, none))) in
+          let free : spends 0 (g.B.Part.Part.mark_touches level.level) =
+          subst (λ m. spends m (g.B.Part.Part.mark_touches level.level)) nothing (n.cost level.level (omega arith)) in
+          subst (λ m. spends m t) (sym nothing) (Spends-within free refl refl (omega arith)))
+          (λ some. n.cost g' (light_level (length level.parts) level.level g' (weight_of above) some light'))
+          (cases_lt (length level.parts) 1) in
+          Spends-both t (asked contents stamp s above) marks (asked contents stamp s c.args.levels.now)
+          (h.cost g' (lighter (weight_in level) (weight_of above) light')) here (ap (asked contents stamp s) split ∙ asked-both contents stamp s level above off);
+    }
 
 pub returns-in-None-clause-cost : goal.returns-in-None-clause-cost
 returns-in-None-clause-cost g p c g' light =
@@ -263,14 +152,3 @@ returns-in-None-clause-cost g p c g' light =
     let nothing : asked contents g.B.Item.Item.stamp s c.args.levels.now ≡ 0 = ap (asked contents g.B.Item.Item.stamp s) none in
     subst (λ n. Spends c.args.steps.now c.args.steps.now 0 n (n * g.B.Part.Part.mark_touches g')) (sym nothing)
     (Spends-within (Spends-nothing c.args.steps.now) refl refl (omega arith))
-
-pub returns-then-mark_in-clause-held : goal.returns-then-mark_in-clause-held
-returns-then-mark_in-clause-held g p c =
-    ap (λ ns. held_in c.in-Some.level.now ∷ ns) c.mark_in.ensures.held ∙ sym (ap (map held_in) c.in-Some.ensures.cases.0)
-
-pub returns-else-mark_in-clause-held : goal.returns-else-mark_in-clause-held
-returns-else-mark_in-clause-held g p c =
-    let here : held_in c.mark_and_note.new.level ≡ held_in c.in-Some.level.now =
-    omega (arith, ap held_in c.mark_and_note.ensures.same, c.mark_and_note.ensures.as_many) in
-    ap₂ (λ n ns. n ∷ ns) here (held-noted c.mark_in.new.levels c.mark_and_note.new.above c.mark_and_note.ensures.noted ∙ c.mark_in.ensures.held)
-    ∙ sym (ap (map held_in) c.in-Some.ensures.cases.0)

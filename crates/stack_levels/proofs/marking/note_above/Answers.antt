@@ -1,14 +1,23 @@
-use Rattle.std.proofs.Common.{◌≡◌, ◌∙◌, ◌∷◌, refl, sym, subst}
+use Rattle.std.proofs.Common.{◌≡◌, ◌∙◌, List, ◌∷◌, refl, sym, subst}
+use Rattle.stack_levels.specs.Slots.{Slots}
 use Rattle.stack_levels.specs.Neighbours.{IsConstructionOf}
 use Rattle.stack_levels.specs.Marking.{AreNoted}
 use Rattle.stack_levels.proofs.MarkedLevels.{AreNoted-refl}
 use Rattle.stack_levels.proofs.marking.note_above.Goals as goal
 
-pub note-requires-clause-early : goal.note-requires-clause-early
-note-requires-clause-early g c = (c.requires.early c.in-Some.next.now c.in-Some._above.now c.in-Some.ensures.cases.0).0
+-- two levels that were read of the same list
+read_twice : {P Item : Type 0} {levels : List (Slots P Item)} {next l next' l' : Slots P Item} {above rest : List (Slots P Item)}
+    (Q : Slots P Item → Slots P Item → Type 0) → levels ≡ next ∷ above → levels ≡ l ∷ rest → next' ∷ above ≡ l' ∷ rest → Q next next' → Q l l'
+read_twice {P} {Item} {levels} {next} {l} {next'} {l'} {above} {rest} Q split was is h =
+    let whole : next ∷ above ≡ l ∷ rest = sym split ∙ was in
+    let from : next ≡ l = cc in
+    let to : next' ≡ l' = cc in
+    subst (Q l) to (subst (λ v. Q v next') from h)
 
-pub note-requires-clause-punctual : goal.note-requires-clause-punctual
-note-requires-clause-punctual g c = (c.requires.early c.in-Some.next.now c.in-Some._above.now c.in-Some.ensures.cases.0).1
+pub note-requires : goal.note-requires
+note-requires g c =
+    let h = c.requires.early c.in-Some.next.now c.in-Some._above.now c.in-Some.ensures.cases.0 in
+    record { early = h.0; punctual = h.1 }
 
 pub returns-then-place-ge2-clause-noted : goal.returns-then-place-ge2-clause-noted
 returns-then-place-ge2-clause-noted g c = AreNoted-refl c.args.above.now
@@ -22,19 +31,11 @@ returns-in-Some-clause-noted g c =
     (c.note.new.self, refl, c.note.ensures.same, c.note.ensures.ticks, c.note.ensures.runs)
 
 pub returns-in-Some-clause-of_a : goal.returns-in-Some-clause-of_a
-returns-in-Some-clause-of_a g c early l l' rest was is a b new live same old =
-    let contents = g.B.Part.Part.contents in
-    let head : c.in-Some.next.now ∷ c.in-Some._above.now ≡ l ∷ rest = sym c.in-Some.ensures.cases.0 ∙ was in
-    let from : l ≡ c.in-Some.next.now = cc in
-    let to : c.note.new.self ≡ l' = cc in
-    subst (IsConstructionOf contents g.B.Item.Item.stamp g.B.Item.Item.before new b) to
-    (c.note.ensures.of_a a b new live same (subst (IsConstructionOf contents g.B.Item.Item.stamp g.B.Item.Item.before a b) from old))
+returns-in-Some-clause-of_a g c early l l' rest was is a b new live same =
+    let built = IsConstructionOf g.B.Part.Part.contents g.B.Item.Item.stamp g.B.Item.Item.before in
+    read_twice (λ v v'. built a b v → built new b v') c.in-Some.ensures.cases.0 was is (c.note.ensures.of_a a b new live same)
 
 pub returns-in-Some-clause-of_b : goal.returns-in-Some-clause-of_b
-returns-in-Some-clause-of_b g c early l l' rest was is a b new live same old =
-    let contents = g.B.Part.Part.contents in
-    let head : c.in-Some.next.now ∷ c.in-Some._above.now ≡ l ∷ rest = sym c.in-Some.ensures.cases.0 ∙ was in
-    let from : l ≡ c.in-Some.next.now = cc in
-    let to : c.note.new.self ≡ l' = cc in
-    subst (IsConstructionOf contents g.B.Item.Item.stamp g.B.Item.Item.before a new) to
-    (c.note.ensures.of_b a b new live same (subst (IsConstructionOf contents g.B.Item.Item.stamp g.B.Item.Item.before a b) from old))
+returns-in-Some-clause-of_b g c early l l' rest was is a b new live same =
+    let built = IsConstructionOf g.B.Part.Part.contents g.B.Item.Item.stamp g.B.Item.Item.before in
+    read_twice (λ v v'. built a b v → built a new v') c.in-Some.ensures.cases.0 was is (c.note.ensures.of_b a b new live same)

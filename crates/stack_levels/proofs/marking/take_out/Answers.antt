@@ -1,9 +1,9 @@
-use Rattle.std.proofs.Common.{◌≡◌, ◌+◌, ◌*◌, ◌^◌, ◌<◌, ◌∙◌, drop, ap, sym, subst, arith}
+use Rattle.std.proofs.Common.{◌+◌, ◌^◌, ◌<◌, ◌∙◌, drop, ap, sym, subst, arith}
 use Rattle.query_laws.specs.Orders.{AllStampsDiffer}
 use Rattle.stack_levels.specs.Slots.{IsPartOf}
 use Rattle.stack_levels.specs.Levels.{weight_of, all_items, asked}
-use Rattle.stack_levels.specs.Cost.{IsWithin, quotas}
-use Rattle.stack_levels.proofs.Spending.{IsWithin-of, IsWithin-then}
+use Rattle.stack_levels.specs.Cost.{IsWithin}
+use Rattle.stack_levels.proofs.Spending.{IsWithin-more, IsWithin-of, IsWithin-then}
 use Rattle.stack_levels.proofs.MarkedLevels.{owned_live, levels-from_all, halfway-marked, rooms_now, rooms_next, some_live}
 use Rattle.stack_levels.proofs.marking.take_out.Goals as goal
 
@@ -36,16 +36,12 @@ pub returns-clause-cost : goal.returns-clause-cost
 returns-clause-cost g c g' light =
     let n = asked g.B.Part.Part.contents g.B.Item.Item.stamp (g.B.Item.Item.stamp c.args.item.now) c.args.levels.now in
     let t = g.B.Part.Part.mark_touches g' in
-    let q = quotas g.B.Builder.SLOPE g.B.Builder.BASE 1 g' in
     let light_old : weight_of c.args.levels.now < 2 ^ (g' + 1) =
     subst (λ w. w < 2 ^ (g' + 1)) (c.take_tick.ensures.weight ∙ c.mark_in.ensures.weight) light in
     let light_mid : weight_of c.mark_in.new.levels < 2 ^ (g' + 1) = subst (λ w. w < 2 ^ (g' + 1)) c.take_tick.ensures.weight light in
     let first : IsWithin 0 n t c.args.steps.now c.mark_in.new.steps =
     IsWithin-of (c.mark_in.ensures.cost g' light_old) (omega arith) (omega arith) (omega arith) in
-    let turns : 0 + q ≡ q = omega arith in
-    let marks : n + 2 * g' ≡ 2 * g' + n = omega arith in
-    subst (λ m. IsWithin q m t c.args.steps.now c.take_tick.new.steps) marks
-    (subst (λ k. IsWithin k (n + 2 * g') t c.args.steps.now c.take_tick.new.steps) turns (IsWithin-then first (c.take_tick.ensures.cost g' light_mid)))
+    IsWithin-more (IsWithin-then first (c.take_tick.ensures.cost g' light_mid)) (omega arith) (omega arith) (omega arith)
 
 pub returns-clause-held_above : goal.returns-clause-held_above
 returns-clause-held_above g c = c.take_tick.ensures.held_above ∙ ap (drop 1) c.mark_in.ensures.held

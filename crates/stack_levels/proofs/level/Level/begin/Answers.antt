@@ -1,22 +1,18 @@
-use Rattle.std.proofs.Common.{◌≡◌, ℕ, ◌++◌, ◌∙◌, Option, None, ap, sym, arith}
+use Rattle.std.proofs.Common.{◌≡◌, ℕ, ◌∙◌, Option, None, ap, sym, arith}
 use Rattle.std.specs.Option.{is_some}
 use Rattle.stack_levels.specs.Slots.{ticks_of, one_if}
 use Rattle.stack_levels.proofs.Held.{counted}
 use Rattle.stack_levels.proofs.Neighbouring.{none_ticks, not_some}
-use Rattle.stack_levels.proofs.Distinct.{AllStampsDiffer-part, StampsDiffer-parts, IsPartOf-front, IsPartOf-back}
+use Rattle.stack_levels.proofs.Distinct.{AllStampsDiffer-front, AllStampsDiffer-back, StampsDiffer-parts}
 use Rattle.stack_levels.proofs.level.Level.begin.Goals as goal
 
 pub begin-requires-clause-apart : goal.begin-requires-clause-apart
 begin-requires-clause-apart g c =
-    let xs = (g.B.Part.Part.contents c.args.a.now).items in
-    let ys = (g.B.Part.Part.contents c.args.b.now).items in
-    AllStampsDiffer-part g.B.Item.Item.stamp xs (xs ++ ys) (IsPartOf-front xs ys) c.requires.apart
+    AllStampsDiffer-front g.B.Item.Item.stamp (g.B.Part.Part.contents c.args.a.now).items (g.B.Part.Part.contents c.args.b.now).items c.requires.apart
 
 pub begin-requires-clause-other_apart : goal.begin-requires-clause-other_apart
 begin-requires-clause-other_apart g c =
-    let xs = (g.B.Part.Part.contents c.args.a.now).items in
-    let ys = (g.B.Part.Part.contents c.args.b.now).items in
-    AllStampsDiffer-part g.B.Item.Item.stamp ys (xs ++ ys) (IsPartOf-back xs ys) c.requires.apart
+    AllStampsDiffer-back g.B.Item.Item.stamp (g.B.Part.Part.contents c.args.a.now).items (g.B.Part.Part.contents c.args.b.now).items c.requires.apart
 
 pub begin-requires-clause-differ : goal.begin-requires-clause-differ
 begin-requires-clause-differ g c =
@@ -32,5 +28,6 @@ start-requires g c =
 
 pub returns-clause-ticks : goal.returns-clause-ticks
 returns-clause-ticks g c =
-    let none : c.args.self.now.construction ≡ None = not_some c.args.self.now.construction (ap (λ v. is_some v.construction) (sym c.self.view_is) ∙ sym c.is_some.ensures ∙ c.if-is_some.false) in
+    let none : c.args.self.now.construction ≡ None =
+    not_some c.args.self.now.construction (ap (λ v. is_some v.construction) (sym c.self.view_is) ∙ sym c.is_some.ensures ∙ c.if-is_some.false) in
     ap ticks_of c.start.ensures ∙ c.begin.ensures.none.0 ∙ sym (none_ticks c.args.self.now none)

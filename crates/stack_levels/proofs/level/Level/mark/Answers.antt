@@ -5,7 +5,7 @@ use Rattle.stack_levels.specs.Level.{IsOfLevel, AreHeld}
 use Rattle.stack_levels.specs.Marking.{AreMarkedAt}
 use Rattle.stack_levels.proofs.Publishing.{higher}
 use Rattle.stack_levels.proofs.Marks.{of_level-marked, length-marked}
-use Rattle.stack_levels.proofs.Held.{written}
+use Rattle.stack_levels.proofs.Held.{IsLevel-of, written}
 use Rattle.stack_levels.proofs.level.Level.mark.Goals as goal
 
 no_longer : {a b m : ℕ} → a ≤ b → b ≤ m → a ≤ m
@@ -23,20 +23,13 @@ invariant_of-self g c =
     subst (λ ps. AreMarkedAt contents stamp c.args.item.now c.mark_parts.result ps new) value c.mark_parts.ensures.marked in
     let as_long = length-marked contents stamp c.args.item.now marked in
     let whole = written v.parts.len v.parts.items new (sym c.deref_mut.ensures.len ∙ ap length value) as_long in
-    record {
-      most = h.most;
-      parts_held = subst (λ ps. AreHeld (λ p. IsOfLevel v.level (contents p)) 3 ps v.parts.cap) (sym whole) (record {
-        each = of_level-marked contents stamp c.args.item.now v.level marked h.parts_held.each;
-        few = omega (arith, as_long, h.parts_held.few);
-        place = h.parts_held.place;
-      });
-      builds = h.builds;
-      rooms = h.rooms;
-      builders_held = h.builders_held;
-      tables_held = h.tables_held;
-      no_room_at_zero = h.no_room_at_zero;
-      few = omega (arith, h.few, ap length whole, as_long);
-    }
+    IsLevel-of h h.builds
+    (subst (λ ps. AreHeld (λ p. IsOfLevel v.level (contents p)) 3 ps v.parts.cap) (sym whole) (record {
+      each = of_level-marked contents stamp c.args.item.now v.level marked h.parts_held.each;
+      few = omega (arith, as_long, h.parts_held.few);
+      place = h.parts_held.place;
+    }))
+    h.builders_held h.tables_held (omega (arith, h.few, ap length whole, as_long))
 
 pub returns-clause-cost : goal.returns-clause-cost
 returns-clause-cost g c h above =

@@ -9,7 +9,8 @@ use Rattle.stack_levels.proofs.level.Level.publish.Goals as goal
 pub publish-part-requires-clause-ended : goal.publish-part-requires-clause-ended
 publish-part-requires-clause-ended g c =
     let h = c.in-Some.ensures.ended in
-    let ticks : ticks_of c.args.self.now ≡ c.in-Some.construction.ticks = ap (λ (o : Option (Construction g.row.B-Item.Denot)). option_map_or (λ v. v.ticks) o 0) h.0 in
+    let ticks : ticks_of c.args.self.now ≡ c.in-Some.construction.ticks =
+    ap (λ (o : Option (Construction g.row.B-Item.Denot)). option_map_or (λ v. v.ticks) o 0) h.0 in
     omega (arith, h.2, c.requires.within, ticks, ap (λ k. 2 ^ k) h.1)
 
 pub publish-part-requires-clause-none : goal.publish-part-requires-clause-none

@@ -1,27 +1,17 @@
-use Rattle.std.proofs.Common.{◌≡◌, IfSome, ap, subst, sym, arith, length, option_to_list}
+use Rattle.std.proofs.Common.{◌≡◌, IfSome, ap, subst, arith, length, option_to_list}
 use Rattle.std.proofs.lemmas.List.{length-append}
 use Rattle.std.proofs.lemmas.List.Elements.{All-pop}
 use Rattle.builder_trait.specs.Builders.{begun}
-use Rattle.stack_levels.specs.Level.{AreHeld}
-use Rattle.stack_levels.proofs.Held.{AreHeld-popped}
+use Rattle.stack_levels.proofs.Held.{AreHeld-popped, IsLevel-of}
 use Rattle.stack_levels.proofs.level.Level.take_kept.Goals as goal
 
 pub invariant_of-self : goal.invariant_of-self
 invariant_of-self g c =
     let h = c.self.invariant in
-    let v = c.self.inside in
-    let IsBegun : g.row.B.Denot → Type 0 = λ b. g.B.Builder.progress b ≡ begun v.level in
-    record {
-      most = h.most;
-      parts_held = h.parts_held;
-      builds = h.builds;
-      rooms = h.rooms;
-      builders_held = subst (AreHeld IsBegun 5 c.pop.new.self.items) (sym c.pop.ensures.capacity)
-          (AreHeld-popped v.builders.items c.pop.new.self.items c.pop.result c.pop.ensures.items h.builders_held);
-      tables_held = h.tables_held;
-      no_room_at_zero = h.no_room_at_zero;
-      few = omega (arith, h.few, ap length c.pop.ensures.items, length-append c.pop.new.self.items (option_to_list c.pop.result));
-    }
+    let p = c.pop.ensures in
+    IsLevel-of h h.builds h.parts_held
+    (AreHeld-popped c.self.inside.builders.items c.pop.new.self.items c.pop.result p.items p.capacity h.builders_held)
+    h.tables_held (omega (arith, h.few, ap length p.items, length-append c.pop.new.self.items (option_to_list c.pop.result)))
 
 pub returns-clause-begun : goal.returns-clause-begun
 returns-clause-begun g c =

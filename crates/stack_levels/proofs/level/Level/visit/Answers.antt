@@ -19,7 +19,8 @@ begin-requires-clause-apart g c =
     let a = c.a-item.result in
     let b = c.b-item.result in
     AllStampsDiffer-part g.B.Item.Item.stamp (f a ++ f b) (items_in g.B.Part.Part.contents c.args.lower.now)
-    (oldest_items f c.args.lower.now.parts a b (are_oldest c.args.lower.now.parts c.parts.ensures.value c.in-len2-up.len_at_least c.a-item.is c.b-item.is)) c.requires.apart
+    (oldest_items f c.args.lower.now.parts a b
+    (are_oldest c.args.lower.now.parts c.parts.ensures.value c.in-len2-up.len_at_least c.a-item.is c.b-item.is)) c.requires.apart
 
 pub begin-requires-clause-fed : goal.begin-requires-clause-fed
 begin-requires-clause-fed g c c' is =
