@@ -1,11 +1,10 @@
 -- An index from which an item is dropped, beside the chain from which it is to be unlinked.
-use Rattle.std.proofs.Common.{◌≡◌, ◌≢◌, ℕ, ◌+◌, ◌-◌, ◌*◌, ◌^◌, ◌<◌, ◌≤◌, ◌==◌, ◌∙◌, Bool, true, false, if◌then◌else◌, not, List, [], ◌∷◌, Option, Some, None, All, Contains, length, map, refl, sym, ap, subst, arith}
+use Rattle.std.proofs.Common.{◌≡◌, ◌≢◌, ℕ, ◌+◌, ◌-◌, ◌*◌, ◌^◌, ◌<◌, ◌≤◌, ◌==◌, ◌∙◌, true, false, if◌then◌else◌, not, List, [], ◌∷◌, Option, Some, None, Contains, map, sym, ap, subst, arith}
 use Rattle.std.specs.Option.{option_map}
 use Rattle.std.proofs.lemmas.List.{length-map}
-use Rattle.std.proofs.lemmas.List.Sorted.{Contains-permutation}
 use Rattle.std.proofs.lemmas.List.Elements.{All-nil}
 use Rattle.query_laws.specs.Permuted.{Permuted, nothing, composed}
-use Rattle.query_laws.proofs.Permutations.{IsPermutation-from_Permuted, Permuted-filter, Permuted-length, Permuted-sym}
+use Rattle.query_laws.proofs.Permutations.{Permuted-filter, Permuted-length}
 use Rattle.query_laws.specs.StepLedger.{Counts}
 use Rattle.builder_trait.specs.Parts.{Contents, without}
 use Rattle.id_chain.specs.Chain.{Entry, HandlesDiffer, is_linked, item_at, before, after, IsCursor, before_cursor, without_handle, first_handle}
@@ -18,9 +17,9 @@ use Rattle.level_slots.specs.Stack.{Stacked}
 use Rattle.stack_levels.specs.Cost.{IsWithin}
 use Rattle.stack_levels.proofs.Spending.{IsWithin-more, IsWithin-then}
 use Rattle.global_rebuild.specs.Index.{Shadow, Indexed, IsShadowOf, IsIndexOf, IsIndex, IsPrepared, IsInTime, IsQuiet, live_in, stamp_at, unwalked}
-use Rattle.global_rebuild.proofs.Appending.{All-part}
-use Rattle.global_rebuild.proofs.Forgetting.{Contains-item, item_of, items_without, length-without_handle, IsShadowOf-deleted, IsShadowOf-moved, IsShadowOf-after, one_fewer, walked_live}
-use Rattle.global_rebuild.proofs.Weights.{as_many, main_within, shadow_light}
+use Rattle.global_rebuild.proofs.Walking.{item_of, All-part}
+use Rattle.global_rebuild.proofs.Forgetting.{items_without, length-without_handle, IsShadowOf-deleted, IsShadowOf-moved, IsShadowOf-after, one_fewer, walked_live}
+use Rattle.global_rebuild.proofs.Weights.{IsSoundOf, as_many, shadow_light}
 
 module _ {Item : Type 0} (handle : ℕ) (item : Item) (es : List (Entry Item)) (is : item_at handle es ≡ Some item) where
   abbrev entry : Entry Item
@@ -37,218 +36,151 @@ module _ {Item : Type 0} (handle : ℕ) (item : Item) (es : List (Entry Item)) (
       StampsRise-without stamp 0 (before handle es) entry (after handle es) stamps
       (subst (λ l. StampsRise stamp 0 l stamps) (split_at handle item es is) rise)
 
--- a prepared index of a chain with an item, and what is seen of it
-pub record IsReady {P Item : Type 0} (contents : P → Contents Item) (stamp : Item → ℕ) (i now : Indexed P Item) (es : List (Entry Item)) (handle : ℕ) (item : Item) : Type 0 where
+-- a prepared index of a chain with an item, what is seen of it, and its main stack without the item
+pub record IsDropped {P Item : Type 0} (contents : P → Contents Item) (stamp : Item → ℕ) (i now : Indexed P Item) (es : List (Entry Item)) (handle : ℕ) (item : Item)
+    (main : Stacked P Item) : Type 0 where
   pub view : i ≡ now
   pub valid : IsIndex contents stamp i
   pub prepared : IsPrepared contents now
   pub chain : IsIndexOf contents stamp now es
   pub linked : is_linked handle es ≡ true
   pub is : item_at handle es ≡ Some item
-
-pub ready_of : {P Item : Type 0} {contents : P → Contents Item} {stamp : Item → ℕ} {i now : Indexed P Item} {es : List (Entry Item)} {handle : ℕ} {item : Item}
-    → i ≡ now → IsIndex contents stamp i → IsPrepared contents now → IsIndexOf contents stamp now es → is_linked handle es ≡ true → item_at handle es ≡ Some item
-    → IsReady contents stamp i now es handle item
-ready_of view valid prepared chain linked is = record { view = view; valid = valid; prepared = prepared; chain = chain; linked = linked; is = is }
+  pub live : Permuted (live_items contents main.levels) (without stamp (stamp item) (live_items contents i.main.levels))
+  pub items : IsPartOf (all_items contents main.levels) (all_items contents i.main.levels)
+  pub weight : weight_of main.levels ≡ weight_of i.main.levels
 
 module _ {P Item : Type 0} {contents : P → Contents Item} {stamp : Item → ℕ} {i now : Indexed P Item} {es : List (Entry Item)} {handle : ℕ} {item : Item}
-    (f : IsReady contents stamp i now es handle item) where
+    {main : Stacked P Item} (f : IsDropped contents stamp i now es handle item main) where
   h : IsIndexOf contents stamp i es
-  h = subst (λ i. IsIndexOf contents stamp i es) (sym f.view) f.chain
+  h = subst (λ j. IsIndexOf contents stamp j es) (sym f.view) f.chain
 
   p : IsPrepared contents i
   p = subst (IsPrepared contents) (sym f.view) f.prepared
 
-  -- neither stack weighs too much
-  pub main_light : weight_of i.main.levels < 2 ^ 31
-  main_light = omega (arith, main_within contents stamp i f.valid, as_many contents stamp i es h, h.few)
+  abbrev others : List (Entry Item)
+  others = without_handle handle es
 
-  pub live_light : 3 * live_in contents i.main + 16 < 2 ^ 64
-  live_light = omega (arith, as_many contents stamp i es h, h.few)
+  others_left : Permuted (live_items contents main.levels) (map item_of others)
+  others_left =
+      subst (Permuted (live_items contents main.levels)) (items_without stamp handle 0 item es i.stamps h.rise f.is)
+      (composed f.live (Permuted-filter (λ x. not (stamp x == stamp item)) h.live))
 
-  pub main_few : (g : ℕ) → 2 * live_in contents now.main + 10 < 2 ^ (g + 1) → weight_of i.main.levels < 2 ^ (g + 1)
-  main_few g light = omega (arith, main_within contents stamp i f.valid, light, ap (λ x. live_in contents x.main) f.view)
+  pub one_dropped : live_in contents main + 1 ≡ live_in contents i.main
+  one_dropped =
+      omega (arith, Permuted-length others_left, length-map others item_of, length-without_handle handle es f.linked, as_many contents stamp i es h)
 
-  module _ (r : Shadow P Item) (there : i.shadow ≡ Some r) where
-    -- an item that was handed over is live in the shadow
-    pub walked_item : is_linked handle (before_cursor r.cursor es) ≡ true → Contains (live_items contents r.stack.levels) item
-    walked_item walked = walked_live contents stamp r es i.stamps handle item h.rise (h.shadow r there) f.is walked
+  pub few_left : 3 * live_in contents main + 16 < 2 ^ 64
+  few_left = omega (arith, one_dropped, as_many contents stamp i es h, h.few)
 
-    pub one_walked : (r' : Shadow P Item) → is_linked handle (before_cursor r.cursor es) ≡ true
-        → Permuted (live_items contents r'.stack.levels) (without stamp (stamp item) (live_items contents r.stack.levels))
-        → live_in contents r'.stack + 1 ≡ live_in contents r.stack
-    one_walked r' walked live' = one_fewer contents stamp r es i.stamps handle item h.rise (h.shadow r there) f.is (live_items contents r'.stack.levels) walked live'
+  -- with the main stack without the item, and this shadow, it is an index of the others
+  abbrev IsSoundWith : Option (Shadow P Item) → Type 0
+  IsSoundWith shadow = IsSoundOf contents stamp (record i { main = main; shadow = shadow }) others
 
-    pub walked_light : weight_of r.stack.levels < 2 ^ 31
-    walked_light = let light = shadow_light contents stamp i es h r there (f.valid.in_time r there) in omega (arith, light)
-
-    pub walked_few_enough : (g : ℕ) → 2 * live_in contents now.main + 10 < 2 ^ (g + 1) → weight_of r.stack.levels < 2 ^ (g + 1)
-    walked_few_enough g light =
-        let t = f.valid.in_time r there in
-        omega (arith, t.few, t.shadow_light, light, ap (λ x. live_in contents x.main) f.view)
-
-  pub dropped_live : Contains (live_items contents i.main.levels) item
-  dropped_live = Contains-permutation (map item_of es) (live_items contents i.main.levels) item (IsPermutation-from_Permuted (Permuted-sym h.live)) (Contains-item handle item es f.is)
-
-  module _ (main : Stacked P Item) (live : Permuted (live_items contents main.levels) (without stamp (stamp item) (live_items contents i.main.levels))) where
-    items_left : Permuted (live_items contents main.levels) (map item_of (without_handle handle es))
-    items_left =
-        subst (Permuted (live_items contents main.levels)) (items_without stamp handle 0 item es i.stamps h.rise f.is)
-        (composed live (Permuted-filter (λ x. not (stamp x == stamp item)) h.live))
-
-    pub one_dropped : live_in contents main + 1 ≡ live_in contents i.main
-    one_dropped =
-        omega (
-          arith,
-          Permuted-length items_left,
-          length-map (without_handle handle es) item_of,
-          length-without_handle handle es f.linked,
-          length-map es item_of,
-          Permuted-length h.live,
-        )
-
-    pub IsIndexOf-dropped : (shadow : Option (Shadow P Item)) → ((r : Shadow P Item) → shadow ≡ Some r → IsShadowOf contents stamp r (without_handle handle es) i.stamps)
-        → IsIndexOf contents stamp (record i { main = main; shadow = shadow }) (without_handle handle es)
-    IsIndexOf-dropped shadow own = record {
-      live = items_left;
-      shadow = own;
+  sound : (shadow : Option (Shadow P Item)) → (shadow ≡ None → IsQuiet contents main)
+      → ((r : Shadow P Item) → shadow ≡ Some r → IsInTime contents 0 main r × IsShadowOf contents stamp r others i.stamps) → IsSoundWith shadow
+  sound shadow quiet some = (
+    record {
+      below = All-part (λ x. stamp x < i.stamps) (all_items contents main.levels) (all_items contents i.main.levels) f.items f.valid.below;
+      quiet = quiet;
+      in_time = λ r there. (some r there).0;
+    },
+    record {
+      live = others_left;
+      shadow = λ r there. (some r there).1;
       rise = rise_without handle item es f.is stamp i.stamps h.rise;
       differ = HandlesDiffer-without handle item es f.is h.differ;
       few = omega (arith, length-without_handle handle es f.linked, h.few);
-    }
+    },
+  )
 
-    module _ (weight : weight_of main.levels ≡ weight_of i.main.levels) where
-      -- an item is gone, and one more is dead
-      pub dropped_while_quiet : IsQuiet contents i.main → (r : Shadow P Item) → r.stack.levels ≡ [] → IsInTime contents 0 main r
-      dropped_while_quiet quiet r empty =
-          let none : live_in contents r.stack ≡ 0 = ap (λ ls. length (live_items contents ls)) empty in
-          let light : weight_of r.stack.levels ≡ 0 = ap weight_of empty in
-          record {
-            few = omega (arith, none);
-            main_light = omega (arith, quiet, one_dropped, weight, none);
-            shadow_light = omega (arith, light, none);
-          }
+  -- no rebuild runs, and none starts
+  pub stays_quiet : i.shadow ≡ None → IsQuiet contents main → IsSoundWith i.shadow
+  stays_quiet none quiet = sound i.shadow (λ no. quiet) (λ r there. let wrong : Some r ≡ None = sym there ∙ none in absurd cc)
 
-      pub dropped_walked : (r r' : Shadow P Item) → IsInTime contents 4 i.main r → live_in contents r'.stack + 1 ≡ live_in contents r.stack
-          → weight_of r'.stack.levels ≡ weight_of r.stack.levels → IsInTime contents 0 main r'
-      dropped_walked r r' t one same = record {
-        few = omega (arith, t.few, one, one_dropped);
-        main_light = omega (arith, t.few, t.main_light, one, one_dropped, weight);
-        shadow_light = omega (arith, t.few, t.shadow_light, one, one_dropped, same);
-      }
+  goes_on : (r : Shadow P Item) → IsInTime contents 0 main r → IsShadowOf contents stamp r others i.stamps → IsSoundWith (Some r)
+  goes_on r t own =
+      sound (Some r) (λ no. absurd cc)
+      (λ x there. let one : r ≡ x = cc in subst (λ s. IsInTime contents 0 main s × IsShadowOf contents stamp s others i.stamps) one (t, own))
 
-      pub dropped_unwalked : (r r' : Shadow P Item) → IsInTime contents 4 i.main r → 1 ≤ live_in contents i.main - live_in contents r.stack
-          → r'.stack ≡ r.stack → IsInTime contents 0 main r'
-      dropped_unwalked r r' t some same =
-          let live' : live_in contents r'.stack ≡ live_in contents r.stack = ap (live_in contents) same in
-          let weight' : weight_of r'.stack.levels ≡ weight_of r.stack.levels = ap (λ s. weight_of s.levels) same in
-          record {
-            few = omega (arith, some, one_dropped, live');
-            main_light = omega (arith, t.main_light, some, one_dropped, weight, live');
-            shadow_light = omega (arith, t.shadow_light, some, one_dropped, live', weight');
-          }
+  -- no rebuild runs, and one starts
+  pub starts : i.shadow ≡ None → (cursor : Option ℕ) → IsCursor cursor others → before_cursor cursor others ≡ []
+      → IsSoundWith (Some (record { stack = record { levels = []; spare = 0; starters = 0 }; cursor = cursor }))
+  starts none cursor at first =
+      let quiet = f.valid.quiet none in
+      goes_on (record { stack = record { levels = []; spare = 0; starters = 0 }; cursor = cursor })
+      (record { few = omega arith; main_light = omega (arith, quiet, one_dropped, f.weight); shadow_light = omega arith })
+      (record {
+        cursor = at;
+        live = subst (λ l. Permuted [] (map item_of l)) (sym first) nothing;
+        below = All-nil (λ x. stamp x < stamp_at stamp cursor others i.stamps);
+      })
 
-      pub IsIndex-dropped : IsPartOf (all_items contents main.levels) (all_items contents i.main.levels) → (shadow : Option (Shadow P Item))
-          → (shadow ≡ None → IsQuiet contents main) → ((r : Shadow P Item) → shadow ≡ Some r → IsInTime contents 0 main r)
-          → IsIndex contents stamp (record i { main = main; shadow = shadow })
-      IsIndex-dropped items shadow quiet in_time = record {
-        below = All-part (λ x. stamp x < i.stamps) (all_items contents main.levels) (all_items contents i.main.levels) items f.valid.below;
-        quiet = quiet;
-        in_time = in_time;
-      }
+  module _ (r : Shadow P Item) (there : i.shadow ≡ Some r) where
+    own : IsShadowOf contents stamp r es i.stamps
+    own = h.shadow r there
 
-      -- no rebuild runs, and one starts where too much is dead
-      pub starts : IsPartOf (all_items contents main.levels) (all_items contents i.main.levels) → i.shadow ≡ None → (fresh : Shadow P Item)
-          → fresh.stack.levels ≡ [] → IsCursor fresh.cursor (without_handle handle es) → before_cursor fresh.cursor (without_handle handle es) ≡ []
-          → IsIndex contents stamp (record i { main = main; shadow = Some fresh })
-          × IsIndexOf contents stamp (record i { main = main; shadow = Some fresh }) (without_handle handle es)
-      starts items none fresh empty cursor first = (
-        IsIndex-dropped items (Some fresh) (λ no. absurd cc)
-            (λ r there. let one : fresh ≡ r = cc in subst (IsInTime contents 0 main) one (dropped_while_quiet (f.valid.quiet none) fresh empty)),
-        IsIndexOf-dropped (Some fresh)
-            (λ r there. let one : fresh ≡ r = cc in subst (λ x. IsShadowOf contents stamp x (without_handle handle es) i.stamps) one (record {
-              cursor = cursor;
-              live = subst (λ ls. Permuted (live_items contents ls) (map item_of (before_cursor fresh.cursor (without_handle handle es)))) (sym empty)
-                  (subst (λ l. Permuted [] (map item_of l)) (sym first) nothing);
-              below = subst (λ ls. All (λ x. stamp x < stamp_at stamp fresh.cursor (without_handle handle es) i.stamps) (all_items contents ls)) (sym empty)
-                  (All-nil (λ x. stamp x < stamp_at stamp fresh.cursor (without_handle handle es) i.stamps));
-            })),
-      )
+    ahead : IsInTime contents 4 i.main r
+    ahead = (p.shadow r there).1
 
-      -- none runs, and none starts
-      pub stays_quiet : IsPartOf (all_items contents main.levels) (all_items contents i.main.levels) → i.shadow ≡ None → IsQuiet contents main
-          → IsIndex contents stamp (record i { main = main; shadow = i.shadow })
-          × IsIndexOf contents stamp (record i { main = main; shadow = i.shadow }) (without_handle handle es)
-      stays_quiet items none quiet = (
-        IsIndex-dropped items i.shadow (λ no. quiet) (λ r there. let wrong : Some r ≡ None = sym there ∙ none in absurd cc),
-        IsIndexOf-dropped i.shadow (λ r there. let wrong : Some r ≡ None = sym there ∙ none in absurd cc),
-      )
+    pub walked_light : weight_of r.stack.levels < 2 ^ 31
+    walked_light = omega (arith, shadow_light (f.valid.in_time r there) (omega (arith, as_many contents stamp i es h, h.few)))
 
-      -- one runs, and its shadow is another now
-      goes_on : IsPartOf (all_items contents main.levels) (all_items contents i.main.levels) → (r' : Shadow P Item) → IsInTime contents 0 main r'
-          → IsShadowOf contents stamp r' (without_handle handle es) i.stamps
-          → IsIndex contents stamp (record i { main = main; shadow = Some r' })
-          × IsIndexOf contents stamp (record i { main = main; shadow = Some r' }) (without_handle handle es)
-      goes_on items r' t own = (
-        IsIndex-dropped items (Some r') (λ no. absurd cc) (λ x there. let one : r' ≡ x = cc in subst (IsInTime contents 0 main) one t),
-        IsIndexOf-dropped (Some r') (λ x there. let one : r' ≡ x = cc in subst (λ s. IsShadowOf contents stamp s (without_handle handle es) i.stamps) one own),
-      )
+    pub walked_few_enough : (g : ℕ) → 2 * live_in contents now.main + 10 < 2 ^ (g + 1) → weight_of r.stack.levels < 2 ^ (g + 1)
+    walked_few_enough g light = omega (arith, ahead.few, ahead.shadow_light, light, ap (λ j. live_in contents j.main) f.view)
 
-      module _ (items : IsPartOf (all_items contents main.levels) (all_items contents i.main.levels)) (r r' : Shadow P Item) (there : i.shadow ≡ Some r) where
-        -- the item was handed over
-        pub goes_on_without : is_linked handle (before_cursor r.cursor es) ≡ true
-            → Permuted (live_items contents r'.stack.levels) (without stamp (stamp item) (live_items contents r.stack.levels))
-            → IsPartOf (all_items contents r'.stack.levels) (all_items contents r.stack.levels) → weight_of r'.stack.levels ≡ weight_of r.stack.levels → r'.cursor ≡ r.cursor
-            → IsIndex contents stamp (record i { main = main; shadow = Some r' })
-            × IsIndexOf contents stamp (record i { main = main; shadow = Some r' }) (without_handle handle es)
-        goes_on_without walked live' items' weight' same =
-            let own = h.shadow r there in
-            goes_on items r'
-            (dropped_walked r r' (p.shadow r there).1
-            (one_fewer contents stamp r es i.stamps handle item h.rise own f.is (live_items contents r'.stack.levels) walked live') weight')
-            (IsShadowOf-deleted contents stamp r es i.stamps handle item h.rise own f.is r' walked same live' items')
+    -- an item that was handed over is live in the shadow
+    pub walked_item : is_linked handle (before_cursor r.cursor es) ≡ true → Contains (live_items contents r.stack.levels) item
+    walked_item walked = walked_live contents stamp r es i.stamps handle item h.rise own f.is walked
 
-        -- the cursor was at it, and goes on
-        pub goes_on_moved : r.cursor ≡ Some handle → r'.stack ≡ r.stack → r'.cursor ≡ first_handle (after handle es)
-            → IsIndex contents stamp (record i { main = main; shadow = Some r' })
-            × IsIndexOf contents stamp (record i { main = main; shadow = Some r' }) (without_handle handle es)
-        goes_on_moved at same next =
-            goes_on items r' (dropped_unwalked r r' (p.shadow r there).1 (p.shadow r there).2 same)
-            (IsShadowOf-moved contents stamp r es i.stamps handle item h.rise (h.shadow r there) f.is r' h.differ at same next)
+    -- it is dropped there too
+    pub goes_on_without : (r' : Shadow P Item) → r'.cursor ≡ r.cursor → is_linked handle (before_cursor r.cursor es) ≡ true
+        → Permuted (live_items contents r'.stack.levels) (without stamp (stamp item) (live_items contents r.stack.levels))
+        → IsPartOf (all_items contents r'.stack.levels) (all_items contents r.stack.levels) → weight_of r'.stack.levels ≡ weight_of r.stack.levels
+        → IsSoundWith (Some r')
+    goes_on_without r' same walked live items weight =
+        let one = one_fewer contents stamp r es i.stamps handle item h.rise own f.is (live_items contents r'.stack.levels) walked live in
+        subst (λ k. IsSoundWith (Some (record { stack = r'.stack; cursor = k }))) (sym same) (goes_on (record r { stack = r'.stack }) (record {
+          few = omega (arith, ahead.few, one, one_dropped);
+          main_light = omega (arith, ahead.few, ahead.main_light, one, one_dropped, f.weight);
+          shadow_light = omega (arith, ahead.few, ahead.shadow_light, one, one_dropped, weight);
+        }) (IsShadowOf-deleted contents stamp r es i.stamps handle item h.rise own f.is r'.stack walked live items))
 
-        -- it comes after the cursor
-        pub goes_on_after : is_linked handle (before_cursor r.cursor es) ≡ false → r.cursor ≢ Some handle
-            → IsIndex contents stamp (record i { main = main; shadow = Some r })
-            × IsIndexOf contents stamp (record i { main = main; shadow = Some r }) (without_handle handle es)
-        goes_on_after later other =
-            goes_on items r (dropped_unwalked r r (p.shadow r there).1 (p.shadow r there).2 refl)
-            (IsShadowOf-after contents stamp r es i.stamps handle item h.rise (h.shadow r there) f.is later other)
+    in_time_at : (cursor : Option ℕ) → IsInTime contents 0 main (record r { cursor = cursor })
+    in_time_at cursor =
+        let some = (p.shadow r there).2 in
+        record {
+          few = omega (arith, some, one_dropped);
+          main_light = omega (arith, ahead.main_light, some, one_dropped, f.weight);
+          shadow_light = omega (arith, ahead.shadow_light, some, one_dropped);
+        }
 
-      module _ (r : Shadow P Item) (there : now.shadow ≡ Some r) where
-        left_of : (b : Bool) → is_linked handle (before_cursor r.cursor es) ≡ b
-            → option_map (λ w. if is_linked handle (before_cursor r.cursor es) then w else w - 1) (unwalked contents now)
-            ≡ Some (if b then live_in contents i.main - live_in contents r.stack else live_in contents i.main - live_in contents r.stack - 1)
-        left_of b same =
-            ap (λ o. option_map (λ w. if is_linked handle (before_cursor r.cursor es) then w else w - 1) (option_map (λ s. live_in contents now.main - live_in contents s.stack) o)) there
-            ∙ ap (λ n. Some (if is_linked handle (before_cursor r.cursor es) then n - live_in contents r.stack else n - live_in contents r.stack - 1))
-            (ap (λ x. live_in contents x.main) (sym f.view))
-            ∙ ap (λ c. Some (if c then live_in contents i.main - live_in contents r.stack else live_in contents i.main - live_in contents r.stack - 1)) same
+    -- the cursor was at it, and goes on
+    pub goes_on_moved : r.cursor ≡ Some handle → IsSoundWith (Some (record r { cursor = first_handle (after handle es) }))
+    goes_on_moved at =
+        goes_on (record r { cursor = first_handle (after handle es) }) (in_time_at (first_handle (after handle es)))
+        (IsShadowOf-moved contents stamp r es i.stamps handle item h.rise own f.is h.differ at)
 
-        -- as many are left after it is dropped, or one fewer
-        pub left_without : (r' : Shadow P Item) → is_linked handle (before_cursor r.cursor es) ≡ true → live_in contents r'.stack + 1 ≡ live_in contents r.stack
-            → Some (live_in contents main - live_in contents r'.stack)
-            ≡ option_map (λ w. if is_linked handle (before_cursor r.cursor es) then w else w - 1) (unwalked contents now)
-        left_without r' walked one =
-            let fewer : live_in contents main - live_in contents r'.stack ≡ live_in contents i.main - live_in contents r.stack = omega (arith, one, one_dropped) in
-            ap Some fewer ∙ sym (left_of true walked)
+    -- it comes after the cursor
+    pub goes_on_after : is_linked handle (before_cursor r.cursor es) ≡ false → r.cursor ≢ Some handle → IsSoundWith (Some r)
+    goes_on_after later other = goes_on r (in_time_at r.cursor) (IsShadowOf-after contents stamp r es i.stamps handle item h.rise own f.is later other)
 
-        pub left_after : (r' : Shadow P Item) → is_linked handle (before_cursor r.cursor es) ≡ false → r'.stack ≡ r.stack
-            → Some (live_in contents main - live_in contents r'.stack)
-            ≡ option_map (λ w. if is_linked handle (before_cursor r.cursor es) then w else w - 1) (unwalked contents now)
-        left_after r' later same =
-            let fewer : live_in contents main - live_in contents r'.stack ≡ live_in contents i.main - live_in contents r.stack - 1 =
-            omega (arith, one_dropped, ap (live_in contents) same) in
-            ap Some fewer ∙ sym (left_of false later)
+    -- as many are left after it is dropped, or one fewer
+    module _ (old : Shadow P Item) (was : now.shadow ≡ Some old) where
+      same : r ≡ old
+      same = let some : Some r ≡ Some old = sym there ∙ ap (λ j. j.shadow) f.view ∙ was in cc
+
+      pub left_without : (stack : Stacked P Item) → is_linked handle (before_cursor r.cursor es) ≡ true
+          → Permuted (live_items contents stack.levels) (without stamp (stamp item) (live_items contents r.stack.levels))
+          → Some (live_in contents main - live_in contents stack)
+          ≡ option_map (λ w. if is_linked handle (before_cursor old.cursor es) then w else w - 1) (unwalked contents now)
+      left_without stack walked live =
+          let one = one_fewer contents stamp r es i.stamps handle item h.rise own f.is (live_items contents stack.levels) walked live in
+          rw (was, ← same, walked) (ap Some (omega (arith, one, one_dropped, ap (λ j. live_in contents j.main) f.view)))
+
+      pub left_after : is_linked handle (before_cursor r.cursor es) ≡ false
+          → Some (live_in contents main - live_in contents r.stack)
+          ≡ option_map (λ w. if is_linked handle (before_cursor old.cursor es) then w else w - 1) (unwalked contents now)
+      left_after later = rw (was, ← same, later) (ap Some (omega (arith, one_dropped, ap (λ j. live_in contents j.main) f.view)))
 
 -- what one delete costs, and what two do
 pub one_delete : {turns a touches : ℕ} (g : ℕ) {old new : Counts} → IsWithin turns (2 * g + a) touches old new → a ≤ 3 * (g + 1) → IsWithin turns (5 * g + 3) touches old new

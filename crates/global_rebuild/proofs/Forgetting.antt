@@ -5,7 +5,7 @@ use Rattle.std.proofs.lemmas.Bool.{cases_eq}
 use Rattle.std.proofs.lemmas.Bool.Decides.{nat_tests}
 use Rattle.std.proofs.lemmas.Grind.{common_steps}
 use Rattle.std.proofs.lemmas.List.{length-map}
-use Rattle.std.proofs.lemmas.List.Sorted.{All-permutation, Contains-permutation}
+use Rattle.std.proofs.lemmas.List.Sorted.{Contains-permutation}
 use Rattle.query_laws.specs.Permuted.{Permuted, composed}
 use Rattle.query_laws.proofs.Permutations.{IsPermutation-from_Permuted, Permuted-filter, Permuted-length, Permuted-sym}
 use Rattle.builder_trait.specs.Parts.{Contents, without}
@@ -15,24 +15,27 @@ use Rattle.id_chain.proofs.Entries.{item_at-linked, split_at}
 use Rattle.id_chain.proofs.Cursors.{before-without, before_cursor_next, IsCursor_next, next-without, others-without, up_to_split, without_handle-other}
 use Rattle.stack_levels.specs.Slots.{IsPartOf}
 use Rattle.stack_levels.specs.Levels.{live_items, all_items}
-use Rattle.stack_levels.proofs.Marks.{All-first}
+use Rattle.level_slots.specs.Stack.{Stacked}
 use Rattle.global_rebuild.specs.Index.{Shadow, IsShadowOf, live_in, stamp_at}
-use Rattle.global_rebuild.proofs.Walking.{stamp_at-next}
+use Rattle.global_rebuild.proofs.Walking.{item_of, All-part, stamp_at-item, stamp_at-next}
 
 module _ {Item : Type 0} where
-  abbrev pub item_of : Entry Item → Item
-  item_of e = e.item
-
   not_before_itself : (handle : ℕ) (es : List (Entry Item)) → is_linked handle (before handle es) ≡ false
   not_before_itself handle [] = refl
   not_before_itself handle (e ∷ es) = let rest = not_before_itself handle es in grind (arith, nat_tests, common_steps, rest)
 
-  pub Contains-item : (handle : ℕ) (item : Item) (es : List (Entry Item)) → item_at handle es ≡ Some item → Contains (map item_of es) item
+  Contains-item : (handle : ℕ) (item : Item) (es : List (Entry Item)) → item_at handle es ≡ Some item → Contains (map item_of es) item
   Contains-item handle item [] at = absurd cc
   Contains-item handle item (e ∷ es) at = elim (cases_eq e.handle handle) [
     | inl same ↦ let head : e.item ≡ item = grind (arith, nat_tests) in (0, omega arith, head)
     | inr apart ↦ let rest = Contains-item handle item es (grind (arith, nat_tests)) in (suc rest.0, omega (arith, rest.1), rest.2)
   ]
+
+  -- an item of the chain is live where all of them are
+  pub live_item : (handle : ℕ) (item : Item) (es : List (Entry Item)) {live : List Item} → Permuted live (map item_of es) → item_at handle es ≡ Some item
+      → Contains live item
+  live_item handle item es {live} same is =
+      Contains-permutation (map item_of es) live item (IsPermutation-from_Permuted (Permuted-sym same)) (Contains-item handle item es is)
 
   item_at-before : (at handle : ℕ) (es : List (Entry Item)) → is_linked handle (before at es) ≡ true → item_at handle (before at es) ≡ item_at handle es
   item_at-before at handle [] linked = refl
@@ -113,21 +116,18 @@ module _ {P Item : Type 0} (contents : P → Contents Item) (stamp : Item → �
       let front = rise_walked stamp es stamps r.cursor rise h.cursor in
       items_without stamp handle 0 item (before_cursor r.cursor es) front.0 front.1 (item_at-walked handle es r.cursor walked ∙ is)
 
-  pub IsShadowOf-deleted : (r' : Shadow P Item) → is_linked handle (before_cursor r.cursor es) ≡ true → r'.cursor ≡ r.cursor
-      → Permuted (live_items contents r'.stack.levels) (without stamp (stamp item) (live_items contents r.stack.levels))
-      → IsPartOf (all_items contents r'.stack.levels) (all_items contents r.stack.levels) → IsShadowOf contents stamp r' (without_handle handle es) stamps
-  IsShadowOf-deleted r' walked same live items =
+  pub IsShadowOf-deleted : (stack : Stacked P Item) → is_linked handle (before_cursor r.cursor es) ≡ true
+      → Permuted (live_items contents stack.levels) (without stamp (stamp item) (live_items contents r.stack.levels))
+      → IsPartOf (all_items contents stack.levels) (all_items contents r.stack.levels) → IsShadowOf contents stamp (record r { stack = stack }) (without_handle handle es) stamps
+  IsShadowOf-deleted stack walked live items =
       let other = not_at handle es r.cursor walked in
       record {
-        cursor = subst (λ c. IsCursor c (without_handle handle es)) (sym same) (IsCursor-without handle es r.cursor other h.cursor);
-        live = subst (λ c. Permuted (live_items contents r'.stack.levels) (map item_of (before_cursor c (without_handle handle es)))) (sym same)
-            (subst (λ l. Permuted (live_items contents r'.stack.levels) (map item_of l)) (sym (before_cursor-without handle es r.cursor other))
-            (subst (Permuted (live_items contents r'.stack.levels)) (without_walked walked) (composed live (Permuted-filter (λ x. not (stamp x == stamp item)) h.live))));
-        below = subst (λ n. All (λ x. stamp x < n) (all_items contents r'.stack.levels))
-            (sym (ap (λ c. stamp_at stamp c (without_handle handle es) stamps) same ∙ stamp_at-without handle es stamp stamps r.cursor other))
-            (All-first (λ x. stamp x < stamp_at stamp r.cursor es stamps) (all_items contents r'.stack.levels) items.0
-            (All-permutation (λ x. stamp x < stamp_at stamp r.cursor es stamps) (all_items contents r.stack.levels) (all_items contents r'.stack.levels ++ items.0)
-            (IsPermutation-from_Permuted (Permuted-sym items.1)) h.below));
+        cursor = IsCursor-without handle es r.cursor other h.cursor;
+        live = subst (λ l. Permuted (live_items contents stack.levels) l)
+            (without_walked walked ∙ ap (map item_of) (sym (before_cursor-without handle es r.cursor other)))
+            (composed live (Permuted-filter (λ x. not (stamp x == stamp item)) h.live));
+        below = subst (λ n. All (λ x. stamp x < n) (all_items contents stack.levels)) (sym (stamp_at-without handle es stamp stamps r.cursor other))
+            (All-part (λ x. stamp x < stamp_at stamp r.cursor es stamps) (all_items contents stack.levels) (all_items contents r.stack.levels) items h.below);
       }
 
   pub IsShadowOf-after : is_linked handle (before_cursor r.cursor es) ≡ false → r.cursor ≢ Some handle → IsShadowOf contents stamp r (without_handle handle es) stamps
@@ -138,31 +138,27 @@ module _ {P Item : Type 0} (contents : P → Contents Item) (stamp : Item → �
     below = subst (λ n. All (λ x. stamp x < n) (all_items contents r.stack.levels)) (sym (stamp_at-without handle es stamp stamps r.cursor other)) h.below;
   }
 
-  pub IsShadowOf-moved : (r' : Shadow P Item) → HandlesDiffer es → r.cursor ≡ Some handle → r'.stack ≡ r.stack → r'.cursor ≡ first_handle (after handle es)
-      → IsShadowOf contents stamp r' (without_handle handle es) stamps
-  IsShadowOf-moved r' differ at same next =
+  pub IsShadowOf-moved : HandlesDiffer es → r.cursor ≡ Some handle
+      → IsShadowOf contents stamp (record r { cursor = first_handle (after handle es) }) (without_handle handle es) stamps
+  IsShadowOf-moved differ at =
+      let next = first_handle (after handle es) in
       let moved = next-without handle es differ in
-      let later = stamp_at-next stamp handle stamps item es r'.cursor rise is (IsCursor_next handle es r'.cursor next)
-      (before_cursor_next handle es r'.cursor differ next ∙ up_to_split handle item es is) in
-      let here : stamp_at stamp r.cursor es stamps ≡ stamp item = ap (λ c. stamp_at stamp c es stamps) at ∙ ap (λ o. option_map_or stamp o stamps) is in
-      let other : r'.cursor ≢ Some handle = λ still.
-      let wrong : stamp_at stamp r'.cursor es stamps ≡ stamp item = ap (λ c. stamp_at stamp c es stamps) still ∙ ap (λ o. option_map_or stamp o stamps) is in
-      absurd (omega (arith, later, wrong)) in
-      let there = stamp_at-without handle es stamp stamps r'.cursor other in
+      let later = stamp_at-next stamp handle stamps item es next rise is (IsCursor_next handle es next refl)
+      (before_cursor_next handle es next differ refl ∙ up_to_split handle item es is) in
+      let here = stamp_at-item stamp r.cursor handle item es stamps at is in
+      let other : next ≢ Some handle = λ still.
+      let same = stamp_at-item stamp next handle item es stamps still is in absurd (omega (arith, later, same)) in
+      let there = stamp_at-without handle es stamp stamps next other in
       record {
-        cursor = subst (λ c. IsCursor c (without_handle handle es)) (sym next) moved.0;
-        live = subst (λ s. Permuted (live_items contents s.levels) (map item_of (before_cursor r'.cursor (without_handle handle es)))) (sym same)
-            (subst (λ l. Permuted (live_items contents r.stack.levels) (map item_of l)) (sym (ap (λ c. before_cursor c (without_handle handle es)) next ∙ moved.1))
-            (subst (λ c. Permuted (live_items contents r.stack.levels) (map item_of (before_cursor c es))) at h.live));
-        below = subst (λ s. All (λ x. stamp x < stamp_at stamp r'.cursor (without_handle handle es) stamps) (all_items contents s.levels)) (sym same)
-            (λ k d within. let low = h.below k d within in omega (arith, low, here, later, there));
+        cursor = moved.0;
+        live = subst (λ l. Permuted (live_items contents r.stack.levels) (map item_of l)) (sym moved.1)
+            (subst (λ c. Permuted (live_items contents r.stack.levels) (map item_of (before_cursor c es))) at h.live);
+        below = λ k d within. let low = h.below k d within in omega (arith, low, here, later, there);
       }
 
   -- it is live there, and then one fewer is
   pub walked_live : is_linked handle (before_cursor r.cursor es) ≡ true → Contains (live_items contents r.stack.levels) item
-  walked_live walked =
-      Contains-permutation (map item_of (before_cursor r.cursor es)) (live_items contents r.stack.levels) item (IsPermutation-from_Permuted (Permuted-sym h.live))
-      (Contains-item handle item (before_cursor r.cursor es) (item_at-walked handle es r.cursor walked ∙ is))
+  walked_live walked = live_item handle item (before_cursor r.cursor es) h.live (item_at-walked handle es r.cursor walked ∙ is)
 
   pub one_fewer : (new : List Item) → is_linked handle (before_cursor r.cursor es) ≡ true
       → Permuted new (without stamp (stamp item) (live_items contents r.stack.levels)) → length new + 1 ≡ live_in contents r.stack

@@ -18,6 +18,21 @@ use Rattle.stack_levels.specs.Levels.{live_items, all_items}
 use Rattle.stack_levels.proofs.Marks.{All-first}
 use Rattle.global_rebuild.specs.Index.{Shadow, IsShadowOf, stamp_at}
 
+abbrev pub item_of : {Item : Type 0} → Entry Item → Item
+item_of e = e.item
+
+-- what holds of all items holds of a part of them
+pub All-part : {Item : Type 0} (Q : Item → Type 0) (xs ys : List Item) → IsPartOf xs ys → All Q ys → All Q xs
+All-part Q xs ys part each =
+    All-first Q xs part.0 (All-permutation Q ys (xs ++ part.0) (IsPermutation-from_Permuted (Permuted-sym part.1)) each)
+
+-- an item more, that of the entry that comes next
+pub Permuted-appended : {Item : Type 0} (front : List (Entry Item)) (e : Entry Item) {live live' : List Item} → Permuted live' (e.item ∷ live)
+    → Permuted live (map item_of front) → Permuted live' (map item_of (front ++ e ∷ []))
+Permuted-appended front e {live} {live'} more same =
+    subst (Permuted live') (sym (map-append item_of front (e ∷ [])))
+    (composed more (composed (same_head e.item same) (Permuted-append_comm (e.item ∷ []) (map item_of front))))
+
 module _ {Item : Type 0} (stamp : Item → ℕ) where
   rise_within : (low : ℕ) (es : List (Entry Item)) (high : ℕ) → StampsRise stamp low es high → low ≤ high
   rise_within low [] high rise = rise
@@ -42,6 +57,18 @@ module _ {Item : Type 0} (stamp : Item → ℕ) where
       ap (is_linked handle) walked ∙ is_linked-append handle (before handle es) (record { handle = handle; item = item } ∷ []) ∙ grind (arith, nat_tests, common_steps) in
       subst (λ o. stamp item < option_map_or stamp o stamps) (sym later.1) (grind (arith, nat_tests, told, linked))
 
+  -- the stamp of the item at a cursor
+  pub stamp_at-item : (cursor : Option ℕ) (handle : ℕ) (item : Item) (es : List (Entry Item)) (stamps : ℕ) → cursor ≡ Some handle → item_at handle es ≡ Some item
+      → stamp_at stamp cursor es stamps ≡ stamp item
+  stamp_at-item cursor handle item es stamps at is = rw (at, is)
+
+  -- one item more, with a stamp above those that were there
+  pub below-appended : (xs ys : List Item) (item : Item) (low high : ℕ) → IsPartOf xs (item ∷ ys) → low ≤ stamp item → stamp item < high
+      → All (λ x. stamp x < low) ys → All (λ x. stamp x < high) xs
+  below-appended xs ys item low high part later less each =
+      All-part (λ x. stamp x < high) xs (item ∷ ys) part
+      (All-cons (λ x. stamp x < high) item ys less (λ k d within. let old = each k d within in omega (arith, old, later, less)))
+
 module _ {P Item : Type 0} (contents : P → Contents Item) (stamp : Item → ℕ) where
   -- the shadow takes the item at the cursor
   pub IsShadowOf-next : (r r' : Shadow P Item) (es : List (Entry Item)) (stamps handle : ℕ) (item : Item) → StampsRise stamp 0 es stamps
@@ -50,22 +77,13 @@ module _ {P Item : Type 0} (contents : P → Contents Item) (stamp : Item → �
       → Permuted (live_items contents r'.stack.levels) (item ∷ live_items contents r.stack.levels)
       → IsPartOf (all_items contents r'.stack.levels) (item ∷ all_items contents r.stack.levels) → IsShadowOf contents stamp r' es stamps
   IsShadowOf-next r r' es stamps handle item rise h at is cursor walked live items =
-      let item_of : Entry Item → Item = λ e. e.item in
       let later = stamp_at-next stamp handle stamps item es r'.cursor rise is cursor walked in
-      let here : stamp_at stamp r.cursor es stamps ≡ stamp item = ap (λ c. stamp_at stamp c es stamps) at ∙ ap (λ o. option_map_or stamp o stamps) is in
-      let lower : All (λ x. stamp x < stamp_at stamp r'.cursor es stamps) (all_items contents r.stack.levels) =
-      λ k d within. let low = h.below k d within in omega (arith, low, here, later) in
+      let here = stamp_at-item stamp r.cursor handle item es stamps at is in
       record {
         cursor = cursor;
-        live = subst (λ es'. Permuted (live_items contents r'.stack.levels) (map item_of es')) (sym walked)
-            (subst (λ l. Permuted (live_items contents r'.stack.levels) l) (sym (map-append item_of (before handle es) (record { handle = handle; item = item } ∷ [])))
-            (composed live (composed (same_head item (subst (λ c. Permuted (live_items contents r.stack.levels) (map item_of (before_cursor c es))) at h.live))
-            (Permuted-append_comm (item ∷ []) (map item_of (before handle es))))));
-        below = AreBelow-part (all_items contents r'.stack.levels) (item ∷ all_items contents r.stack.levels) (stamp_at stamp r'.cursor es stamps) items
-            (All-cons (λ x. stamp x < stamp_at stamp r'.cursor es stamps) item (all_items contents r.stack.levels) later lower);
+        live = subst (λ l. Permuted (live_items contents r'.stack.levels) (map item_of l)) (sym walked)
+            (Permuted-appended (before handle es) (record { handle = handle; item = item }) live
+            (subst (λ c. Permuted (live_items contents r.stack.levels) (map item_of (before_cursor c es))) at h.live));
+        below = below-appended stamp (all_items contents r'.stack.levels) (all_items contents r.stack.levels) item (stamp_at stamp r.cursor es stamps)
+            (stamp_at stamp r'.cursor es stamps) items (omega (arith, here)) later h.below;
       }
-    where
-      AreBelow-part : (xs ys : List Item) (limit : ℕ) → IsPartOf xs ys → All (λ x. stamp x < limit) ys → All (λ x. stamp x < limit) xs
-      AreBelow-part xs ys limit part each =
-          All-first (λ x. stamp x < limit) xs part.0
-          (All-permutation (λ x. stamp x < limit) ys (xs ++ part.0) (IsPermutation-from_Permuted (Permuted-sym part.1)) each)

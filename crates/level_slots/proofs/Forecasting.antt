@@ -30,6 +30,11 @@ module _ {P Item : Type 0} where
   KeepRooms-refl lower [] = refl
   KeepRooms-refl lower (l ∷ above) = (refl, (λ soon held. held), KeepRooms-refl l above)
 
+  above_kept : (lower : Slots P Item) (old new : List (Slots P Item)) → KeepRooms lower old new → KeepRoomsAbove old new
+  above_kept lower [] new k = k
+  above_kept lower (l ∷ old) [] k = k
+  above_kept lower (l ∷ old) (l' ∷ new) k = (k.0, k.2)
+
   pub numbered-from : (l l' : Slots P Item) (above : List (Slots P Item)) → l'.level ≡ l.level → AreNumbered l above → AreNumbered l' above
   numbered-from l l' [] same h = tt
   numbered-from l l' (next ∷ above) same h = (h.0 ∙ ap (λ k. k + 1) (sym same), h.1)
@@ -87,11 +92,6 @@ module _ {P Item : Type 0} where
   enough-highest (lower ∷ above) highest is quiet =
       let last : suc (length above) - 1 ≡ length above = omega arith in
       quiet-highest lower above highest (subst (λ n. slice_get (lower ∷ above) n ≡ Some highest) last is) quiet
-
-  rooms-from : (due : Slots P Item → Type 0) (l l' : Slots P Item) (above : List (Slots P Item)) → (due l' → due l) → HaveRooms due l above
-      → HaveRooms due l' above
-  rooms-from due l l' [] back h = λ d. h (back d)
-  rooms-from due l l' (next ∷ above) back h = (λ d. h.0 (back d), h.1)
 
   rooms-kept : (due : Slots P Item → Type 0) → ((l : Slots P Item) → due l → IsDueSoon l) → ((l l' : Slots P Item) → IsSame l l' → due l' → due l)
       → (lower lower' : Slots P Item) (old new : List (Slots P Item)) → IsSame lower lower' → KeepRooms lower old new → HaveRooms due lower old
@@ -182,13 +182,13 @@ module _ {P Item : Type 0} where
   held-added (l ∷ above) n = (ap (λ k. held_in l + k) (held-added above n).0, refl)
 
 module _ {P Item : Type 0} (contents : P → Contents Item) where
-  same-kept : (lower : Slots P Item) (old new : List (Slots P Item)) → KeepRooms lower old new
+  same-kept : (old new : List (Slots P Item)) → KeepRoomsAbove old new
       → (live_items contents new ≡ live_items contents old) × (all_items contents new ≡ all_items contents old)
       × (weight_of new ≡ weight_of old) × (parts_of new ≡ parts_of old) × (length new ≡ length old)
-  same-kept lower [] new k = (ap (live_items contents) k, ap (all_items contents) k, ap weight_of k, ap parts_of k, ap length k)
-  same-kept lower (l ∷ old) [] k = absurd k
-  same-kept lower (l ∷ old) (l' ∷ new) k =
-      let rest = same-kept l old new k.2 in (
+  same-kept [] new k = (ap (live_items contents) k, ap (all_items contents) k, ap weight_of k, ap parts_of k, ap length k)
+  same-kept (l ∷ old) [] k = absurd k
+  same-kept (l ∷ old) (l' ∷ new) k =
+      let rest = same-kept old new (above_kept l old new k.1) in (
         ap₂ (λ xs ys. xs ++ ys) rest.0 (ap (live_in contents) k.0),
         ap₂ (λ xs ys. xs ++ ys) rest.1 (ap (items_in contents) k.0),
         ap₂ (λ m n. m + n) (ap weight_in k.0) rest.2,
@@ -370,21 +370,12 @@ module _ {P Item : Type 0} (contents : P → Contents Item) where
           ahead [] n next h some r = absurd (omega (arith, some))
           ahead (lowest ∷ above) n next h some r = rooms_ahead-added lowest above n (omega (arith, next, h.0)) h.2 r
 
-      punctual-kept : (lower : Slots P Item) (old new : List (Slots P Item)) → KeepRooms lower old new → All (IsPunctual slope base) old
-          → All (IsPunctual slope base) new
-      punctual-kept lower [] new k h = subst (All (IsPunctual slope base)) (sym k) h
-      punctual-kept lower (l ∷ old) [] k h = absurd k
-      punctual-kept lower (l ∷ old) (l' ∷ new) k h =
+      punctual-kept : (old new : List (Slots P Item)) → KeepRoomsAbove old new → All (IsPunctual slope base) old → All (IsPunctual slope base) new
+      punctual-kept [] new k h = subst (All (IsPunctual slope base)) (sym k) h
+      punctual-kept (l ∷ old) [] k h = absurd k
+      punctual-kept (l ∷ old) (l' ∷ new) k h =
           All-cons (IsPunctual slope base) l' new (subst (IsPunctual slope base) (sym k.0) (All-head (IsPunctual slope base) l old h))
-          (punctual-kept l old new k.2 (All-tail (IsPunctual slope base) l old h))
-
-      punctual_above-kept : (old new : List (Slots P Item)) → KeepRoomsAbove old new → All (IsPunctual slope base) old
-          → All (IsPunctual slope base) new
-      punctual_above-kept [] new k h = subst (All (IsPunctual slope base)) (sym k) h
-      punctual_above-kept (l ∷ old) [] k h = absurd k
-      punctual_above-kept (l ∷ old) (l' ∷ new) k h =
-          All-cons (IsPunctual slope base) l' new (subst (IsPunctual slope base) (sym k.0) (All-head (IsPunctual slope base) l old h))
-          (punctual-kept l old new k.1 (All-tail (IsPunctual slope base) l old h))
+          (punctual-kept old new (above_kept l old new k.1) (All-tail (IsPunctual slope base) l old h))
 
       pub IsKept-refl : (levels : List (Slots P Item)) → IsKept contents stamp before slope base levels levels
       IsKept-refl levels = record {
@@ -417,31 +408,16 @@ module _ {P Item : Type 0} (contents : P → Contents Item) where
         rooms_ahead = λ l some r. k.rooms_ahead (h.levels l) (omega (arith, some, h.some)) (h.rooms_ahead l some r);
       }
 
-      -- the same of all levels
-      same_above-kept : (old new : List (Slots P Item)) → KeepRoomsAbove old new
-          → (live_items contents new ≡ live_items contents old) × (all_items contents new ≡ all_items contents old)
-          × (weight_of new ≡ weight_of old) × (parts_of new ≡ parts_of old) × (length new ≡ length old)
-      same_above-kept [] new k = (ap (live_items contents) k, ap (all_items contents) k, ap weight_of k, ap parts_of k, ap length k)
-      same_above-kept (l ∷ old) [] k = absurd k
-      same_above-kept (l ∷ old) (l' ∷ new) k =
-          let rest = same-kept l old new k.1 in (
-            ap₂ (λ xs ys. xs ++ ys) rest.0 (ap (live_in contents) k.0),
-            ap₂ (λ xs ys. xs ++ ys) rest.1 (ap (items_in contents) k.0),
-            ap₂ (λ m n. m + n) (ap weight_in k.0) rest.2,
-            ap₂ (λ m n. m + n) (ap (λ v. length v.parts) k.0) rest.3,
-            ap suc rest.4,
-          )
-
       pub IsKept-rooms : (old new : List (Slots P Item)) → KeepRoomsAbove old new → IsKept contents stamp before slope base old new
       IsKept-rooms old new k =
-          let same = same_above-kept old new k in
+          let same = same-kept old new k in
           record {
             live = same.0;
             items = same.1;
             weight = same.2;
             parts = same.3;
             levels = all_levels-kept old new k;
-            punctual = punctual_above-kept old new k;
+            punctual = punctual-kept old new k;
             few = λ few. omega (arith, few, same.4);
             some = omega (arith, same.4);
             enough = λ h quiet. enough-kept old new k quiet;
@@ -459,36 +435,33 @@ module _ {P Item : Type 0} (contents : P → Contents Item) where
       module _ {old new : List (Slots P Item)} {spare starters : ℕ}
           (h : IsStack contents stamp before slope base (record { levels = old; spare = spare; starters = starters }))
           (k : IsKept contents stamp before slope base old new) where
-        -- not all memory was given
-        pub IsStack-kept : (starters' : ℕ) → starters ≤ starters' → starters' ≤ 2 → lowest_held new + starters' ≤ 5
-            → IsStack contents stamp before slope base (record { levels = new; spare = spare; starters = starters' })
-        IsStack-kept starters' more few lowest = record {
+        stack_of : (spare' starters' : ℕ) → starters' ≤ 2 → spare' ≤ starters' → lowest_held new + starters' ≤ 5 → (1 ≤ spare' → 0 < length new)
+            → (1 ≤ spare' → weight_of new < 2 ^ 31 → HaveRoomsAbove IsDue new) → (2 ≤ spare' → weight_of new < 2 ^ 31 → HaveRoomsAbove IsDueSoon new)
+            → IsStack contents stamp before slope base (record { levels = new; spare = spare'; starters = starters' })
+        stack_of spare' starters' few enough lowest some rooms ahead = record {
           levels = k.levels h.levels;
           punctual = k.punctual h.punctual;
           apart = subst (AllStampsDiffer stamp) (sym k.items) h.apart;
           light = omega (arith, h.light, k.weight);
           few = k.few h.few;
           starters_few = few;
-          spare_few = omega (arith, h.spare_few, more);
+          spare_few = enough;
           lowest_few = lowest;
-          some = λ s. omega (arith, h.some s, k.some);
-          rooms = λ s light. k.rooms h.levels (h.some s) (h.rooms (omega (arith, s)) (omega (arith, light, k.weight)));
-          rooms_ahead = λ s light. k.rooms_ahead h.levels (h.some (omega (arith, s))) (h.rooms_ahead (omega (arith, s)) (omega (arith, light, k.weight)));
+          some = some;
+          rooms = rooms;
+          rooms_ahead = ahead;
         }
+
+        -- not all memory was given
+        pub IsStack-kept : (starters' : ℕ) → starters ≤ starters' → starters' ≤ 2 → lowest_held new + starters' ≤ 5
+            → IsStack contents stamp before slope base (record { levels = new; spare = spare; starters = starters' })
+        IsStack-kept starters' more few lowest =
+            stack_of spare starters' few (omega (arith, h.spare_few, more)) lowest (λ s. omega (arith, h.some s, k.some))
+            (λ s light. k.rooms h.levels (h.some s) (h.rooms s (omega (arith, light, k.weight))))
+            (λ s light. k.rooms_ahead h.levels (h.some (omega (arith, s))) (h.rooms_ahead s (omega (arith, light, k.weight))))
 
         -- two ticks need no more
         pub IsStack-ready : 0 < length new → lowest_held new + 2 ≤ 5 → (weight_of new < 2 ^ 31 → HaveRoomsAbove IsDueSoon new)
             → IsStack contents stamp before slope base (record { levels = new; spare = 2; starters = 2 })
-        IsStack-ready some lowest ready = record {
-          levels = k.levels h.levels;
-          punctual = k.punctual h.punctual;
-          apart = subst (AllStampsDiffer stamp) (sym k.items) h.apart;
-          light = omega (arith, h.light, k.weight);
-          few = k.few h.few;
-          starters_few = omega arith;
-          spare_few = omega arith;
-          lowest_few = lowest;
-          some = λ s. some;
-          rooms = λ s light. due_above-from_soon new (ready light);
-          rooms_ahead = λ s light. ready light;
-        }
+        IsStack-ready some lowest ready =
+            stack_of 2 2 (omega arith) (omega arith) lowest (λ s. some) (λ s light. due_above-from_soon new (ready light)) (λ s light. ready light)

@@ -10,14 +10,18 @@ module _ {P Item : Type 0} where
   held-summed (l ∷ above) =
       ap (λ n. held_in l + n) (held-summed above ∙ sum-map held_in above) ∙ sym (sum_by-cons held_in l above) ∙ sym (sum-map held_in (l ∷ above))
 
-  -- those of the lowest level, and of the others
-  pub held-split : (levels : List (Slots P Item)) → held_of levels ≡ lowest_held levels + sum (drop 1 (map held_in levels))
+  -- as many of each level are in memory and so in all, with n and m for single items
+  pub record AreSameHeld (new old : List (Slots P Item)) (n m : ℕ) : Type 0 where
+    pub each_level : (n + lowest_held new) ∷ drop 1 (map held_in new) ≡ (m + lowest_held old) ∷ drop 1 (map held_in old)
+    pub all : n + held_of new ≡ m + held_of old
+
+  held-split : (levels : List (Slots P Item)) → held_of levels ≡ lowest_held levels + sum (drop 1 (map held_in levels))
   held-split [] = omega arith
   held-split (l ∷ above) = ap (λ n. held_in l + n) (held-summed above)
 
-  -- as many of each level, with n and m for single items
-  pub each_level-same : (levels new old : List (Slots P Item)) (n m : ℕ) → levels ≡ new → n + lowest_held new ≡ m + lowest_held old
-      → drop 1 (map held_in new) ≡ drop 1 (map held_in old)
-      → (n + lowest_held levels) ∷ drop 1 (map held_in levels) ≡ (m + lowest_held old) ∷ drop 1 (map held_in old)
-  each_level-same levels new old n m whole lowest above =
-      ap (λ ls. (n + lowest_held ls) ∷ drop 1 (map held_in ls)) whole ∙ ap₂ (λ k ks. k ∷ ks) lowest above
+  pub same_held : (new old : List (Slots P Item)) (n m : ℕ) → n + lowest_held new ≡ m + lowest_held old
+      → drop 1 (map held_in new) ≡ drop 1 (map held_in old) → AreSameHeld new old n m
+  same_held new old n m lowest above = record {
+    each_level = ap₂ (λ k ks. k ∷ ks) lowest above;
+    all = omega (arith, held-split new, held-split old, ap sum above, lowest);
+  }

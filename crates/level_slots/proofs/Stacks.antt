@@ -28,12 +28,12 @@ module _ {P Item : Type 0} {contents : P → Contents Item} {stamp : Item → �
     rooms_ahead = λ two still. absurd (omega (arith, two));
   }
 
-  pub IsStack-ticked : (s s' : Stacked P Item) → IsStack contents stamp before slope base s → AreAllLevels contents stamp before s'.levels
+  pub IsStack-ticked : {s s' : Stacked P Item} → IsStack contents stamp before slope base s → AreAllLevels contents stamp before s'.levels
       → All (IsPunctual slope base) s'.levels → AllStampsDiffer stamp (all_items contents s'.levels)
       → weight_of s.levels ≤ weight_of s'.levels → weight_of s'.levels ≤ 2 ^ 31 → length s'.levels ≡ length s.levels
       → s'.spare + 1 ≡ s.spare → s'.starters ≤ 2 → s'.spare ≤ s'.starters → lowest_held s'.levels + s'.starters ≤ 5
       → (HaveRoomsAbove IsDueSoon s.levels → HaveRoomsAbove IsDue s'.levels) → IsStack contents stamp before slope base s'
-  IsStack-ticked s s' h levels punctual apart heavier light as_many fewer few spare lowest rooms = record {
+  IsStack-ticked h levels punctual apart heavier light as_many fewer few spare lowest rooms = record {
     levels = levels;
     punctual = punctual;
     apart = apart;

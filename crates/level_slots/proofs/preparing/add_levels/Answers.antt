@@ -1,41 +1,31 @@
-use Rattle.std.proofs.Common.{◌∙◌, ◌^◌, ◌<◌, ◌≤◌, length, sym, subst}
-use Rattle.stack_levels.specs.Levels.{weight_of}
-use Rattle.stack_levels.specs.Towers.{AreAllLevels}
-use Rattle.level_slots.specs.Preparing.{AreEnough}
+use Rattle.std.proofs.Common.{◌∙◌}
 use Rattle.level_slots.proofs.Forecasting.{IsKept-then}
 use Rattle.level_slots.proofs.preparing.add_levels.Goals as goal
 
 pub is_short-requires-clause-levels : goal.is_short-requires-clause-levels
-is_short-requires-clause-levels g c =
-    subst (AreAllLevels g.B.Part.Part.contents g.B.Item.Item.stamp g.B.Item.Item.before) (sym c.deref.ensures.value)
-    (c.loop-alloc.invariant.kept.levels c.requires.levels)
+is_short-requires-clause-levels g c = rw c.deref.ensures.value (c.loop-alloc.invariant.kept.levels c.requires.levels)
 
 pub is_short-requires-clause-few : goal.is_short-requires-clause-few
-is_short-requires-clause-few g c =
-    subst (λ ls. length ls ≤ 32) (sym c.deref.ensures.value) (c.loop-alloc.invariant.kept.few c.requires.few)
+is_short-requires-clause-few g c = rw c.deref.ensures.value (c.loop-alloc.invariant.kept.few c.requires.few)
 
 pub add_level-requires-clause-levels : goal.add_level-requires-clause-levels
 add_level-requires-clause-levels g c = c.loop-alloc.invariant.kept.levels c.requires.levels
 
 pub add_level-requires-clause-few : goal.add_level-requires-clause-few
-add_level-requires-clause-few g c = subst (λ ls. length ls < 32) c.deref.ensures.value (c.is_short.ensures.wanted c.loop-alloc-test.true)
+add_level-requires-clause-few g c = rw c.deref.ensures.value at (c.is_short.ensures.wanted c.loop-alloc-test.true)
 
 pub loop-alloc-preserved : goal.loop-alloc-preserved
 loop-alloc-preserved g c = record {
-  kept = IsKept-then g.B.Part.Part.contents g.B.Item.Item.stamp g.B.Item.Item.before g.B.Builder.SLOPE g.B.Builder.BASE
-      c.loop-alloc.invariant.kept c.add_level.ensures.kept;
+  kept = IsKept-then _ _ _ _ _ c.loop-alloc.invariant.kept c.add_level.ensures.kept;
   held = c.add_level.ensures.held ∙ c.loop-alloc.invariant.held;
   lowest = c.add_level.ensures.lowest ∙ c.loop-alloc.invariant.lowest;
 }
 
 pub returns-in_err-add_level-clause-kept : goal.returns-in_err-add_level-clause-kept
-returns-in_err-add_level-clause-kept g c =
-    IsKept-then g.B.Part.Part.contents g.B.Item.Item.stamp g.B.Item.Item.before g.B.Builder.SLOPE g.B.Builder.BASE
-    c.loop-alloc.invariant.kept c.add_level.ensures.kept
+returns-in_err-add_level-clause-kept g c = IsKept-then _ _ _ _ _ c.loop-alloc.invariant.kept c.add_level.ensures.kept
 
 pub returns-clause-some : goal.returns-clause-some
-returns-clause-some g c = subst (λ ls. 0 < length ls) c.deref.ensures.value (c.is_short.ensures.some c.loop-alloc-test.false)
+returns-clause-some g c = rw c.deref.ensures.value at (c.is_short.ensures.some c.loop-alloc-test.false)
 
 pub returns-clause-enough : goal.returns-clause-enough
-returns-clause-enough g c =
-    subst (λ ls. weight_of ls < 2 ^ 31 → AreEnough ls) c.deref.ensures.value (c.is_short.ensures.enough c.loop-alloc-test.false)
+returns-clause-enough g c = rw c.deref.ensures.value at (c.is_short.ensures.enough c.loop-alloc-test.false)

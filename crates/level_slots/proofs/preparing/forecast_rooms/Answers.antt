@@ -1,33 +1,25 @@
-use Rattle.std.proofs.Common.{◌∷◌, refl, sym, subst, ap}
-use Rattle.stack_levels.specs.Towers.{AreAllLevels}
-use Rattle.level_slots.specs.Preparing.{AreNumbered, IsKept}
+use Rattle.std.proofs.Common.{refl, ap}
+use Rattle.level_slots.specs.Preparing.{AreNumbered}
 use Rattle.level_slots.proofs.Forecasting.{KeepRooms-from, IsKept-rooms, numbered-from, numbered-kept, numbered-tower, rooms-few, rooms-ready, when_ok}
+use Rattle.level_slots.proofs.preparing.forecast_rooms.Given.{Over}
+use Rattle.level_slots.proofs.preparing.forecast_rooms.Goals.{After-give_back_room}
 use Rattle.level_slots.proofs.preparing.forecast_rooms.Goals as goal
 
-pub make_rooms-requires : goal.make_rooms-requires
-make_rooms-requires g c =
-    let contents = g.B.Part.Part.contents in
-    let stamp = g.B.Item.Item.stamp in
-    let before = g.B.Item.Item.before in
-    let h = subst (AreAllLevels contents stamp before) c.in-Some.ensures.cases.0 c.requires in
+-- the level numbers above the lowest one
+numbered : (g : Over) (c : After-give_back_room g) → AreNumbered c.give_back_room.new.self c.in-Some.above.now
+numbered g c =
+    let h = rw c.in-Some.ensures.cases.0 at c.requires in
     numbered-from c.in-Some.lowest.now c.give_back_room.new.self c.in-Some.above.now (ap (λ v. v.level) c.give_back_room.ensures.same)
-    (numbered-tower contents stamp before c.in-Some.lowest.now c.in-Some.above.now h.2)
+    (numbered-tower g.B.Part.Part.contents g.B.Item.Item.stamp g.B.Item.Item.before c.in-Some.lowest.now c.in-Some.above.now h.2)
+
+pub make_rooms-requires : goal.make_rooms-requires
+make_rooms-requires g c = numbered g (goal.at.make_rooms-requires g c).After-give_back_room
 
 pub returns-clause-kept : goal.returns-clause-kept
 returns-clause-kept g c =
-    let contents = g.B.Part.Part.contents in
-    let stamp = g.B.Item.Item.stamp in
-    let before = g.B.Item.Item.before in
-    let slope = g.B.Builder.SLOPE in
-    let base = g.B.Builder.BASE in
-    let lowest = c.in-Some.lowest.now in
-    let above = c.in-Some.above.now in
-    let lowest' = c.give_back_room.new.self in
-    let above' = c.make_rooms.new.above in
-    subst (λ ls. IsKept contents stamp before slope base ls (lowest' ∷ above')) (sym c.in-Some.ensures.cases.0)
-    (IsKept-rooms contents stamp before slope base (lowest ∷ above) (lowest' ∷ above') (
+    rw c.in-Some.ensures.cases.0 (IsKept-rooms _ _ _ _ _ _ _ (
       c.give_back_room.ensures.same,
-      KeepRooms-from lowest lowest' above above' c.give_back_room.ensures.same c.make_rooms.ensures.kept,
+      KeepRooms-from c.in-Some.lowest.now c.give_back_room.new.self c.in-Some.above.now c.make_rooms.new.above c.give_back_room.ensures.same c.make_rooms.ensures.kept,
     ))
 
 pub returns-clause-ready : goal.returns-clause-ready
@@ -36,16 +28,7 @@ returns-clause-ready g c =
 
 pub returns-clause-few : goal.returns-clause-few
 returns-clause-few g c =
-    let contents = g.B.Part.Part.contents in
-    let stamp = g.B.Item.Item.stamp in
-    let before = g.B.Item.Item.before in
-    let lowest = c.in-Some.lowest.now in
-    let lowest' = c.give_back_room.new.self in
-    let above' = c.make_rooms.new.above in
-    let h = subst (AreAllLevels contents stamp before) c.in-Some.ensures.cases.0 c.requires in
-    let numbered : AreNumbered lowest' c.in-Some.above.now =
-    numbered-from lowest lowest' c.in-Some.above.now (ap (λ v. v.level) c.give_back_room.ensures.same)
-    (numbered-tower contents stamp before lowest c.in-Some.above.now h.2) in
-    when_ok c.make_rooms.result
-    (λ f. rooms-few lowest' above' c.give_back_room.ensures.none (numbered-kept lowest' lowest' c.in-Some.above.now above' refl c.make_rooms.ensures.kept numbered) f)
-    c.make_rooms.ensures.ready
+    let lowest = c.give_back_room.new.self in
+    let above = c.make_rooms.new.above in
+    when_ok c.make_rooms.result (rooms-few lowest above c.give_back_room.ensures.none (numbered-kept lowest lowest c.in-Some.above.now above refl c.make_rooms.ensures.kept
+    (numbered g (goal.at.returns-clause-few g c).After-give_back_room))) c.make_rooms.ensures.ready
