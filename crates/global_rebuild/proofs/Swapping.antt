@@ -49,7 +49,7 @@ module _ {P Item : Type 0} {contents : P → Contents Item} {stamp : Item → �
     (at_most : (x r : Shadow P Item) → old.shadow ≡ Some x → i.shadow ≡ Some r → live_in contents r.stack ≤ live_in contents x.stack + 4)
     (no_fewer : (x r : Shadow P Item) → old.shadow ≡ Some x → i.shadow ≡ Some r → live_in contents x.stack ≤ live_in contents r.stack)
     (dead : (x r : Shadow P Item) → old.shadow ≡ Some x → i.shadow ≡ Some r
-        → weight_of r.stack.levels + live_in contents x.stack ≡ weight_of x.stack.levels + live_in contents r.stack)
+    → weight_of r.stack.levels + live_in contents x.stack ≡ weight_of x.stack.levels + live_in contents r.stack)
     (in_time : (r : Shadow P Item) → i.shadow ≡ Some r → r.cursor ≢ None → IsInTime contents 4 i.main r)
     (one : retired_parts new ≡ option_map_or (λ n. n) retired 0 - 1)
     (live : live_items contents new.main.levels ≡ live_items contents main.levels) (weight : weight_of new.main.levels ≡ weight_of main.levels)
@@ -92,11 +92,14 @@ module _ {P Item : Type 0} {contents : P → Contents Item} {stamp : Item → �
           retired = rw (x.1, many) (one_fewer put);
           ahead = λ r' there.
               let itself : k.0 ≡ r' = let both : Some k.0 ≡ Some r' = sym k.1 ∙ there in cc in
-              subst (λ y. IsInTime contents 4 new.main y × (1 ≤ live_in contents new.main - live_in contents y.stack)) itself (record {
-                few = omega (arith, t.few, all, kept);
-                main_light = omega (arith, t.main_light, all, weight, ap (λ m. weight_of m.levels) same, kept);
-                shadow_light = omega (arith, t.shadow_light, all, kept, k.2.weight);
-              }, omega (arith, fewer, kept, all));
+              subst (λ y. IsInTime contents 4 new.main y × (1 ≤ live_in contents new.main - live_in contents y.stack)) itself (
+                record {
+                  few = omega (arith, t.few, all, kept);
+                  main_light = omega (arith, t.main_light, all, weight, ap (λ m. weight_of m.levels) same, kept);
+                  shadow_light = omega (arith, t.shadow_light, all, kept, k.2.weight);
+                },
+                omega (arith, fewer, kept, all),
+              );
         }
     | ended r is at same over put ↦
         let x = some_before i.shadow old.shadow runs is in

@@ -98,5 +98,8 @@ returns-clause-few_asked g c g' light =
     let stamp = g.B.Item.Item.stamp in
     let old = c.self.inside.levels.items in
     let lighter : weight_of old < 2 ^ (g' + 1) = omega (arith, rw (whole g c) at light, c.take_out.ensures.weight, ap weight_of c.deref_mut.ensures.value) in
-    rw (← c.self.view_is) (omega (arith, asked-few contents stamp (stamp c.args.item.now) old,
-    parts-few contents stamp g.B.Item.Item.before old c.self.invariant.0.levels g' lighter))
+    rw (← c.self.view_is) (omega (
+      arith,
+      asked-few contents stamp (stamp c.args.item.now) old,
+      parts-few contents stamp g.B.Item.Item.before old c.self.invariant.0.levels g' lighter,
+    ))
