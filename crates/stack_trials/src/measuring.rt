@@ -49,7 +49,7 @@ pub fn measure_stack<R: Print + Clock + Files + AllocGlobal, L: Ledger>(
     let own = &mut refusals.own;
     report_memory(watch, bytes_held(watch, own)?.saturating_sub(before), size)?;
     ask_about_each(watch, "stack", &rects, Counted::Stack(&stack), own, steps)?;
-    let orders = do_or_retry(own, || sorted_copy(alloc, &points))?;
+    let orders = sorted_or_retry(alloc, &points, own)?;
     let part = do_or_retry(own, || part_of::<RangeBuilder, L>(alloc, &orders, steps))?;
     ask_about_each(watch, "part", &rects, Counted::Part(&part), own, steps)?;
     refusals.report(watch.rt)?;
@@ -103,4 +103,23 @@ fn sorted_copy(alloc: Global, points: &[Point]) -> Result<BothOrders<Point>, All
     ensures { IfOk result (λ orders. IsPermutation points.now orders.items) }
 {
     sorted(alloc, Vec::from_slice(alloc, points)?)
+}
+
+/// The same, and once more where memory is refused, which it counts.
+fn sorted_or_retry(
+    alloc: Global,
+    points: &[Point],
+    refused: &mut u64,
+) -> Result<BothOrders<Point>, AllocError>
+    requires few { length points.now ≤ 2 ^ 31 }
+    requires apart { AllStampsDiffer (λ p. p.stamp) points.now }
+    ensures { IfOk result (λ orders. IsPermutation points.now orders.items) }
+{
+    do_or_retry(
+        refused,
+        ||
+            requires few { length points.now ≤ 2 ^ 31 }
+            requires apart { AllStampsDiffer (λ p. p.stamp) points.now }
+        { sorted_copy(alloc, points) },
+    )
 }
