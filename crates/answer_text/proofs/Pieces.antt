@@ -9,9 +9,6 @@ use Rattle.std.proofs.lemmas.List.Concat.{flat_map-append}
 use Rattle.map_io.specs.ProperPrefix.{AppendsProperPrefix}
 use Rattle.answer_text.specs.Pieces.{Gathers}
 
-pub gathers_nothing : (written : Option (List ℕ)) (piece : List ℕ) → length piece < 64 → Gathers written written piece piece []
-gathers_nothing written piece room = record { given = []; appended = Appends-nil written; whole = append-nil piece; open_ = room }
-
 pub gathers_both : (o m n : Option (List ℕ)) (p q r a b : List ℕ) → Gathers o m p q a → Gathers m n q r b → Gathers o n p r (a ++ b)
 gathers_both o m n p q r a b g h = record {
   given = g.given ++ h.given;

@@ -80,11 +80,6 @@ pub fails_other : (s : Calls) (n : ℕ) (xs : List ℕ) → plan xs n ≡ s → 
 fails_other s n xs is rising =
     subst (λ t. IsTrue false ↔ Contains t.failing (t.made + 1)) is ((λ h. absurd (let none : ⊥ = cc in none)), λ there. absurd (not_among_rising (n + 1) xs rising there))
 
-pub fails_first : (s : Calls) (n : ℕ) (xs rest : List ℕ) → plan xs n ≡ s → xs ≡ (n + 1) ∷ rest → IsTrue true ↔ Contains s.failing (s.made + 1)
-fails_first s n xs rest is next =
-    let there : Contains xs (n + 1) = subst (λ l. Contains l (n + 1)) (sym next) (0, omega arith, refl) in
-    subst (λ t. IsTrue true ↔ Contains t.failing (t.made + 1)) is ((λ _. there), λ _. refl)
-
 -- the next number isn't this call's, so what is left rises after this call
 pub RisesAfter-skips : (n number x : ℕ) (xs rest : List ℕ) → xs ≡ x ∷ rest → x < 2 ^ 64 → number ≡ counted n → (x ≡ number → ⊥) → RisesAfter n xs → RisesAfter (n + 1) xs
 RisesAfter-skips n number x xs rest next fits e other rising =

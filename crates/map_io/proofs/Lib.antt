@@ -1,3 +1,2 @@
 pub mod CallLaws
-pub mod FaultLaws
 pub mod StreamLaws

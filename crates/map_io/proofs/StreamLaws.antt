@@ -24,15 +24,6 @@ Appends-after_kept (Some x) (Some y) (Some z) bs p q = q ∙ ap (λ l. l ++ bs) 
 pub Appends-more : (a b c : Option (List ℕ)) (bs : List ℕ) (n m : ℕ) → Appends a b (take n bs) → Appends b c (take m (drop n bs)) → Appends a c (take (n + m) bs)
 Appends-more a b c bs n m p q = subst (Appends a c) (sym (take-add n m bs)) (Appends-trans a b c _ _ p q)
 
--- the first `at` bytes of `into` were taken before, and then n more that were read in after them
-pub Consumes-more_in_place : (a b c : Option (List ℕ)) (into piece rest : List ℕ) (at n : ℕ) → at ≤ length into → n ≤ length piece
-    → Consumes a b (take at into) → Consumes b c (take n piece) → Consumes a c (take (at + n) (take at into ++ (piece ++ rest)))
-Consumes-more_in_place a b c into piece rest at n inside fits first second =
-    let size : length (take at into) ≡ at = length-take-le at into inside in
-    let joined : take (at + n) (take at into ++ (piece ++ rest)) ≡ take at into ++ take n piece =
-    ap (λ k. take (k + n) (take at into ++ (piece ++ rest))) (sym size) ∙ take-append-add (take at into) (piece ++ rest) n ∙ ap (λ l. take at into ++ l) (take-append-le n piece rest fits) in
-    subst (Consumes a c) (sym joined) (Consumes-trans a b c _ _ first second)
-
 -- the n bytes at t were copied to the front of into
 pub take-copied : (bytes into copied : List ℕ) (t n : ℕ) → copied ≡ take (t + n - t) (drop t bytes) → length copied ≡ n
     → drop t bytes ≡ take n (copied ++ drop n into) ++ drop (t + n) bytes

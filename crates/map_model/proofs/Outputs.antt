@@ -149,11 +149,6 @@ Output-split ledger start end (line ∷ first) second written p =
     let r = Output-split ledger p.0.state end first second p.2 p.4 in
     (written_for ledger p.0.told ++ r.0, r.1, r.2, p.3 ∙ ap (λ (z : List ℕ). written_for ledger p.0.told ++ z) r.3 ∙ sym (append_assoc (written_for ledger p.0.told) r.0 r.1), (p.0, p.1, r.0, refl, r.4), r.5)
 
--- one line more
-pub Output-push : (ledger : Bool) (start middle : State) (lines : List (List ℕ)) (line written : List ℕ) (given : Given) → Output ledger start lines written middle → Answers middle line given → Output ledger start (lines ++ line ∷ []) (written ++ written_for ledger given.told) given.state
-Output-push ledger start middle lines line written given p a =
-    Output-append ledger start middle given.state lines (line ∷ []) written (written_for ledger given.told) p (given, a, [], sym (append-nil _), (refl, refl))
-
 -- ---- refusals
 
 -- What was written begins with `no ` once for each refusal.
@@ -186,40 +181,6 @@ pub refusals-push : (ledger : Bool) (start end : State) (script : List (List ℕ
 refusals-push ledger start end script written told p =
     refusals-append_output ledger start end script written (written_for ledger told) p
     ∙ ap (λ n. refusals written + n) (sym (ap refusals (append-nil (written_for ledger told))) ∙ refusals-told ledger told [] ∙ add-zero (refusal_count told))
-
--- ---- outputs that were cut short
-
--- Lines that are answered, and then one that writing stopped in.
-pub Interrupted-from : (ledger : Bool) (start before : State) (answered more script : List (List ℕ)) (line full : List ℕ) (given : Given) (part : ℕ) → script ≡ answered ++ line ∷ more → Output ledger start answered full before → Answers before line given → part < length (written_for ledger given.told) → Interrupted ledger start script (full ++ take part (written_for ledger given.told)) given.state
-Interrupted-from ledger start before answered more script line full given part e p a small = record {
-  answered = length answered;
-  has_next = subst (λ (ls : List (List ℕ)). length answered < length ls) (sym e) (omega (arith, length-append answered (line ∷ more)));
-  full = full;
-  before = before;
-  answers_before = subst (λ (ls : List (List ℕ)). Output ledger start ls full before) (sym (ap (take (length answered)) e ∙ take_at answered (line ∷ more) (length answered) refl)) p;
-  given = given;
-  answers_next = subst (λ (l : List ℕ). Answers before l given) (sym (ap (λ (ls : List (List ℕ)). get_or ls (length answered) []) e ∙ get_or_at answered line more [] (length answered) refl)) a;
-  executed = refl;
-  part = part;
-  is_part = small;
-  is_written = refl;
-}
-
--- more lines behind those that writing stopped in
-pub Interrupted-append : (ledger : Bool) (start end : State) (script more : List (List ℕ)) (written : List ℕ) → Interrupted ledger start script written end → Interrupted ledger start (script ++ more) written end
-Interrupted-append ledger start end script more written h = record {
-  answered = h.answered;
-  has_next = omega (arith, h.has_next, length-append script more);
-  full = h.full;
-  before = h.before;
-  answers_before = subst (λ (ls : List (List ℕ)). Output ledger start ls h.full h.before) (sym (take-append-le h.answered script more (le_of_lt h.has_next))) h.answers_before;
-  given = h.given;
-  answers_next = subst (λ (l : List ℕ). Answers h.before l h.given) (sym (get_or_append_left script more [] h.answered h.has_next)) h.answers_next;
-  executed = h.executed;
-  part = h.part;
-  is_part = h.is_part;
-  is_written = h.is_written;
-}
 
 -- ---- the machine's own run
 

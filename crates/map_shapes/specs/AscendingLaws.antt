@@ -81,10 +81,6 @@ sorted_ids-sorted (x ∷ xs) sorted =
     ap (insert_sorted x) (sorted_ids-sorted xs (IsNonDecreasing-tail x xs sorted))
     ∙ insert_sorted-least x xs (IsNonDecreasing-head x xs sorted)
 
--- what a sort leaves
-pub IsPermutation-sorted_ids : (xs : List ℕ) → IsPermutation xs (sorted_ids xs)
-IsPermutation-sorted_ids xs = IsPermutation-from_Permuted (Permuted-sym (Permuted-sorted_ids xs))
-
 pub sorted_ids-IsPermutation : (xs ys : List ℕ) → IsPermutation xs ys → IsNonDecreasing ys → sorted_ids xs ≡ ys
 sorted_ids-IsPermutation xs ys p sorted = sorted_ids-Permuted (Permuted-from_IsPermutation xs ys p) ∙ sorted_ids-sorted ys sorted
 

@@ -4,4 +4,3 @@ pub mod OrderLaws
 pub mod Decomposable
 pub mod Sums
 pub mod Permuted
-pub mod Holding

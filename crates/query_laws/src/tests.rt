@@ -7,7 +7,7 @@ mod tags;
 
 use crate::step_ledger::{Row, SHARES, Steps, blank};
 use crate::{Item, Named, NoMemory, derived_laws};
-use callers::{Held, ask_all};
+use callers::ask_all;
 use std::alloc::Global;
 use std::marker::Brand;
 use std::sync::ledger::{Blank, Ledger};
@@ -82,32 +82,8 @@ fn pile<L: Ledger>(
     Ok(Pile { tags: row })
 }
 
-/// The weight below a limit in some piles, asked at once.
-fn weight_at_once<L: Ledger>(
-    alloc: Global,
-    question: WeightBelow,
-    piles: &[Pile; 2],
-    steps: &mut Steps<L>,
-) -> Result<u64, NoMemory> {
-    ask_all(alloc, &question, piles, steps)
-}
-
-/// The same, asked of one pile after the other.
-fn weight_in_steps<L: Ledger>(
-    alloc: Global,
-    question: WeightBelow,
-    piles: &[Pile; 2],
-    steps: &mut Steps<L>,
-) -> Result<u64, NoMemory> {
-    derived_laws::<WeightBelow>();
-    let mut held = Held::new(alloc, question);
-    held.ask(&piles[0], steps)?;
-    held.ask(&piles[1], steps)?;
-    held.finish()
-}
-
-/// The weight below 10 in two piles, at once and in steps, with the touches of both.
-fn weigh<L: Ledger>(alloc: Global, blank: Blank) -> Result<(u64, u64, u64), NoMemory>
+/// The weight below 10 in two piles, and its touches.
+fn weigh<L: Ledger>(alloc: Global, blank: Blank) -> Result<[u64; 2], NoMemory>
     requires name { blank.name ≡ L.name }
     requires parts { blank.parts ≡ L.parts }
     requires shares { blank.parts ≡ SHARES }
@@ -115,20 +91,20 @@ fn weigh<L: Ledger>(alloc: Global, blank: Blank) -> Result<(u64, u64, u64), NoMe
     let mut steps = Steps::<L>::new(blank);
     let first = pile(alloc, &[(1, 100), (12, 200), (9, 50)], &mut steps)?;
     let second = pile(alloc, &[(10, 1), (0, 7)], &mut steps)?;
-    let piles = [first, second];
-    let question = WeightBelow { limit: 10 };
+    derived_laws::<WeightBelow>();
     steps.start_lap();
-    let at_once = weight_at_once(alloc, question, &piles, &mut steps)?;
-    let in_steps = weight_in_steps(alloc, question, &piles, &mut steps)?;
-    Ok((at_once, in_steps, steps.lap_touches()))
+    let weight = ask_all(
+        alloc,
+        &WeightBelow { limit: 10 },
+        &[first, second],
+        &mut steps,
+    )?;
+    Ok([weight, steps.lap_touches()])
 }
 
 #[test]
 fn weighs_by_parts(rt: HostRuntime) -> Result<(), Fail> {
-    let (at_once, in_steps, touches) = weigh::<Brand>(rt.alloc(), blank())?;
-    assert_eq!(rt; at_once, 157);
-    assert_eq!(rt; in_steps, 157);
-    assert_eq!(rt; touches, 10);
+    assert_eq!(rt; weigh::<Brand>(rt.alloc(), blank())?, [157, 5]);
     Ok(())
 }
 
