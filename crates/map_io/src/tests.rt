@@ -1,85 +1,67 @@
 // What no clause says: that calls succeed, and what the adapters of std hand on.
-ghost use Rattle.std.specs.Prelude.{◌≤◌};
-
 use super::{Failed, MemSink, MemSource, Sink, Source, StdSink, StdSource, WriteFault, write_all};
 use std::alloc::{AllocError, Global};
 use std::io;
 use std::io::{Error, ErrorKind, Read, Write};
 use std::test::Fail;
 
-// What some calls of a source give, each with room for two bytes: the bytes and how many.
+// What six calls of a source give, each with room for two bytes: the bytes and how many.
 fn drain<S: Source>(
     source: &mut S,
     alloc: Global,
-    calls: usize,
-) -> Result<(Vec<u8>, Vec<Option<usize>>), AllocError> {
+) -> Result<(Vec<u8>, [Option<usize>; 6]), AllocError> {
     let mut bytes = Vec::new(alloc);
-    let mut counts = Vec::new(alloc);
-    for _ in 0..calls {
-        let mut into = [0; 2];
-        match source.read(&mut into) {
-            Ok(count) => {
-                bytes.extend_from_slice(&into[..count])?;
-                counts.push(Some(count))?;
-            }
-            Err(Failed) => counts.push(None)?,
-        }
+    let mut counts = [None; 6];
+    for count in &mut counts {
+        *count = drain_once(source, &mut bytes)?;
     }
     Ok((bytes, counts))
 }
 
-// How many bytes some calls of a sink take of two.
-fn pour<K: Sink>(
-    sink: &mut K,
-    alloc: Global,
-    calls: usize,
-) -> Result<Vec<Option<usize>>, AllocError> {
-    let mut counts = Vec::new(alloc);
-    for _ in 0..calls {
-        counts.push(sink.write(&[1, 2]).ok())?;
+fn drain_once<S: Source>(source: &mut S, bytes: &mut Vec<u8>) -> Result<Option<usize>, AllocError> {
+    let mut into = [0; 2];
+    let Ok(count) = source.read(&mut into) else {
+        return Ok(None);
+    };
+    bytes.extend_from_slice(&into[..count])?;
+    Ok(Some(count))
+}
+
+// How many bytes each of five calls of a sink takes of two.
+fn pour<K: Sink>(sink: &mut K) -> [Option<usize>; 5] {
+    let mut counts = [None; 5];
+    for count in &mut counts {
+        *count = sink.write(&[1, 2]).ok();
     }
-    Ok(counts)
+    counts
 }
 
 #[test]
 fn mem_source_gives_pieces(rt: HostRuntime) -> Result<(), Fail> {
-    let one = [Some(1), None, Some(1), Some(1), Some(0), Some(0)];
-    let three = [Some(2), None, Some(1), Some(0), Some(0), Some(0)];
-    let bytes = [10, 20, 30];
-
-    let failing = vec![in rt.alloc(); 2]?;
-    let mut source = MemSource::new(bytes.to_vec(rt.alloc())?, 1, failing);
-    let (given, counts) = drain(&mut source, rt.alloc(), 6)?;
-    assert_eq!(rt; given.as_slice(), bytes.as_slice());
-    assert_eq!(rt; counts.as_slice(), one.as_slice());
-
-    let failing = vec![in rt.alloc(); 2]?;
-    let mut source = MemSource::new(bytes.to_vec(rt.alloc())?, 3, failing);
-    let (given, counts) = drain(&mut source, rt.alloc(), 6)?;
-    assert_eq!(rt; given.as_slice(), bytes.as_slice());
-    assert_eq!(rt; counts.as_slice(), three.as_slice());
+    for (piece, wanted) in [
+        (1, [Some(1), None, Some(1), Some(1), Some(0), Some(0)]),
+        (3, [Some(2), None, Some(1), Some(0), Some(0), Some(0)]),
+    ] {
+        let bytes = vec![in rt.alloc(); 10, 20, 30]?;
+        let mut source = MemSource::new(bytes, piece, vec![in rt.alloc(); 2]?);
+        let (given, counts) = drain(&mut source, rt.alloc())?;
+        assert_eq!(rt; given.as_slice(), [10, 20, 30].as_slice());
+        assert_eq!(rt; counts, wanted);
+    }
     Ok(())
 }
 
 #[test]
 fn mem_sink_takes_pieces(rt: HostRuntime) -> Result<(), Fail> {
-    let failing = vec![in rt.alloc(); 2]?;
-    let mut sink = MemSink::new([9; 3].to_vec(rt.alloc())?, 1, failing);
-    let counts = pour(&mut sink, rt.alloc(), 5)?;
-    assert_eq!(rt;
-        counts.as_slice(),
-        [Some(1), None, Some(1), Some(1), None].as_slice()
-    );
-    assert_eq!(rt; sink.written(), [1, 1, 1].as_slice());
-
-    let failing = vec![in rt.alloc(); 2]?;
-    let mut sink = MemSink::new([9; 3].to_vec(rt.alloc())?, 3, failing);
-    let counts = pour(&mut sink, rt.alloc(), 5)?;
-    assert_eq!(rt;
-        counts.as_slice(),
-        [Some(2), None, Some(1), None, None].as_slice()
-    );
-    assert_eq!(rt; sink.written(), [1, 2, 1].as_slice());
+    for (piece, wanted, written) in [
+        (1, [Some(1), None, Some(1), Some(1), None], [1, 1, 1]),
+        (3, [Some(2), None, Some(1), None, None], [1, 2, 1]),
+    ] {
+        let space = vec![in rt.alloc(); 9, 9, 9]?;
+        let mut sink = MemSink::new(space, piece, vec![in rt.alloc(); 2]?);
+        assert_eq!(rt; pour(&mut sink), wanted);
+        assert_eq!(rt; sink.written(), written.as_slice());
+    }
     Ok(())
 }
 
@@ -98,15 +80,19 @@ fn write_all_hands_over_all(rt: HostRuntime) -> Result<(), Fail> {
 fn std_source_and_sink_hand_on(rt: HostRuntime) -> Result<(), Fail> {
     let bytes = [10, 20, 30];
     let mut source = StdSource::new(bytes.as_slice());
-    let (given, counts) = drain(&mut source, rt.alloc(), 3)?;
+    let (given, counts) = drain(&mut source, rt.alloc())?;
     assert_eq!(rt; given.as_slice(), bytes.as_slice());
-    assert_eq!(rt; counts.as_slice(), [Some(2), Some(1), Some(0)].as_slice());
+    assert_eq!(rt;
+        counts,
+        [Some(2), Some(1), Some(0), Some(0), Some(0), Some(0)]
+    );
 
     let mut written = Vec::new(rt.alloc());
-    let mut sink = StdSink::new(&mut written);
-    let counts = pour(&mut sink, rt.alloc(), 2)?;
-    assert_eq!(rt; counts.as_slice(), [Some(2), Some(2)].as_slice());
-    assert_eq!(rt; written.as_slice(), [1, 2, 1, 2].as_slice());
+    assert_eq!(rt; pour(&mut StdSink::new(&mut written)), [Some(2); 5]);
+    assert_eq!(rt;
+        written.as_slice(),
+        [1, 2, 1, 2, 1, 2, 1, 2, 1, 2].as_slice()
+    );
     Ok(())
 }
 
@@ -167,16 +153,12 @@ impl Write for Halting {
 #[test]
 fn std_faults_are_failed_calls(rt: HostRuntime) -> Result<(), Fail> {
     let mut source = StdSource::new(Halting::new());
-    let (given, counts) = drain(&mut source, rt.alloc(), 3)?;
-    assert_eq!(rt; given.as_slice(), [7, 7].as_slice());
-    assert_eq!(rt; counts.as_slice(), [None, Some(1), Some(1)].as_slice());
+    let (given, counts) = drain(&mut source, rt.alloc())?;
+    assert_eq!(rt; given.as_slice(), [7; 5].as_slice());
+    assert_eq!(rt; counts, [None, Some(1), Some(1), Some(1), Some(1), Some(1)]);
 
     // No byte is taken, then the flush fails.
     let mut sink = StdSink::new(Halting::new());
-    let counts = pour(&mut sink, rt.alloc(), 4)?;
-    assert_eq!(rt;
-        counts.as_slice(),
-        [None, None, Some(2), Some(2)].as_slice()
-    );
+    assert_eq!(rt; pour(&mut sink), [None, None, Some(2), Some(2), Some(2)]);
     Ok(())
 }
