@@ -1,4 +1,39 @@
-//! Global rebuilding: a stack of parts is made anew in the background, before too much of it is dead (Overmars 1983).
+//! Global rebuilding: a stack of the items of a chain is made anew while it answers, before too much of it is dead (Overmars 1983).
+//!
+//! The main stack answers. While a rebuild runs there is a shadow beside it, a second stack, which gets the items of the chain from the
+//! first one on, four before each update, up to a cursor.
+//!
+//! ```text
+//! chain     a   b   c   d   e   f   g   h      the main stack has all n items
+//!           '-----------'   ^
+//!           in the shadow   cursor             w = 4 are still to be handed over
+//! ```
+//!
+//! With D and D' for the dead weight of the main stack and of the shadow (the inserts since each was made, less its live items), between
+//! any two calls
+//!
+//! ```text
+//! no rebuild runs:    2D <= n + 16
+//! one runs:           2D + w <= 2n + 19    and    3D' + w <= n
+//! ```
+//!
+//! (`IsQuiet` and `IsInTime 0` of `specs/Index.antt`, both in `IsIndex`, the type's invariant.) How far the two sides lie apart, before and
+//! after:
+//!
+//! | | `2n + 19 - 2D - w` | `n - 3D' - w` | `n + 16 - 2D` |
+//! |---|---|---|---|
+//! | an item is handed over | + 1 | + 1 | |
+//! | an item is added | + 1 | 0 | + 1 |
+//! | one that was handed over is dropped | - 4 | - 4 | - 3 |
+//! | another one is dropped | - 3 | 0 | - 3 |
+//!
+//! - A preparation hands four items over: both inequalities of a rebuild then hold with 4 to spare (`IsPrepared`), and the update takes 4 at
+//!   most. Where fewer are left, the rebuild ends. After a refused preparation both hold still, however often it is refused.
+//! - A rebuild starts where a drop breaks the inequality of a quiet index. It is then broken by 3 at most, and with `w = n` and `D' = 0` those of
+//!   a rebuild hold: 19 is 16 and 3.
+//! - Once all are handed over (`w = 0`) the shadow becomes the main stack, and `3D' <= n` is more than a quiet index wants.
+//!
+//! So D is at most `n + 9`, and the main stack weighs at most `2n + 9`, the shadow at most `4n / 3`: n alone bounds the work of an update.
 #![tactic(auto)]
 
 mod index;

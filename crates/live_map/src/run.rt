@@ -63,8 +63,7 @@ pub struct Ended {
 /// end, to the first fault of the source, or to 67,108,864 bytes and one more. After a fault and after too long a
 /// script the lines that a line feed ended are answered. It stops at the first fault of the sink.
 ///
-/// The memory that it takes is that of the script and of the layers. Each update costs at most the bounds of its layer, and each
-/// question asks one index.
+/// All updates together cost at most the sum of their bounds, each that of the map before it.
 pub fn run<S: Source, K: Sink, L: Ledger>(
     alloc: Global,
     words: &[String],
