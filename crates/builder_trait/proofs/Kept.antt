@@ -3,7 +3,7 @@ use Rattle.std.proofs.Common.{◌≡◌, ℕ, zero, suc, ◌+◌, ◌<◌, ◌�
 use Rattle.std.specs.List.{items_where_true, filter, range_with_len}
 use Rattle.std.proofs.lemmas.Option.{slice_get_within, get_or_from_slice_get}
 use Rattle.std.proofs.lemmas.List.Elements.{All-cons, All-nil, All-tail, All-head}
-use Rattle.std.proofs.lemmas.List.{same_lists, get_or-map, length-map, length_push, get_or_default}
+use Rattle.std.proofs.lemmas.List.{same_lists, get_or-map, length-map, get_or_default}
 use Rattle.std.proofs.lemmas.List.FromFn.{get_or-range_with_len, length-range_with_len}
 use Rattle.query_laws.specs.Permuted.{Permuted}
 use Rattle.query_laws.proofs.Permutations.{Permuted-map, Permuted-filter, Permuted-length}
@@ -40,14 +40,6 @@ module _ {A : Type 0} where
       → kept (k + 1) flags xs ≡ kept k flags xs
   kept-more_dead flags xs k falls = rw (add-one k) (kept_dead flags xs k falls)
 
-  pub length-kept_live : (flags : List Bool) (xs : List A) (k : ℕ) (x : A) → slice_get flags k ≡ Some true → slice_get xs k ≡ Some x
-      → length (kept (k + 1) flags xs) ≡ length (kept k flags xs) + 1
-  length-kept_live flags xs k x stands at = ap length (kept-more_live flags xs k x stands at) ∙ length_push (kept k flags xs) x
-
-  pub length-kept_dead : (flags : List Bool) (xs : List A) (k : ℕ) → slice_get flags k ≡ Some false
-      → length (kept (k + 1) flags xs) ≡ length (kept k flags xs)
-  length-kept_dead flags xs k falls = ap length (kept-more_dead flags xs k falls)
-
   -- no more than were read
   pub length-kept_le : (k : ℕ) (flags : List Bool) (xs : List A) → length (kept k flags xs) ≤ k
   length-kept_le zero flags xs = omega arith
@@ -55,16 +47,6 @@ module _ {A : Type 0} where
   length-kept_le (suc k) (b ∷ flags) [] = omega arith
   length-kept_le (suc k) (true ∷ flags) (x ∷ xs) = omega (arith, length-kept_le k flags xs)
   length-kept_le (suc k) (false ∷ flags) (x ∷ xs) = omega (arith, length-kept_le k flags xs)
-
-  -- a live item stands among the live ones behind those that are kept before it
-  pub slice_get-kept : (flags : List Bool) (xs : List A) (k : ℕ) (x : A) → slice_get flags k ≡ Some true → slice_get xs k ≡ Some x
-      → slice_get (items_where_true flags xs) (length (kept k flags xs)) ≡ Some x
-  slice_get-kept [] xs k x stands at = absurd cc
-  slice_get-kept (b ∷ flags) [] k x stands at = absurd cc
-  slice_get-kept (true ∷ flags) (y ∷ xs) zero x stands at = at
-  slice_get-kept (false ∷ flags) (y ∷ xs) zero x stands at = absurd cc
-  slice_get-kept (true ∷ flags) (y ∷ xs) (suc k) x stands at = slice_get-kept flags xs k x stands at
-  slice_get-kept (false ∷ flags) (y ∷ xs) (suc k) x stands at = slice_get-kept flags xs k x stands at
 
   -- what is true of all items is true of those kept
   pub All-kept : (P : A → Type 0) (flags : List Bool) (xs : List A) → All P xs → All P (items_where_true flags xs)

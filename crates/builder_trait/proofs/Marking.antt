@@ -6,7 +6,7 @@ use Rattle.std.proofs.lemmas.Bool.Decides.{nat_tests}
 use Rattle.std.proofs.lemmas.Option.{slice_get_within, get_or_from_slice_get, same_Some}
 use Rattle.std.proofs.lemmas.List.Elements.{All-head, All-tail}
 use Rattle.query_laws.specs.Orders.{IsStrictTotalOrder}
-use Rattle.builder_trait.specs.Parts.{Contents, IsRising, OwnsStamp, has_stamp, without, marked}
+use Rattle.builder_trait.specs.Parts.{Contents, IsPart, IsRising, OwnsStamp, has_stamp, without, marked}
 
 -- a test of two numbers that are, or aren't, the same
 test_same : (a b : ℕ) → a ≡ b → (a == b) ≡ true
@@ -49,10 +49,6 @@ module _ {Item : Type 0} (stamp : Item → ℕ) (dead : ℕ) where
   -- flags that stay
   pub marked-same : (part : Contents Item) → fallen part.items part.flags ≡ part.flags → part ≡ marked stamp dead part
   marked-same part same = ap (λ l. record part { flags = l }) (sym same)
-
-  pub without-same : (part : Contents Item) → fallen part.items part.flags ≡ part.flags
-      → items_where_true part.flags part.items ≡ without stamp dead (items_where_true part.flags part.items)
-  without-same part same = ap (λ l. items_where_true l part.items) (sym same) ∙ items-fallen part.items part.flags
 
   -- no item has the stamp: nothing changes, and no live item has it
   pub fallen_none : (xs : List Item) (flags : List Bool) → length flags ≡ length xs → All (λ x. stamp x ≢ dead) xs → fallen xs flags ≡ flags
@@ -163,3 +159,29 @@ module _ {Item : Type 0} where
     where
       later_than : (j k : ℕ) → j ≢ k → k ≤ j → k < j
       later_than j k other later = omega arith
+
+module _ {Item : Type 0} (stamp : Item → ℕ) (item : Item) {part now : Contents Item} (view : part ≡ now) where
+  -- what the mark makes of a part, by the flags after it
+  module _ {flags : List Bool} (falls : fallen stamp (stamp item) part.items part.flags ≡ flags) where
+    pub marked-to : record part { flags = flags } ≡ marked stamp (stamp item) now
+    marked-to = ap (λ l. record part { flags = l }) (sym falls) ∙ ap (marked stamp (stamp item)) view
+
+    pub live-to : items_where_true flags part.items ≡ without stamp (stamp item) (items_where_true now.flags now.items)
+    live-to =
+        ap (λ l. items_where_true l part.items) (sym falls) ∙ items-fallen stamp (stamp item) part.items part.flags
+        ∙ ap (λ p. without stamp (stamp item) (items_where_true p.flags p.items)) view
+
+  -- the mark of an item that has a place: its flag falls, and it is found where that flag stood
+  module _ {before : ℕ → Item → Item → Bool} (order : IsStrictTotalOrder stamp (before 0)) (valid : IsPart before part)
+      (owns : OwnsStamp stamp item now.items) (k : ℕ) (here : slice_get part.items k ≡ Some item) where
+    only_here : StandsOnlyAt stamp (stamp item) part.items k
+    only_here =
+        StandsOnlyAt-rising order part.items k item valid.rising (subst (λ p. OwnsStamp stamp item p.items) (sym view) owns) here
+
+    pub fallen_here : fallen stamp (stamp item) part.items part.flags ≡ set part.flags k false
+    fallen_here = fallen_at stamp (stamp item) part.items part.flags k valid.flagged only_here
+
+    pub found_here : (flag : Bool) → slice_get part.flags k ≡ Some flag → flag ≡ has_stamp stamp (stamp item) (items_where_true now.flags now.items)
+    found_here flag at =
+        sym (has_stamp_at stamp (stamp item) part.items part.flags k flag at only_here)
+        ∙ ap (λ p. has_stamp stamp (stamp item) (items_where_true p.flags p.items)) view

@@ -1,16 +1,15 @@
--- A part read into a builder: what each put takes, and how many there are.
-use Rattle.std.proofs.Common.{◌≡◌, ℕ, ◌+◌, ◌<◌, ◌≤◌, ◌^◌, Bool, true, false, IsTrue, List, [], ◌∷◌, ◌++◌, length, take, get_or, sym, ap, ◌∙◌, arith, subst, Some, slice_get, slice_index, take_all, All, ⊎_elim}
+-- A part read place by place: what each item adds to those that were read, and how many there are.
+use Rattle.std.proofs.Common.{◌≡◌, ℕ, ◌+◌, ◌<◌, Bool, true, false, [], ◌∷◌, ◌++◌, length, take, get_or, sym, ap, ◌∙◌, arith, Some, slice_get, slice_index, take_all, ⊎_elim}
 use Rattle.std.specs.List.{items_where_true}
-use Rattle.std.proofs.lemmas.Option.{slice_get-get_or, slice_get-map, slice_get_within, slice_get_cases, get_or_from_slice_get, same_Some}
+use Rattle.std.proofs.lemmas.Option.{slice_get-get_or, slice_get-map, slice_get_within, slice_get_cases, get_or_from_slice_get}
 use Rattle.std.specs.Option.{option_map}
 use Rattle.std.proofs.lemmas.List.{length-map}
 use Rattle.std.proofs.lemmas.List.FromFn.{length-range_with_len}
 use Rattle.query_laws.proofs.Permutations.{Permuted-length}
 use Rattle.builder_trait.specs.Parts.{Contents, IsPart}
-use Rattle.builder_trait.specs.Builders.{Progress, FitsFirst, FitsSecond}
-use Rattle.builder_trait.specs.Rebuilding.{live_before, flags_reordered, live_reordered_before, HasRanks}
+use Rattle.builder_trait.specs.Rebuilding.{live_before, flags_reordered, live_reordered_before}
 use Rattle.builder_trait.proofs.Places.{slice_get-placed}
-use Rattle.builder_trait.proofs.Kept.{kept-more_live, kept-more_dead, slice_get-kept, All-kept_before, length-kept_reordered}
+use Rattle.builder_trait.proofs.Kept.{kept-more_live, kept-more_dead, length-kept_reordered}
 
 module _ {Item : Type 0} {before : ℕ → Item → Item → Bool} {part : Contents Item} (valid : IsPart before part) where
   -- the lists of both orders are as long as one another
@@ -62,41 +61,6 @@ module _ {Item : Type 0} {before : ℕ → Item → Item → Bool} {part : Conte
   length-live_reordered_before =
       ap length live_reordered_before-all
       ∙ length-kept_reordered part.flags part.items part.places part.reordered valid.flagged (length-places ∙ sym length-reordered) valid.each_place
-
-  -- a live item fits next in order 0, with the number of those before it as its place
-  pub FitsFirst-live : (b : Progress Item) (k : ℕ) (x : Item) (rank : ℕ) → b.items ≡ live_before k part → b.reordered ≡ []
-      → length (items_where_true part.flags part.items) ≤ 2 ^ b.at_level → rank ≡ length (live_before k part)
-      → slice_get part.flags k ≡ Some true → slice_get part.items k ≡ Some x → FitsFirst (before 0) b x rank
-  FitsFirst-live b k x rank items none fits ranked stands at = record {
-    room = omega (
-      arith,
-      ap length items,
-      slice_get_within (items_where_true part.flags part.items) (length (live_before k part)) x
-          (slice_get-kept part.flags part.items k x stands at),
-    );
-    none_reordered = none;
-    next_place = ranked ∙ sym (ap length items);
-    after = subst (λ l. All (λ y. IsTrue (before 0 y x)) l) (sym items)
-        (All-kept_before (λ y z. IsTrue (before 0 y z)) part.flags part.items k x valid.rising at);
-  }
-
-  -- and in order 1, with the number that was noted for its place
-  pub FitsSecond-live : (b : Progress Item) (k : ℕ) (x : Item) (ranks : List ℕ) (rank : ℕ)
-      → b.items ≡ items_where_true part.flags part.items → b.reordered ≡ live_reordered_before k part
-      → HasRanks ranks (length part.items) part → slice_get ranks (slice_index part.places k) ≡ Some rank
-      → k < length part.items
-      → slice_get part.flags (slice_index part.places k) ≡ Some true → slice_get part.reordered k ≡ Some x
-      → FitsSecond (before 1) b x rank
-  FitsSecond-live b k x ranks rank items others noted read below stands at =
-      let place : ℕ = slice_index part.places k in
-      let ranked : length (live_before place part) ≡ rank =
-      same_Some (length (live_before place part)) rank (sym (noted place (place_within k below)) ∙ read) in
-      record {
-        at_place = ap (λ l. slice_get l rank) items ∙ ap (slice_get (items_where_true part.flags part.items)) (sym ranked)
-            ∙ slice_get-kept part.flags part.items place x stands (placed-at k x at);
-        after = subst (λ l. All (λ y. IsTrue (before 1 y x)) l) (sym others)
-            (All-kept_before (λ y z. IsTrue (before 1 y z)) (flags_reordered part) part.reordered k x valid.rising_reordered at);
-      }
 
   -- what an item in order 1 adds to those that were read, live or dead
   pub live_reordered-more : (k : ℕ) (x : Item) → k < length part.items

@@ -1,17 +1,10 @@
--- What the flat kind keeps, and what its search for an item has found out.
+-- What the flat kind keeps.
 use Rattle.std.specs.List.{items_where_true}
-use Rattle.std.specs.Prelude.{◌≡◌, ℕ, ◌+◌, ◌<◌, ◌≤◌, ◌^◌, Bool, true, false, IsTrue, List, length, map, replicate, Some, slice_get, slice_index_or}
+use Rattle.std.specs.Prelude.{◌≡◌, ℕ, ◌+◌, ◌<◌, ◌≤◌, ◌^◌, Bool, true, false, List, length, map, replicate, Some, slice_get}
 use Rattle.query_laws.specs.StepLedger.{Entries}
 use Rattle.builder_trait.specs.Parts.{IsRising, IsPart}
 
 module _ {Item : Type 0} where
-  -- the items below a place stand before the given one, and those from another place on don't
-  pub record IsBracket (before : Item → Item → Bool) (xs : List Item) (item : Item) (low high : ℕ) : Type 0 where
-    pub ordered : low ≤ high
-    pub within : high ≤ length xs
-    pub below : (k : ℕ) (d : Item) → k < low → IsTrue (before (slice_index_or xs k d) item)
-    pub above : (k : ℕ) (d : Item) → high ≤ k → k < length xs → before (slice_index_or xs k d) item ≡ false
-
   -- each row has room for all items of a level
   pub record HasRoom (items reordered : Entries Item) (places : Entries ℕ) (flags : Entries Bool) (at_level : ℕ) : Type 0 where
     pub level_small : at_level < 32

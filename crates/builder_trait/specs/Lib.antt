@@ -3,3 +3,4 @@ pub mod Builders
 pub mod Asking
 pub mod Rebuilding
 pub mod Flat
+pub mod Search

@@ -1,5 +1,5 @@
 -- How far a part is read into a builder, in either order.
-use Rattle.std.specs.Prelude.{◌≡◌, ℕ, ◌<◌, Bool, false, List, length, take, map, slice_index_or, slice_get, Some}
+use Rattle.std.specs.Prelude.{ℕ, Bool, false, List, take, map, slice_index_or}
 use Rattle.std.specs.List.{items_where_true}
 use Rattle.builder_trait.specs.Parts.{Contents}
 
@@ -15,7 +15,3 @@ module _ {Item : Type 0} where
   -- the live items before an index of order 1
   abbrev pub live_reordered_before : ℕ → Contents Item → List Item
   live_reordered_before k part = items_where_true (take k (flags_reordered part)) (take k part.reordered)
-
-  -- the table has for each place below k the number of live items before it
-  abbrev pub HasRanks : List ℕ → ℕ → Contents Item → Type 0
-  HasRanks ranks k part = (p : ℕ) → p < k → slice_get ranks p ≡ Some (length (live_before p part))

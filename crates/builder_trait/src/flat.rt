@@ -8,10 +8,10 @@ ghost use Rattle.std.specs.Option.{is_some};
 ghost use Rattle.query_laws.specs.StepLedger.{Spends, one_touch};
 ghost use Rattle.builder_trait.specs.Parts.{IsRising, OwnsStamp, has_stamp, without, marked};
 ghost use Rattle.builder_trait.specs.Builders.{IsUnderway, IsQuota, FitsFirst, FitsSecond, with_put, sealed_with};
-ghost use Rattle.builder_trait.specs.Flat.{IsBracket};
 
 use crate::builder::Builder;
 use crate::part::Part;
+use crate::search::{EntryTest, partition_point};
 use query_laws::step_ledger::{Row, Steps};
 use query_laws::{Item, NoMemory};
 use std::alloc::Global;
@@ -48,29 +48,17 @@ impl<I: Item> Model for FlatPart<I> {
     ghost invariant = { λ p. IsFlatPart I.before p.first p.second p.places p.flags p.level p.live };
 }
 
-/// The first place of a rising row whose item doesn't stand before the given one, from a bracket on. The bracket is halved
-/// at each touch.
-fn lower_bound<I: Item, L: Ledger>(
-    row: &Row<I>,
-    item: &I,
-    low: usize,
-    high: usize,
-    steps: &mut Steps<L>,
-) -> usize
-    requires rising { IsRising (I.before 0) row.now.items }
-    requires bracket { IsBracket (I.before 0) row.now.items item.now low high }
-    ensures found { IsBracket (I.before 0) row.now.items item.now result result }
-    ensures cost { (h : ℕ) → high - low < 2 ^ h → Spends steps.old steps.new 0 0 h }
-{
-    if low == high {
-        return low;
-    }
-    let middle = low + (high - low) / 2;
-    let other = row.at(middle, steps);
-    if other.before(0, item) {
-        lower_bound(row, item, middle + 1, high, steps)
-    } else {
-        lower_bound(row, item, low, middle, steps)
+/// Whether an item stands before another in order 0.
+#[derive(Drop)]
+struct StandsBefore<I: Item> {
+    item: I,
+}
+
+impl<I: Item> EntryTest<I> for StandsBefore<I> {
+    ghost passes = { λ test entry. I.before 0 entry test.item };
+
+    fn passes(&self, entry: &I) -> bool {
+        entry.before(0, &self.item)
     }
 }
 
@@ -82,7 +70,8 @@ fn place_of_item<I: Item, L: Ledger>(row: &Row<I>, item: &I, steps: &mut Steps<L
     ensures missing { IsNone result → All (λ x. I.stamp x ≢ I.stamp item.now) row.now.items }
     ensures cost { (h : ℕ) → length row.now.items ≤ 2 ^ h → Spends steps.old steps.new 0 0 (h + 2) }
 {
-    let place = lower_bound(row, item, 0, row.len(), steps);
+    let before = StandsBefore { item: *item };
+    let place = partition_point(row, &before, 0, row.len(), steps);
     if place == row.len() {
         return None;
     }
@@ -95,6 +84,14 @@ fn place_of_item<I: Item, L: Ledger>(row: &Row<I>, item: &I, steps: &mut Steps<L
 }
 
 impl<I: Item> FlatPart<I> {
+    /// The items in order 0.
+    pub fn items(&self) -> &Row<I>
+        ensures value { result.now.items ≡ self.now.items }
+        ensures rising { IsRising (I.before 0) result.now.items }
+    {
+        &self.first
+    }
+
     /// Marks an item as dead, and gives its place where it was there and live: one mark, and `h + 4` touches at most at a part
     /// of up to `2^h` items.
     pub fn mark_placed<L: Ledger>(&mut self, item: &I, steps: &mut Steps<L>) -> Option<usize>

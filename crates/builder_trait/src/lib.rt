@@ -11,11 +11,13 @@ mod at_once;
 mod builder;
 pub mod flat;
 mod part;
+mod search;
 
 pub use asking::{Asking, Given};
-pub use at_once::{ask_all, completed, part_of_one, rebuilt};
+pub use at_once::part_of_one;
 pub use builder::Builder;
 pub use part::{Answers, Part};
+pub use search::{EntryTest, partition_point};
 
 #[cfg(test)]
 mod tests;

@@ -5,7 +5,7 @@ mod item;
 
 use crate::Merge;
 use builder_trait::flat::FlatBuilder;
-use builder_trait::{Builder, Part, completed};
+use builder_trait::{Builder, Part};
 use item::Pair;
 use query_laws::step_ledger::{SHARES, Steps, blank};
 use query_laws::{Item, NoMemory};
@@ -30,7 +30,10 @@ fn pair<B: Builder, L: Ledger>(
     builder.put(0, high, 1, steps);
     builder.put(1, low, 0, steps);
     builder.put(1, high, 1, steps);
-    Ok(completed(builder, steps))
+    builder.seal();
+    let left = builder.left();
+    builder.turns(left, steps);
+    Ok(builder.finish())
 }
 
 /// The stamps of a part in an order.
@@ -89,7 +92,10 @@ fn merge_seen<B: Builder, L: Ledger>(
     let turns = steps.lap_turns();
     let done = merge.done();
     let _lens = [a.len(), b.len()];
-    let merged = completed(builder, &mut steps);
+    builder.seal();
+    let rest = builder.left();
+    builder.turns(rest, &mut steps);
+    let merged = builder.finish();
     let in_first = stamps(alloc, 0, &merged, &mut steps)?;
     let in_second = stamps(alloc, 1, &merged, &mut steps)?;
     merge.clear();

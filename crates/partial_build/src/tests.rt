@@ -5,7 +5,7 @@ mod item;
 
 use crate::Room;
 use builder_trait::flat::FlatBuilder;
-use builder_trait::{Builder, Part, completed};
+use builder_trait::{Builder, Part};
 use item::Pair;
 use query_laws::step_ledger::{SHARES, Steps, blank};
 use query_laws::{Item, NoMemory};
@@ -36,7 +36,10 @@ fn pair<B: Builder, L: Ledger>(
     builder.put(0, high, 1, steps);
     builder.put(1, low, 0, steps);
     builder.put(1, high, 1, steps);
-    Ok(completed(builder, steps))
+    builder.seal();
+    let left = builder.left();
+    builder.turns(left, steps);
+    Ok(builder.finish())
 }
 
 /// A construction of two parts of two items each, one of which dies after the first of four ticks. The turns left, and how many
