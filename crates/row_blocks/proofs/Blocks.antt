@@ -187,10 +187,6 @@ below_from_pow i j h = elim (cases_lt i j) [
   | inr high ↦ let le : 2 ^ j ≤ 2 ^ i = pow-le-pow_right (omega arith) high in let no : ⊥ = omega arith in absurd no
 ]
 
-pub height_at-inside : (start height n : ℕ) → IsMultiple start height → height ≤ 64 → start < n → n < start + 2 ^ height → height_at n < height
-height_at-inside start height n multiple small after before =
-    below_from_pow _ _ (omega (arith, starts_inside start height n multiple small after before))
-
 -- more blocks reach farther
 pub times_below : (a b half : ℕ) → a * half < b * half → a < b
 times_below a b half h = elim (cases_lt a b) [

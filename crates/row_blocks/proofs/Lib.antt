@@ -1,4 +1,3 @@
 pub mod Blocks
 pub mod Lists
-pub mod Searching
 pub mod Partitioning

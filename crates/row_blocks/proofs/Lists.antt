@@ -1,10 +1,9 @@
 -- Lists by index, and in slices.
 use Rattle.std.proofs.Common.{◌≡◌, ◌≢◌, ℕ, ◌+◌, ◌-◌, ◌<◌, ◌≤◌, Bool, true, false, cond, List, [], ◌∷◌, ◌++◌, length, take, drop, map, get_or, set, slice_range, refl, sym, ◌∙◌, ap, arith, subst, Some, slice_get, All, ⊎_elim, ◌⊎◌, inl, inr, get_or-set_same, get_or-set_other, take-append-drop, length-take, length-drop}
 use Rattle.std.specs.List.{filter}
-use Rattle.std.proofs.Math.Seq.{take-set-lt}
 use Rattle.std.proofs.lemmas.Bool.{cases_lt, cases_Bool, cond-true, cond-false, both_ways}
 use Rattle.std.proofs.lemmas.Option.{slice_get_within, slice_get-get_or, slice_get_past, get_or_from_slice_get}
-use Rattle.std.proofs.lemmas.List.{length-set, take-take, take-map, drop-map, get_or-take, get_or-drop, drop-set-add}
+use Rattle.std.proofs.lemmas.List.{length-set, take-take, take-map, drop-map, get_or-take, get_or-drop}
 use Rattle.std.proofs.lemmas.List.Elements.{All-head, All-tail}
 use Rattle.std.proofs.lemmas.List.Sums.{length-filter, sum_by-take-le}
 use Rattle.std.proofs.lemmas.Slice.{between_is}
@@ -49,10 +48,6 @@ module _ {A : Type 0} where
 
   pub get_or-slice_range : (xs : List A) (from to k : ℕ) (d : A) → k < to - from → get_or (slice_range xs from to) k d ≡ get_or xs (from + k) d
   get_or-slice_range xs from to k d inside = get_or-take (to - from) (drop from xs) k d inside ∙ get_or-drop from xs k d
-
-  -- a write within a slice
-  pub slice_range-set : (xs : List A) (from to k : ℕ) (x : A) → k < to - from → slice_range (set xs (from + k) x) from to ≡ set (slice_range xs from to) k x
-  slice_range-set xs from to k x inside = ap (take (to - from)) (drop-set-add from xs k x) ∙ take-set-lt (to - from) (drop from xs) k x inside
 
 -- a slice of a list that a function makes of another
 pub slice_range-map : {X Y : Type 0} (f : X → Y) (xs : List X) (i j : ℕ) → slice_range (map f xs) i j ≡ map f (slice_range xs i j)

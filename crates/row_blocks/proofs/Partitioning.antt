@@ -11,10 +11,9 @@ use Rattle.std.proofs.lemmas.List.FromFn.{filter_of_map_range_with_len_more, len
 use Rattle.std.proofs.lemmas.List.Sorted.{All-permutation}
 use Rattle.query_laws.proofs.Permutations.{Permuted-length, Permuted-filter, Permuted-sym, IsPermutation-from_Permuted}
 use Rattle.row_blocks.specs.Blocks.{IsMultiple, start_of}
-use Rattle.row_blocks.specs.declared.partition.Partition.{Partition}
-use Rattle.row_blocks.specs.Partitions.{is_in_block, block_of, HasEachPlace, IsInBlocks, IsMoved, IsPartitioning, target_of, lower_after}
+use Rattle.row_blocks.specs.Partitions.{is_in_block, block_of, HasEachPlace, IsInBlocks, IsMoved, target_of, lower_after}
 use Rattle.row_blocks.proofs.Blocks.{pow_next, first_half, second_half, times_below}
-use Rattle.row_blocks.proofs.Lists.{take-split, length-slice_range, get_or-slice_range, slice_range-set, filter_none, filter_all, filter-filter, filter-map, length-filter-take-le}
+use Rattle.row_blocks.proofs.Lists.{take-split, length-slice_range, get_or-slice_range, filter_none, filter_all, filter-filter, filter-map, length-filter-take-le}
 
 -- ---- blocks of one height
 
@@ -358,134 +357,74 @@ module _ {T : Type 0} (place : T → ℕ) where
               ap (λ l. take (length l) (drop start (set target j e))) same ∙ unread ∙ moved.moved start own inside_start ∙ sym same
 
   -- ---- one step of a partition
-  module _ {whole source target : List T} (p : Partition) (each : HasEachPlace place whole) (above : IsInBlocks place whole (p.height + 1) source)
-      (moved : IsMoved place source target p.height p.done p.lower) (inside : p.done < length source) (e : T) (d : T) (read : get_or source p.done d ≡ e) where
-    lower_within : p.lower ≤ p.done - start_of (p.height + 1) p.done
-    lower_within = omega (arith, second_of p.height each above p.done moved.within, moved.counted)
+  module _ {whole source target : List T} (height k lower : ℕ) (each : HasEachPlace place whole) (above : IsInBlocks place whole (height + 1) source)
+      (moved : IsMoved place source target height k lower) (inside : k < length source) (e : T) (d : T) (read : get_or source k d ≡ e) where
+    pub lower_within : lower ≤ k - start_of (height + 1) k
+    lower_within = omega (arith, second_of height each above k moved.within, moved.counted)
 
     -- the entry's place is in the block at hand
-    in_start : (start_of (p.height + 1) p.done ≤ place e) × (place e < start_of (p.height + 1) p.done + 2 ^ p.height + 2 ^ p.height)
+    in_start : (start_of (height + 1) k ≤ place e) × (place e < start_of (height + 1) k + 2 ^ height + 2 ^ height)
     in_start =
-        let own : start_of (p.height + 1) (place e) ≡ start_of (p.height + 1) p.done =
-        subst (λ x. start_of (p.height + 1) (place x) ≡ start_of (p.height + 1) p.done) read (own_block above p.done d inside) in
-        (omega (arith, own, start_of-le (p.height + 1) (place e)), omega (arith, own, start_of-above (p.height + 1) (place e), pow_next p.height))
+        let own : start_of (height + 1) (place e) ≡ start_of (height + 1) k =
+        subst (λ x. start_of (height + 1) (place x) ≡ start_of (height + 1) k) read (own_block above k d inside) in
+        (omega (arith, own, start_of-le (height + 1) (place e)), omega (arith, own, start_of-above (height + 1) (place e), pow_next height))
 
-    target_is : (place e < start_of (p.height + 1) p.done + 2 ^ p.height) ⊎ (start_of (p.height + 1) p.done + 2 ^ p.height ≤ place e)
-        → (home : ℕ) × IsMultiple home p.height × (home ≤ place e) × (place e < home + 2 ^ p.height)
-        × (target_of p (place e) ≡ home + length (block_of place p.height home (take p.done source)))
+    target_is : (place e < start_of (height + 1) k + 2 ^ height) ⊎ (start_of (height + 1) k + 2 ^ height ≤ place e)
+        → (home : ℕ) × IsMultiple home height × (home ≤ place e) × (place e < home + 2 ^ height)
+        × (target_of height k lower (place e) ≡ home + length (block_of place height home (take k source)))
     target_is (inl low) = (
-      start_of (p.height + 1) p.done,
-      first_half (start_of (p.height + 1) p.done) p.height (start_of-multiple (p.height + 1) p.done),
+      start_of (height + 1) k,
+      first_half (start_of (height + 1) k) height (start_of-multiple (height + 1) k),
       in_start.0,
       low,
-      cond-true _ _ _ (lt-ltb _ _ low) ∙ ap (λ n. start_of (p.height + 1) p.done + n) moved.counted,
+      cond-true _ _ _ (lt-ltb _ _ low) ∙ ap (λ n. start_of (height + 1) k + n) moved.counted,
     )
     target_is (inr high) = (
-      start_of (p.height + 1) p.done + 2 ^ p.height,
-      second_half (start_of (p.height + 1) p.done) p.height (start_of-multiple (p.height + 1) p.done),
+      start_of (height + 1) k + 2 ^ height,
+      second_half (start_of (height + 1) k) height (start_of-multiple (height + 1) k),
       high,
       in_start.1,
-      cond-false _ _ _ (le-ltb _ _ high) ∙ ap (λ n. start_of (p.height + 1) p.done + 2 ^ p.height + n)
-          (let rest : p.done - start_of (p.height + 1) p.done - p.lower ≡ length (block_of place p.height (start_of (p.height + 1) p.done + 2 ^ p.height) (take p.done source)) =
-          omega (arith, second_of p.height each above p.done moved.within, moved.counted) in rest),
+      cond-false _ _ _ (le-ltb _ _ high) ∙ ap (λ n. start_of (height + 1) k + 2 ^ height + n)
+          (let rest : k - start_of (height + 1) k - lower ≡ length (block_of place height (start_of (height + 1) k + 2 ^ height) (take k source)) =
+          omega (arith, second_of height each above k moved.within, moved.counted) in rest),
     )
 
-    lower_is : (start_of (p.height + 1) (p.done + 1) ≡ p.done + 1) ⊎ (start_of (p.height + 1) (p.done + 1) ≡ p.done + 1 → ⊥)
-        → lower_after p (place e) ≡ length (block_of place p.height (start_of (p.height + 1) (p.done + 1)) (take (p.done + 1) source))
-    lower_is (inl ends) = cond-true _ _ _ (eq-eqb _ _ ends) ∙ omega (arith, second_of p.height each above (p.done + 1) (omega arith), ends)
+    lower_is : (start_of (height + 1) (k + 1) ≡ k + 1) ⊎ (start_of (height + 1) (k + 1) ≡ k + 1 → ⊥)
+        → lower_after height k lower (place e) ≡ length (block_of place height (start_of (height + 1) (k + 1)) (take (k + 1) source))
+    lower_is (inl ends) = cond-true _ _ _ (eq-eqb _ _ ends) ∙ omega (arith, second_of height each above (k + 1) (omega arith), ends)
     lower_is (inr goes_on) =
-        let low = start_of-le (p.height + 1) (p.done + 1) in
-        let high = start_of-above (p.height + 1) (p.done + 1) in
-        let same : start_of (p.height + 1) p.done ≡ start_of (p.height + 1) (p.done + 1) =
-        start_of_is p.done (start_of-multiple (p.height + 1) (p.done + 1)) (omega (arith, goes_on)) (omega arith) in
-        let old = block_of place p.height (start_of (p.height + 1) p.done) (take p.done source) in
-        let grown : block_of place p.height (start_of (p.height + 1) p.done) (take (p.done + 1) source)
-        ≡ old ++ cond (is_in_block place p.height (start_of (p.height + 1) p.done) e) (e ∷ []) [] =
-        filter_more (is_in_block place p.height (start_of (p.height + 1) p.done)) source p.done d inside
-        ∙ ap (λ x. old ++ cond (is_in_block place p.height (start_of (p.height + 1) p.done) x) (x ∷ []) []) read in
+        let low = start_of-le (height + 1) (k + 1) in
+        let high = start_of-above (height + 1) (k + 1) in
+        let same : start_of (height + 1) k ≡ start_of (height + 1) (k + 1) =
+        start_of_is k (start_of-multiple (height + 1) (k + 1)) (omega (arith, goes_on)) (omega arith) in
+        let old = block_of place height (start_of (height + 1) k) (take k source) in
+        let grown : block_of place height (start_of (height + 1) k) (take (k + 1) source)
+        ≡ old ++ cond (is_in_block place height (start_of (height + 1) k) e) (e ∷ []) [] =
+        filter_more (is_in_block place height (start_of (height + 1) k)) source k d inside
+        ∙ ap (λ x. old ++ cond (is_in_block place height (start_of (height + 1) k) x) (x ∷ []) []) read in
         cond-false _ _ _ (ne_eqb _ _ goes_on)
-        ∙ elim (cases_lt (place e) (start_of (p.height + 1) p.done + 2 ^ p.height)) [
+        ∙ elim (cases_lt (place e) (start_of (height + 1) k + 2 ^ height)) [
           | inl first ↦
               cond-true _ _ _ (lt-ltb _ _ first) ∙ ap (λ n. n + 1) moved.counted ∙ sym (length-append old (e ∷ []))
-              ∙ ap (λ b. length (old ++ cond b (e ∷ []) [])) (sym (in_block p.height (start_of (p.height + 1) p.done) e in_start.0 first))
+              ∙ ap (λ b. length (old ++ cond b (e ∷ []) [])) (sym (in_block height (start_of (height + 1) k) e in_start.0 first))
           | inr second ↦
               cond-false _ _ _ (le-ltb _ _ second) ∙ moved.counted ∙ ap length (sym (append-nil old))
-              ∙ ap (λ b. length (old ++ cond b (e ∷ []) [])) (sym (not_in_block p.height (start_of (p.height + 1) p.done) e (inr second)))
+              ∙ ap (λ b. length (old ++ cond b (e ∷ []) [])) (sym (not_in_block height (start_of (height + 1) k) e (inr second)))
         ]
-        ∙ ap length (sym grown) ∙ ap (λ s. length (block_of place p.height s (take (p.done + 1) source))) same
+        ∙ ap length (sym grown) ∙ ap (λ s. length (block_of place height s (take (k + 1) source))) same
 
-    target_within : target_of p (place e) < length source
+    pub target_within : target_of height k lower (place e) < length source
     target_within =
-        let goes = target_is (cases_lt (place e) (start_of (p.height + 1) p.done + 2 ^ p.height)) in
-        omega (arith, goes.4, has_room p.height each above moved inside e d read goes.0 goes.1 goes.2 goes.3, above.as_many)
+        let goes = target_is (cases_lt (place e) (start_of (height + 1) k + 2 ^ height)) in
+        omega (arith, goes.4, has_room height each above moved inside e d read goes.0 goes.1 goes.2 goes.3, above.as_many)
 
-    IsMoved-next : IsMoved place source (set target (target_of p (place e)) e) p.height (p.done + 1) (lower_after p (place e))
+    -- the entry was written there
+    pub IsMoved-next : IsMoved place source (set target (target_of height k lower (place e)) e) height (k + 1) (lower_after height k lower (place e))
     IsMoved-next =
-        let goes = target_is (cases_lt (place e) (start_of (p.height + 1) p.done + 2 ^ p.height)) in
+        let goes = target_is (cases_lt (place e) (start_of (height + 1) k + 2 ^ height)) in
         record {
-          long = length-set target (target_of p (place e)) e ∙ moved.long;
+          long = length-set target (target_of height k lower (place e)) e ∙ moved.long;
           within = omega arith;
-          moved = moved_next p.height each above moved inside e d read goes.0 goes.1 goes.2 goes.3 (target_of p (place e)) goes.4;
-          counted = lower_is (cases_eq (start_of (p.height + 1) (p.done + 1)) (p.done + 1));
+          moved = moved_next height each above moved inside e d read goes.0 goes.1 goes.2 goes.3 (target_of height k lower (place e)) goes.4;
+          counted = lower_is (cases_eq (start_of (height + 1) (k + 1)) (k + 1));
         }
-
-  -- ---- in one list of rows
-  module _ {rows : List T} {p : Partition} (now : IsPartitioning place rows p) (more : p.done < p.len) (e : T) (read : e ≡ get_or rows (p.source + p.done) e) where
-    long_source : length (slice_range rows p.source (p.source + p.len)) ≡ p.len
-    long_source = omega (arith, length-slice_range rows p.source (p.source + p.len) (omega arith) (omega (arith, now.room)))
-
-    read_source : get_or (slice_range rows p.source (p.source + p.len)) p.done e ≡ e
-    read_source = get_or-slice_range rows p.source (p.source + p.len) p.done e (omega arith) ∙ sym read
-
-    pub lower_few : p.lower ≤ p.done - start_of (p.height + 1) p.done
-    lower_few = lower_within p now.each_place now.above now.below (omega (arith, long_source)) e e read_source
-
-    pub target_few : target_of p (place e) < p.len
-    target_few = omega (arith, target_within p now.each_place now.above now.below (omega (arith, long_source)) e e read_source, long_source)
-
-    pub IsPartitioning-next : IsPartitioning place (set rows (p.source + p.len + target_of p (place e)) e) (record p { done = p.done + 1; lower = lower_after p (place e) })
-    IsPartitioning-next =
-        let j = target_of p (place e) in
-        let written = set rows (p.source + p.len + j) e in
-        let top : take p.len written ≡ take p.len rows = take-set-le p.len rows (p.source + p.len + j) e (omega arith) in
-        let split : p.source + (p.len + j) ≡ p.source + p.len + j = omega arith in
-        let source : slice_range written p.source (p.source + p.len) ≡ slice_range rows p.source (p.source + p.len) =
-        ap (λ i. take (p.source + p.len - p.source) (drop p.source (set rows i e))) (sym split)
-        ∙ ap (take (p.source + p.len - p.source)) (drop-set-add p.source rows (p.len + j) e)
-        ∙ take-set-le (p.source + p.len - p.source) (drop p.source rows) (p.len + j) e (omega arith) in
-        let target : slice_range written (p.source + p.len) (p.source + 2 * p.len) ≡ set (slice_range rows (p.source + p.len) (p.source + 2 * p.len)) j e =
-        slice_range-set rows (p.source + p.len) (p.source + 2 * p.len) j e (omega (arith, target_few)) in
-        let moved = IsMoved-next p now.each_place now.above now.below (omega (arith, long_source)) e e read_source in
-        record {
-          small = now.small;
-          room = omega (arith, now.room, length-set rows (p.source + p.len + j) e);
-          each_place = subst (HasEachPlace place) (sym top) now.each_place;
-          above = subst (λ l. IsInBlocks place l (p.height + 1) (slice_range written p.source (p.source + p.len))) (sym top)
-              (subst (IsInBlocks place (take p.len rows) (p.height + 1)) (sym source) now.above);
-          below = subst (λ l. IsMoved place l (slice_range written (p.source + p.len) (p.source + 2 * p.len)) p.height (p.done + 1) (lower_after p (place e))) (sym source)
-              (subst (λ l. IsMoved place (slice_range rows p.source (p.source + p.len)) l p.height (p.done + 1) (lower_after p (place e))) (sym target) moved);
-        }
-
-  -- nothing of the row was moved yet
-  pub IsPartitioning-begin : (rows : List T) (p : Partition) → p.height < 63 → p.source + 2 * p.len ≤ length rows → HasEachPlace place (take p.len rows)
-      → IsInBlocks place (take p.len rows) (p.height + 1) (slice_range rows p.source (p.source + p.len)) → p.done ≡ 0 → p.lower ≡ 0 → IsPartitioning place rows p
-  IsPartitioning-begin rows p small room each above none_done none_lower =
-      let source = slice_range rows p.source (p.source + p.len) in
-      let target = slice_range rows (p.source + p.len) (p.source + 2 * p.len) in
-      let long : length target ≡ length source =
-      omega (arith, length-slice_range rows p.source (p.source + p.len) (omega arith) (omega arith), length-slice_range rows (p.source + p.len) (p.source + 2 * p.len) (omega arith) room) in
-      record {
-        small = small;
-        room = room;
-        each_place = each;
-        above = above;
-        below = subst (λ k. IsMoved place source target p.height k p.lower) (sym none_done)
-            (subst (IsMoved place source target p.height 0) (sym none_lower) (IsMoved-begin p.height each above target long));
-      }
-
-  -- all of the row was moved: the next row has its blocks
-  pub IsInBlocks-partitioned : {rows : List T} {p : Partition} → IsPartitioning place rows p → p.done ≡ p.len
-      → IsInBlocks place (take p.len rows) p.height (slice_range rows (p.source + p.len) (p.source + 2 * p.len))
-  IsInBlocks-partitioned {rows} {p} now all =
-      IsInBlocks-moved p.height now.each_place now.above now.below
-      (omega (arith, length-slice_range rows p.source (p.source + p.len) (omega arith) (omega (arith, now.room))))

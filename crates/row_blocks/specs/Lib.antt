@@ -1,4 +1,3 @@
 pub mod Blocks
 pub mod Heights
-pub mod Search
 pub mod Partitions

@@ -1,9 +1,8 @@
--- Rows in blocks, and the stable partition of a row into the next one.
-use Rattle.std.specs.Prelude.{◌≡◌, ℕ, ◌==◌, ◌+◌, ◌-◌, ◌*◌, ◌^◌, ◌<◌, ◌≤◌, ◌&&◌, Bool, nat_lt, nat_le, if◌then◌else◌, List, length, map, min, take, drop, filter, slice_range}
+-- Rows in blocks, and the stable partition of a row into the next one, in which each entry goes into the half of its block that has its place.
+use Rattle.std.specs.Prelude.{◌≡◌, ℕ, ◌==◌, ◌+◌, ◌-◌, ◌^◌, ◌<◌, ◌≤◌, ◌&&◌, Bool, nat_lt, nat_le, if◌then◌else◌, List, length, map, min, take, drop, filter, slice_range}
 use Rattle.std.specs.List.{range_with_len}
 use Rattle.query_laws.specs.Permuted.{Permuted}
 use Rattle.row_blocks.specs.Blocks.{IsMultiple, start_of}
-use Rattle.row_blocks.specs.declared.partition.Partition.{Partition}
 
 module _ {T : Type 0} (place : T → ℕ) where
   -- the entry's place is in the block of this height that begins here
@@ -33,22 +32,13 @@ module _ {T : Type 0} (place : T → ℕ) where
         → take (length (block_of height start (take k source))) (drop start target) ≡ block_of height start (take k source)
     pub counted : lower ≡ length (block_of height (start_of (height + 1) k) (take k source))
 
-  -- how far the rows are partitioned: the first of them is the list whose blocks the others have
-  pub record IsPartitioning (rows : List T) (p : Partition) : Type 0 where
-    pub small : p.height < 63
-    pub room : p.source + 2 * p.len ≤ length rows
-    pub each_place : HasEachPlace (take p.len rows)
-    pub above : IsInBlocks (take p.len rows) (p.height + 1) (slice_range rows p.source (p.source + p.len))
-    pub below : IsMoved (slice_range rows p.source (p.source + p.len)) (slice_range rows (p.source + p.len) (p.source + 2 * p.len)) p.height p.done p.lower
-
--- where an entry with this place goes in the next row: into its half, behind those that are there
-abbrev pub target_of : Partition → ℕ → ℕ
-target_of p place =
-    let start = start_of (p.height + 1) p.done in
-    if nat_lt place (start + 2 ^ p.height) then start + p.lower else start + 2 ^ p.height + (p.done - start - p.lower)
+-- where the entry at k goes in the next row, by its place: into its half, behind those that are there, `lower` of them in the first half
+abbrev pub target_of : (height k lower place : ℕ) → ℕ
+target_of height k lower place =
+    let start = start_of (height + 1) k in
+    if nat_lt place (start + 2 ^ height) then start + lower else start + 2 ^ height + (k - start - lower)
 
 -- how many are in the first half of the block at hand afterwards: none where the next entry begins a block
-abbrev pub lower_after : Partition → ℕ → ℕ
-lower_after p place =
-    if start_of (p.height + 1) (p.done + 1) == p.done + 1 then 0
-    else if nat_lt place (start_of (p.height + 1) p.done + 2 ^ p.height) then p.lower + 1 else p.lower
+abbrev pub lower_after : (height k lower place : ℕ) → ℕ
+lower_after height k lower place =
+    if start_of (height + 1) (k + 1) == k + 1 then 0 else if nat_lt place (start_of (height + 1) k + 2 ^ height) then lower + 1 else lower

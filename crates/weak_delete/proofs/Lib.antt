@@ -1,4 +1,5 @@
 mod Descents
 pub mod Nodes
+mod Opened
 pub mod Packing
 pub mod Winners

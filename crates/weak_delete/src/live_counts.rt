@@ -140,14 +140,6 @@ impl LiveCounts {
         self.len
     }
 
-    /// Whether no place was put. It counts nothing.
-    #[inline]
-    pub fn is_empty(&self) -> bool
-        ensures { IsTrue result ↔ (self.now.places ≡ []) }
-    {
-        self.len == 0
-    }
-
     /// Whether no more places come. It counts nothing.
     #[inline]
     pub fn is_sealed(&self) -> bool
@@ -323,23 +315,6 @@ impl LiveCounts {
         }
         let before = self.between(0, k / WIDTH, steps).count;
         before as u64 + self.live_before(k, steps) as u64
-    }
-
-    /// The weight of the live places below `k`, which never wraps: at most `h + 1` touches, where there are at most `2^h` places.
-    pub fn sum_prefix<L: Ledger>(&self, k: usize, steps: &mut Steps<L>) -> u64
-        requires built { IsBuilt self.now }
-        requires within { k ≤ length self.now.places }
-        ensures sum { result ≡ sum_by live_amount (take k self.now.places) }
-        ensures cost { (h : ℕ) → length self.now.places ≤ 2 ^ h → Spends steps.old steps.new 0 0 (h + 1) }
-    {
-        if k == self.len {
-            return self.total.weight;
-        }
-        if k == 0 {
-            return 0;
-        }
-        let before = self.between(0, k / WIDTH, steps).weight;
-        before + self.weight_before(k, steps)
     }
 
     /// The number of live places from `from` on and below `to`: no touch where all places are live, and else at most

@@ -167,14 +167,6 @@ impl LiveMax {
         self.places.len()
     }
 
-    /// Whether no place was put. It counts nothing.
-    #[inline]
-    pub fn is_empty(&self) -> bool
-        ensures { IsTrue result ↔ (self.now.places ≡ []) }
-    {
-        self.places.is_empty()
-    }
-
     /// Whether no more places come. It counts nothing.
     #[inline]
     pub fn is_sealed(&self) -> bool

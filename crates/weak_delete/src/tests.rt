@@ -31,12 +31,12 @@ fn counts_of<L: Ledger>(
     Ok(counts)
 }
 
-/// Counts and sums over four places of which the second is cleared, and the live places by rank; and whether there is no place
-/// before and after a reset.
+/// Counts and sums over four places of which the second is cleared, and the live places by rank; and how many places
+/// there are before and after a reset.
 fn counted<L: Ledger>(
     alloc: Global,
     blank: Blank,
-) -> Result<([u64; 8], [Option<usize>; 2], [bool; 2]), NoMemory>
+) -> Result<([u64; 8], [Option<usize>; 2], [usize; 2]), NoMemory>
     requires name { blank.name ≡ L.name }
     requires parts { blank.parts ≡ L.parts }
     requires shares { blank.parts ≡ SHARES }
@@ -49,7 +49,7 @@ fn counted<L: Ledger>(
     counts.clear(1, &mut steps);
     let numbers = [
         counts.prefix(4, &mut steps),
-        counts.sum_prefix(4, &mut steps),
+        counts.sum_in(0, 4, &mut steps),
         counts.prefix(2, &mut steps),
         turns,
         steps.lap_turns(),
@@ -61,17 +61,17 @@ fn counted<L: Ledger>(
         counts.kth_live(1, &mut steps),
         counts.kth_live(3, &mut steps),
     ];
-    let some = counts.is_empty();
+    let some = counts.len();
     counts.reset();
-    Ok((numbers, ranks, [some, counts.is_empty()]))
+    Ok((numbers, ranks, [some, counts.len()]))
 }
 
 #[test]
 fn counts_what_is_live(rt: HostRuntime) -> Result<(), Fail> {
-    let (numbers, ranks, empty) = counted::<Brand>(rt.alloc(), blank())?;
+    let (numbers, ranks, lengths) = counted::<Brand>(rt.alloc(), blank())?;
     assert_eq!(rt; numbers, [3, 20, 1, 8, 0, 2, 1, 15]);
     assert_eq!(rt; ranks, [Some(2), None]);
-    assert_eq!(rt; empty, [false, true]);
+    assert_eq!(rt; lengths, [4, 0]);
     Ok(())
 }
 
@@ -96,12 +96,12 @@ fn most_of<L: Ledger>(
     Ok(most)
 }
 
-/// The next of four places with a value of 9 and of 5, before and after the second is cleared; and whether there is no place
+/// The next of four places with a value of 9 and of 5, before and after the second is cleared; and how many places there are
 /// before and after a reset.
 fn sought<L: Ledger>(
     alloc: Global,
     blank: Blank,
-) -> Result<([Option<usize>; 3], u64, [bool; 2]), NoMemory>
+) -> Result<([Option<usize>; 3], u64, [usize; 2]), NoMemory>
     requires name { blank.name ≡ L.name }
     requires parts { blank.parts ≡ L.parts }
     requires shares { blank.parts ≡ SHARES }
@@ -112,17 +112,17 @@ fn sought<L: Ledger>(
     most.clear(1, &mut steps);
     let after = most.next_at_least(0, 4, 9, &mut steps);
     let none = most.next_at_least(0, 3, 5, &mut steps);
-    let some = most.is_empty();
+    let some = most.len();
     most.reset();
-    let empty = [some, most.is_empty()];
-    Ok(([before, after, none], steps.lap_turns(), empty))
+    let lengths = [some, most.len()];
+    Ok(([before, after, none], steps.lap_turns(), lengths))
 }
 
 #[test]
 fn finds_the_next_large_one(rt: HostRuntime) -> Result<(), Fail> {
-    let (found, turns, empty) = sought::<Brand>(rt.alloc(), blank())?;
+    let (found, turns, lengths) = sought::<Brand>(rt.alloc(), blank())?;
     assert_eq!(rt; found, [Some(1), Some(3), None]);
     assert_eq!(rt; turns, 7);
-    assert_eq!(rt; empty, [false, true]);
+    assert_eq!(rt; lengths, [4, 0]);
     Ok(())
 }

@@ -12,27 +12,28 @@ use Rattle.weak_delete.specs.Places.{LivePlaces, IsLive, cleared, no_place}
 use Rattle.weak_delete.specs.Packed.{packed}
 use Rattle.weak_delete.specs.Fenwick.{AreNodes, IsFenwick, IsOver, entries_for}
 use Rattle.weak_delete.proofs.Nodes.{IsClearing, IsClearing-begin, IsClearing-second, IsClearing-first, IsClearing-cut, IsClearing-end, IsClearing-node, IsOver-cleared-inside, node-of-live, sum-cleared-le, live_within, unturned-none}
-use Rattle.weak_delete.proofs.Packing.{length-packed, get_or-packed, packed-cleared}
+use Rattle.weak_delete.proofs.Packing.{get_or-packed, packed-cleared}
+use Rattle.weak_delete.proofs.Opened.{opened, IsOpened, places_of}
 use Rattle.weak_delete.proofs.live_counts.LiveCounts.clear.Goals as goal
 
 pub at-weights-requires : goal.at-weights-requires
 at-weights-requires g c =
+    let o = opened c.self.inside c.args.self.now c.self.view_is in
     let kept = c.self.invariant in
-    let count = length-packed c.self.inside.weights.items c.self.inside.masks.items c.self.inside.len in
-    let places = ap (λ (s : LivePlaces). s.places) c.self.view_is in
-    omega (arith, live_within c.args.self.now.places c.args.k c.requires.live, ap length places, count, kept.node_each, kept.weights_each)
+    omega (arith, live_within c.args.self.now.places c.args.k c.requires.live, o.long, kept.node_each, kept.weights_each)
 
 -- the place that is taken out, as its entry has it
-amount_of : (s : LivePlaces) (weights : Entries (List ℕ)) (masks : List ℕ) (n k : ℕ) (entry : List ℕ) → packed weights.items masks n ≡ s.places → IsLive s.places k
-    → length weights.items ≡ entries_for n → entry ≡ get_or weights.items (k / 16) entry
-    → IsLive (packed weights.items masks n) k × (k < n) × (get_or entry (k % 16) 0 ≡ (get_or (packed weights.items masks n) k no_place).amount)
-amount_of s weights masks n k entry places live as_many read =
-    let here : IsLive (packed weights.items masks n) k = subst (λ (ps : List Place). IsLive ps k) (sym places) live in
-    let within : k < n = omega (arith, live_within (packed weights.items masks n) k here, length-packed weights.items masks n) in
-    let is : get_or weights.items (k / 16) [] ≡ entry = sym (get_or_read weights.items (k / 16) entry (omega arith) read []) in (
+taken_of : (inside : Inside) (s : LivePlaces) (k : ℕ) (entry : List ℕ) → IsOpened inside s → IsLive s.places k → length inside.weights.items ≡ entries_for inside.len
+    → entry ≡ get_or inside.weights.items (k / 16) entry
+    → IsLive (places_of inside) k × (k < inside.len) × (get_or entry (k % 16) 0 ≡ (get_or (places_of inside) k no_place).amount)
+taken_of inside s k entry o live as_many read =
+    let here : IsLive (places_of inside) k = subst (λ (ps : List Place). IsLive ps k) (sym o.places) live in
+    let within : k < inside.len = omega (arith, live_within (places_of inside) k here, o.count) in
+    let is : get_or inside.weights.items (k / 16) [] ≡ entry = sym (get_or_read inside.weights.items (k / 16) entry (omega arith) read []) in (
       here,
       within,
-      ap (λ (e : List ℕ). get_or e (k % 16) 0) (sym is) ∙ sym (ap (λ (p : Place). p.amount) (get_or-packed weights.items masks n k no_place within)),
+      ap (λ (e : List ℕ). get_or e (k % 16) 0) (sym is)
+          ∙ sym (ap (λ (p : Place). p.amount) (get_or-packed inside.weights.items inside.masks.items inside.len k no_place within)),
     )
 
 -- the places afterwards
@@ -51,14 +52,13 @@ places_cleared weights weights' masks masks' written n n' k mask without same sa
 
 pub loop-height-init : goal.loop-height-init
 loop-height-init g c =
+    let o = opened c.self.inside c.args.self.now c.self.view_is in
     let kept = c.self.invariant in
-    let count = length-packed c.self.inside.weights.items c.self.inside.masks.items c.self.inside.len in
-    let places = ap (λ (s : LivePlaces). s.places) c.self.view_is in
     let inside = c.self.inside in
-    let old = packed inside.weights.items inside.masks.items inside.len in
-    let taken = amount_of c.args.self.now inside.weights inside.masks.items inside.len c.args.k c.at-weights.result places c.requires.live (kept.weights_each ∙ kept.node_each) c.at-weights.ensures.read_or in
-    let sealed : inside.sealed ≡ true = ap (λ (s : LivePlaces). s.sealed) c.self.view_is ∙ c.requires.built.sealed in
-    let none : inside.unturned ≡ 0 = unturned-none _ _ _ (ap (λ (s : LivePlaces). s.left) c.self.view_is) sealed c.requires.built.turned in
+    let old = places_of inside in
+    let taken = taken_of c.self.inside c.args.self.now c.args.k c.at-weights.result o c.requires.live (kept.weights_each ∙ kept.node_each) c.at-weights.ensures.read_or in
+    let sealed : inside.sealed ≡ true = o.sealed ∙ c.requires.built.sealed in
+    let none : inside.unturned ≡ 0 = unturned-none _ _ _ o.left sealed c.requires.built.turned in
     let built : AreNodes old inside.nodes.items 0 = subst (AreNodes old inside.nodes.items) (let no : entries_for inside.unturned ≡ 0 = omega arith in no) kept.nodes_over in
     record {
       block = zero_multiple c.height_above-height.result;
@@ -75,12 +75,9 @@ loop-height-init g c =
 
 pub loop-height-preserved-then-end-entry : goal.loop-height-preserved-then-end-entry
 loop-height-preserved-then-end-entry g c =
+    let o = opened c.self.inside c.args.self.now c.self.view_is in
     let kept = c.self.invariant in
-    let count = length-packed c.self.inside.weights.items c.self.inside.masks.items c.self.inside.len in
-    let places = ap (λ (s : LivePlaces). s.places) c.self.view_is in
-    let inside = c.self.inside in
-    let old = packed inside.weights.items inside.masks.items inside.len in
-    let taken = amount_of c.args.self.now inside.weights inside.masks.items inside.len c.args.k c.at-weights.result places c.requires.live (kept.weights_each ∙ kept.node_each) c.at-weights.ensures.read_or in
+    let taken = taken_of c.self.inside c.args.self.now c.args.k c.at-weights.result o c.requires.live (kept.weights_each ∙ kept.node_each) c.at-weights.ensures.read_or in
     let now = c.loop-height.invariant in
     let block = halved _ _ _ now.block c.loop-height-test.true (omega arith) c.block_len.ensures in
     record {
@@ -98,12 +95,9 @@ loop-height-preserved-then-end-entry g c =
 
 pub overflow_sub-node : goal.overflow_sub-node
 overflow_sub-node g c =
+    let o = opened c.self.inside c.args.self.now c.self.view_is in
     let kept = c.self.invariant in
-    let count = length-packed c.self.inside.weights.items c.self.inside.masks.items c.self.inside.len in
-    let places = ap (λ (s : LivePlaces). s.places) c.self.view_is in
-    let inside = c.self.inside in
-    let old = packed inside.weights.items inside.masks.items inside.len in
-    let taken = amount_of c.args.self.now inside.weights inside.masks.items inside.len c.args.k c.at-weights.result places c.requires.live (kept.weights_each ∙ kept.node_each) c.at-weights.ensures.read_or in
+    let taken = taken_of c.self.inside c.args.self.now c.args.k c.at-weights.result o c.requires.live (kept.weights_each ∙ kept.node_each) c.at-weights.ensures.read_or in
     let now = c.loop-height.invariant in
     let block = halved _ _ _ now.block c.loop-height-test.true (omega arith) c.block_len.ensures in
     let over = IsClearing-node _ now.clearing block (omega arith) c.at-node.ensures.read_or in
@@ -111,12 +105,9 @@ overflow_sub-node g c =
 
 pub overflow_sub-node-then-end-entries : goal.overflow_sub-node-then-end-entries
 overflow_sub-node-then-end-entries g c =
+    let o = opened c.self.inside c.args.self.now c.self.view_is in
     let kept = c.self.invariant in
-    let count = length-packed c.self.inside.weights.items c.self.inside.masks.items c.self.inside.len in
-    let places = ap (λ (s : LivePlaces). s.places) c.self.view_is in
-    let inside = c.self.inside in
-    let old = packed inside.weights.items inside.masks.items inside.len in
-    let taken = amount_of c.args.self.now inside.weights inside.masks.items inside.len c.args.k c.at-weights.result places c.requires.live (kept.weights_each ∙ kept.node_each) c.at-weights.ensures.read_or in
+    let taken = taken_of c.self.inside c.args.self.now c.args.k c.at-weights.result o c.requires.live (kept.weights_each ∙ kept.node_each) c.at-weights.ensures.read_or in
     let now = c.loop-height.invariant in
     let block = halved _ _ _ now.block c.loop-height-test.true (omega arith) c.block_len.ensures in
     let over = IsClearing-node _ now.clearing block (omega arith) c.at-node.ensures.read_or in
@@ -124,12 +115,11 @@ overflow_sub-node-then-end-entries g c =
 
 pub loop-height-preserved-then-end-entries : goal.loop-height-preserved-then-end-entries
 loop-height-preserved-then-end-entries g c =
+    let o = opened c.self.inside c.args.self.now c.self.view_is in
     let kept = c.self.invariant in
-    let count = length-packed c.self.inside.weights.items c.self.inside.masks.items c.self.inside.len in
-    let places = ap (λ (s : LivePlaces). s.places) c.self.view_is in
     let inside = c.self.inside in
-    let old = packed inside.weights.items inside.masks.items inside.len in
-    let taken = amount_of c.args.self.now inside.weights inside.masks.items inside.len c.args.k c.at-weights.result places c.requires.live (kept.weights_each ∙ kept.node_each) c.at-weights.ensures.read_or in
+    let old = places_of inside in
+    let taken = taken_of c.self.inside c.args.self.now c.args.k c.at-weights.result o c.requires.live (kept.weights_each ∙ kept.node_each) c.at-weights.ensures.read_or in
     let now = c.loop-height.invariant in
     let block = halved _ _ _ now.block c.loop-height-test.true (omega arith) c.block_len.ensures in
     let over = IsClearing-node _ now.clearing block (omega arith) c.at-node.ensures.read_or in
@@ -172,50 +162,45 @@ loop-height-preserved g c =
 
 pub overflow_sub-self : goal.overflow_sub-self
 overflow_sub-self g c =
+    let o = opened c.self.inside c.args.self.now c.self.view_is in
     let kept = c.self.invariant in
-    let count = length-packed c.self.inside.weights.items c.self.inside.masks.items c.self.inside.len in
-    let places = ap (λ (s : LivePlaces). s.places) c.self.view_is in
     let inside = c.self.inside in
-    let old = packed inside.weights.items inside.masks.items inside.len in
-    let taken = amount_of c.args.self.now inside.weights inside.masks.items inside.len c.args.k c.at-weights.result places c.requires.live (kept.weights_each ∙ kept.node_each) c.at-weights.ensures.read_or in
+    let old = places_of inside in
+    let taken = taken_of c.self.inside c.args.self.now c.args.k c.at-weights.result o c.requires.live (kept.weights_each ∙ kept.node_each) c.at-weights.ensures.read_or in
     let same = ap (λ (s : Inside). s.total.count) c.loop-height.invariant.kept in
     omega (arith, same, (node-of-live old c.args.k taken.0 0 inside.len inside.total (omega arith) taken.1 kept.total_over).0)
 
 pub overflow_sub-self-2 : goal.overflow_sub-self-2
 overflow_sub-self-2 g c =
+    let o = opened c.self.inside c.args.self.now c.self.view_is in
     let kept = c.self.invariant in
-    let count = length-packed c.self.inside.weights.items c.self.inside.masks.items c.self.inside.len in
-    let places = ap (λ (s : LivePlaces). s.places) c.self.view_is in
     let inside = c.self.inside in
-    let old = packed inside.weights.items inside.masks.items inside.len in
-    let taken = amount_of c.args.self.now inside.weights inside.masks.items inside.len c.args.k c.at-weights.result places c.requires.live (kept.weights_each ∙ kept.node_each) c.at-weights.ensures.read_or in
+    let old = places_of inside in
+    let taken = taken_of c.self.inside c.args.self.now c.args.k c.at-weights.result o c.requires.live (kept.weights_each ∙ kept.node_each) c.at-weights.ensures.read_or in
     let same = ap (λ (s : Inside). s.total.weight) c.loop-height.invariant.kept in
     omega (arith, same, taken.2, (node-of-live old c.args.k taken.0 0 inside.len inside.total (omega arith) taken.1 kept.total_over).1)
 
 pub at-mask-requires : goal.at-mask-requires
 at-mask-requires g c =
+    let o = opened c.self.inside c.args.self.now c.self.view_is in
     let kept = c.self.invariant in
-    let count = length-packed c.self.inside.weights.items c.self.inside.masks.items c.self.inside.len in
-    let places = ap (λ (s : LivePlaces). s.places) c.self.view_is in
     let same = ap (λ (s : Inside). length s.masks.items) c.loop-height.invariant.kept in
-    omega (arith, same, live_within c.args.self.now.places c.args.k c.requires.live, ap length places, count, kept.node_each, kept.mask_each)
+    omega (arith, same, live_within c.args.self.now.places c.args.k c.requires.live, o.long, kept.node_each, kept.mask_each)
 
 pub set-requires-2 : goal.set-requires-2
 set-requires-2 g c =
+    let o = opened c.self.inside c.args.self.now c.self.view_is in
     let kept = c.self.invariant in
-    let count = length-packed c.self.inside.weights.items c.self.inside.masks.items c.self.inside.len in
-    let places = ap (λ (s : LivePlaces). s.places) c.self.view_is in
     let same = ap (λ (s : Inside). length s.masks.items) c.loop-height.invariant.kept in
-    omega (arith, same, live_within c.args.self.now.places c.args.k c.requires.live, ap length places, count, kept.node_each, kept.mask_each)
+    omega (arith, same, live_within c.args.self.now.places c.args.k c.requires.live, o.long, kept.node_each, kept.mask_each)
 
 pub invariant_of-self : goal.invariant_of-self
 invariant_of-self g c =
+    let o = opened c.self.inside c.args.self.now c.self.view_is in
     let kept = c.self.invariant in
-    let count = length-packed c.self.inside.weights.items c.self.inside.masks.items c.self.inside.len in
-    let places = ap (λ (s : LivePlaces). s.places) c.self.view_is in
     let inside = c.self.inside in
-    let old = packed inside.weights.items inside.masks.items inside.len in
-    let taken = amount_of c.args.self.now inside.weights inside.masks.items inside.len c.args.k c.at-weights.result places c.requires.live (kept.weights_each ∙ kept.node_each) c.at-weights.ensures.read_or in
+    let old = places_of inside in
+    let taken = taken_of c.self.inside c.args.self.now c.args.k c.at-weights.result o c.requires.live (kept.weights_each ∙ kept.node_each) c.at-weights.ensures.read_or in
     let now = c.loop-height.invariant in
     let last = c.loop-height.self-inside in
     let after = places_cleared inside.weights last.weights inside.masks last.masks c.set-2.new.self inside.len last.len c.args.k c.at-mask.result c.without.result
@@ -228,8 +213,8 @@ invariant_of-self g c =
     let same_weight = ap (λ (s : Inside). s.total.weight) now.kept in
     let same_cap = ap (λ (s : Inside). s.cap) now.kept in
     let same_unturned = ap (λ (s : Inside). s.unturned) now.kept in
-    let sealed : last.sealed ≡ true = ap (λ (s : Inside). s.sealed) now.kept ∙ ap (λ (s : LivePlaces). s.sealed) c.self.view_is ∙ c.requires.built.sealed in
-    let none : inside.unturned ≡ 0 = unturned-none _ _ _ (ap (λ (s : LivePlaces). s.left) c.self.view_is) (ap (λ (s : LivePlaces). s.sealed) c.self.view_is ∙ c.requires.built.sealed) c.requires.built.turned in
+    let sealed : last.sealed ≡ true = ap (λ (s : Inside). s.sealed) now.kept ∙ o.sealed ∙ c.requires.built.sealed in
+    let none : inside.unturned ≡ 0 = unturned-none _ _ _ o.left (o.sealed ∙ c.requires.built.sealed) c.requires.built.turned in
     let masks : length c.set-2.new.self.items ≡ length last.masks.items = ap (λ (r : Entries ℕ). length r.items) c.set-2.ensures.written ∙ length-set last.masks.items _ _ in
     let over : IsOver (cleared old c.args.k) 0 inside.len total =
     IsOver-cleared-inside old c.args.k taken.0 0 inside.len inside.total total (omega arith) taken.1 kept.total_over (omega (arith, of_live.0, same_count)) (omega (arith, of_live.1, same_weight, taken.2)) in
@@ -243,7 +228,7 @@ invariant_of-self g c =
       room_weights = omega (arith, ap (λ (s : Inside). s.weights.capacity) now.kept, same_cap, kept.room_weights);
       room_masks = omega (arith, ap (λ (r : Entries ℕ). r.capacity) c.set-2.ensures.written, ap (λ (s : Inside). s.masks.capacity) now.kept, same_cap, kept.room_masks);
       few = omega (arith, same_cap, kept.few);
-      small = omega (arith, same_len, ap (λ n. n * (2 ^ 32 - 1)) same_len, kept.small, sum-cleared-le old c.args.k (omega (arith, taken.1, count)));
+      small = omega (arith, same_len, ap (λ n. n * (2 ^ 32 - 1)) same_len, kept.small, sum-cleared-le old c.args.k (omega (arith, taken.1, o.count)));
       total_over = subst (λ n. IsOver (cleared old c.args.k) 0 n total) (sym same_len) over;
       unturned_within = omega (arith, same_len, same_unturned, kept.unturned_within);
       unsealed = λ e. absurd (both_ways last.sealed e sealed);
@@ -254,28 +239,25 @@ invariant_of-self g c =
 
 pub returns-clause-cleared : goal.returns-clause-cleared
 returns-clause-cleared g c =
+    let o = opened c.self.inside c.args.self.now c.self.view_is in
     let kept = c.self.invariant in
-    let count = length-packed c.self.inside.weights.items c.self.inside.masks.items c.self.inside.len in
-    let places = ap (λ (s : LivePlaces). s.places) c.self.view_is in
     let inside = c.self.inside in
-    let old = packed inside.weights.items inside.masks.items inside.len in
-    let taken = amount_of c.args.self.now inside.weights inside.masks.items inside.len c.args.k c.at-weights.result places c.requires.live (kept.weights_each ∙ kept.node_each) c.at-weights.ensures.read_or in
+    let taken = taken_of c.self.inside c.args.self.now c.args.k c.at-weights.result o c.requires.live (kept.weights_each ∙ kept.node_each) c.at-weights.ensures.read_or in
     let now = c.loop-height.invariant in
     let last = c.loop-height.self-inside in
     let after = places_cleared inside.weights last.weights inside.masks last.masks c.set-2.new.self inside.len last.len c.args.k c.at-mask.result c.without.result
     (ap (λ (s : Inside). s.weights) now.kept) (ap (λ (s : Inside). s.masks) now.kept) (ap (λ (s : Inside). s.len) now.kept) c.set-2.ensures.written taken.1
     (omega (arith, taken.1, kept.mask_each, kept.node_each)) c.at-mask.ensures.read_or c.without.ensures.dead c.without.ensures.others in
-    let left : cond last.sealed last.unturned 0 ≡ c.args.self.now.left = ap (λ (s : Inside). cond s.sealed s.unturned 0) now.kept ∙ ap (λ (s : LivePlaces). s.left) c.self.view_is in
-    ap₂ (λ (ps : List Place) n. record { places = ps; capacity = last.cap; sealed = last.sealed; left = n }) (after ∙ ap (λ (ps : List Place). cleared ps c.args.k) places) left
+    let left : cond last.sealed last.unturned 0 ≡ c.args.self.now.left = ap (λ (s : Inside). cond s.sealed s.unturned 0) now.kept ∙ o.left in
+    ap₂ (λ (ps : List Place) n. record { places = ps; capacity = last.cap; sealed = last.sealed; left = n }) (after ∙ ap (λ (ps : List Place). cleared ps c.args.k) o.places) left
     ∙ ap₂ (λ n b. record { places = cleared c.args.self.now.places c.args.k; capacity = n; sealed = b; left = c.args.self.now.left })
-    (ap (λ (s : Inside). s.cap) now.kept ∙ ap (λ (s : LivePlaces). s.capacity) c.self.view_is) (ap (λ (s : Inside). s.sealed) now.kept ∙ ap (λ (s : LivePlaces). s.sealed) c.self.view_is)
+    (ap (λ (s : Inside). s.cap) now.kept ∙ o.capacity) (ap (λ (s : Inside). s.sealed) now.kept ∙ o.sealed)
 
 pub returns-clause-cost : goal.returns-clause-cost
 returns-clause-cost g c h few =
+    let o = opened c.self.inside c.args.self.now c.self.view_is in
     let kept = c.self.invariant in
-    let count = length-packed c.self.inside.weights.items c.self.inside.masks.items c.self.inside.len in
-    let places = ap (λ (s : LivePlaces). s.places) c.self.view_is in
-    let low : c.height_above-height.result ≤ h + 1 = c.height_above-height.ensures.least h (omega (arith, ap length places, count, kept.node_each, c.len-entries.ensures.value)) in
+    let low : c.height_above-height.result ≤ h + 1 = c.height_above-height.ensures.least h (omega (arith, o.long, kept.node_each, c.len-entries.ensures.value)) in
     let one = subst (λ s. Spends c.args.steps.now s 0 0 1) (sym c.at-weights.ensures.touched) (Spends-one_touch c.args.steps.now) in
     let two = subst (λ s. Spends c.loop-height.steps s 0 0 1) (sym c.at-mask.ensures.touched) (Spends-one_touch c.loop-height.steps) in
     let three = subst (λ s. Spends c.at-mask.new.steps s 0 0 1) (sym c.set-2.ensures.touched) (Spends-one_touch c.at-mask.new.steps) in

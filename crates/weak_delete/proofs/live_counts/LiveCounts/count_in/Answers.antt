@@ -1,14 +1,14 @@
-use Rattle.std.proofs.Common.{◌≤◌, length, ap, arith}
-use Rattle.weak_delete.specs.Places.{LivePlaces}
+use Rattle.std.proofs.Common.{arith}
 use Rattle.weak_delete.proofs.Nodes.{live_one, live-front, sum_by-prefix-le}
-use Rattle.weak_delete.proofs.Packing.{length-packed}
+use Rattle.weak_delete.proofs.Opened.{opened}
 use Rattle.weak_delete.proofs.live_counts.LiveCounts.count_in.Goals as goal
 
 pub returns-then-self-clause-count : goal.returns-then-self-clause-count
 returns-then-self-clause-count g c =
+    let o = opened c.self.inside c.args.self.now c.self.view_is in
     let inside = c.self.inside in
     let front = live-front _ c.args.self.now.places inside.total inside.len c.self.invariant.total_over c.if-self.true
-    (length-packed inside.weights.items inside.masks.items inside.len) (ap (λ (s : LivePlaces). s.places) c.self.view_is) in
+    o.count o.places in
     omega (arith, c.requires.ordered, front c.args.from (omega (arith, c.requires.ordered, c.requires.within)), front c.args.to c.requires.within)
 
 pub overflow_sub-result-2 : goal.overflow_sub-result-2

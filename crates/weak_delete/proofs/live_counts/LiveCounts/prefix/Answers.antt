@@ -1,18 +1,18 @@
-use Rattle.std.proofs.Common.{◌/◌, ◌^◌, ◌<◌, ap, arith}
+use Rattle.std.proofs.Common.{◌/◌, ◌^◌, ◌<◌, arith}
 use Rattle.std.proofs.lemmas.Nat.{pow_pos}
 use Rattle.query_laws.proofs.Counting.{Spends-then, Spends-within}
-use Rattle.weak_delete.specs.Places.{LivePlaces}
 use Rattle.weak_delete.proofs.Nodes.{live-front}
-use Rattle.weak_delete.proofs.Packing.{length-packed}
+use Rattle.weak_delete.proofs.Opened.{opened}
 use Rattle.weak_delete.proofs.live_counts.LiveCounts.prefix.Goals as goal
 
 pub returns-then-self-clause-count : goal.returns-then-self-clause-count
 returns-then-self-clause-count g c =
+    let o = opened c.self.inside c.args.self.now c.self.view_is in
     let inside = c.self.inside in
     omega (
       arith,
       live-front _ c.args.self.now.places inside.total inside.len c.self.invariant.total_over c.if-self.true
-          (length-packed inside.weights.items inside.masks.items inside.len) (ap (λ (s : LivePlaces). s.places) c.self.view_is) c.args.k c.requires.within,
+          o.count o.places c.args.k c.requires.within,
     )
 
 pub returns-clause-cost : goal.returns-clause-cost
