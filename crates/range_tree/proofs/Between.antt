@@ -10,7 +10,7 @@ use Rattle.builder_trait.specs.Parts.{Contents}
 use Rattle.map_shapes.specs.declared.point.Point.{Point}
 use Rattle.map_shapes.specs.declared.rect.Rect.{Rect}
 use Rattle.map_shapes.specs.Questions.{is_in}
-use Rattle.range_tree.specs.Queries.{live_at, live_between, AbscissasBelow, AbscissasFrom}
+use Rattle.range_tree.specs.Queries.{live_at, live_between, AbscissasBelow, AbscissasAbove}
 
 -- the numbers from a on, cut in two
 range-split : (a m n : ℕ) → range_with_len a (m + n) ≡ range_with_len a m ++ range_with_len (a + m) n
@@ -107,7 +107,7 @@ live_between-all part flagged =
 is_in-below : (rect : Rect) (p : Point) → p.x < rect.x1 → is_in rect p ≡ false
 is_in-below rect p below = grind (arith, nat_tests)
 
-is_in-above : (rect : Rect) (p : Point) → rect.x2 + 1 ≤ p.x → is_in rect p ≡ false
+is_in-above : (rect : Rect) (p : Point) → rect.x2 < p.x → is_in rect p ≡ false
 is_in-above rect p above = grind (arith, nat_tests)
 
 -- so the rectangle has none of the places before those of its abscissas
@@ -117,14 +117,14 @@ none_before part rect from below =
     none_between (is_in rect) part.flags part.items 0 (from - 0) (λ k p low high at. is_in-below rect p (below k p (omega arith) at))
 
 -- and none behind them
-pub none_behind : (part : Contents Point) (rect : Rect) (to end : ℕ) → AbscissasFrom part.items to (rect.x2 + 1)
+pub none_behind : (part : Contents Point) (rect : Rect) (to end : ℕ) → AbscissasAbove part.items to rect.x2
     → filter (is_in rect) (live_between part to end) ≡ []
 none_behind part rect to end above =
     none_between (is_in rect) part.flags part.items to (end - to) (λ k p low high at. is_in-above rect p (above k p low at))
 
 -- so all live points of the rectangle are between two places
 pub live_in-all : (part : Contents Point) (rect : Rect) (from to : ℕ) → length part.flags ≡ length part.items
-    → from ≤ to → to ≤ length part.items → AbscissasBelow part.items from rect.x1 → AbscissasFrom part.items to (rect.x2 + 1)
+    → from ≤ to → to ≤ length part.items → AbscissasBelow part.items from rect.x1 → AbscissasAbove part.items to rect.x2
     → filter (is_in rect) (live_between part from to) ≡ filter (is_in rect) (items_where_true part.flags part.items)
 live_in-all part rect from to flagged ordered within below above =
     let whole : filter (is_in rect) (live_between part 0 (length part.items)) ≡ filter (is_in rect) (items_where_true part.flags part.items) =

@@ -27,7 +27,7 @@ use Rattle.range_tree.specs.declared.cover.Places.{Places}
 use Rattle.range_tree.specs.declared.tree.RangeTree.{RangeTree}
 use Rattle.row_blocks.specs.Heights.{height_of}
 use Rattle.range_tree.specs.Rows.{IsLevel, IsRow, IsBlock}
-use Rattle.range_tree.specs.Queries.{live_at, live_between, live_in_slice, live_in_span, live_in_places, IsSpan, HasRow, IsCover, AreWithinAbscissas, AbscissasBelow, AbscissasFrom, IsTaken}
+use Rattle.range_tree.specs.Queries.{live_at, live_between, live_in_slice, live_in_span, live_in_places, IsSpan, HasRow, IsCover, AreWithinAbscissas, AbscissasBelow, AbscissasAbove, IsTaken}
 use Rattle.range_tree.proofs.HeightLemmas.{height_of-above, levels_for-few, levels_for-small}
 use Rattle.range_tree.proofs.Between.{live_in-split, live_in-all, live_between-none}
 use Rattle.range_tree.proofs.Counted.{level_is, live_in_span-is}
@@ -247,7 +247,7 @@ points_covered {tree} {rect} {height} {cover} is old =
 
 -- and with the places before and behind these all of the rectangle
 pub points_cut : (tree : RangeTree) (rect : Rect) (spans : List Span) (from low high behind to : ℕ) → behind ≡ high → length tree.points.flags ≡ length tree.points.items
-    → from ≤ low → low ≤ high → high ≤ to → to ≤ length tree.points.items → AbscissasBelow tree.points.items from rect.x1 → AbscissasFrom tree.points.items to (rect.x2 + 1)
+    → from ≤ low → low ≤ high → high ≤ to → to ≤ length tree.points.items → AbscissasBelow tree.points.items from rect.x1 → AbscissasAbove tree.points.items to rect.x2
     → Permuted (flat_map (live_in_span tree) spans) (filter (is_in rect) (live_between tree.points low high))
     → Permuted (flat_map (live_in_span tree) spans ++ (filter (is_in rect) (live_between tree.points from low) ++ filter (is_in rect) (live_between tree.points behind to)))
     (filter (is_in rect) (items_where_true tree.points.flags tree.points.items))
@@ -278,15 +278,11 @@ pub Spends-level : {old mid new : Counts} (k top : ℕ) → k < top → Spends o
     → Spends old new 0 0 ((k + 1) * (4 * (top + leaf_height)))
 Spends-level k top below first second = Spends-within (Spends-then first second) refl refl (omega arith)
 
--- a search in no more than 2 ^ h points
-pub within_search : (n m h : ℕ) → n ≤ 2 ^ h → m ≤ n → m < 2 ^ (h + 1)
-within_search n m h few le = omega (arith, pow_next h, pow_pos h)
-
--- all levels, with the two searches before them
-pub Spends-cover : {old first second new : Counts} (k top h : ℕ) → k ≤ top → top ≤ levels_to h → Spends old first 0 0 (2 * (h + 1)) → Spends first second 0 0 (2 * (h + 1))
-    → Spends second new 0 0 (k * (4 * (top + leaf_height))) → Spends old new 0 0 (4 * (h + 1) + 4 * (levels_to h * (h + 1)))
-Spends-cover k top h done few a b c = Spends-within (Spends-then (Spends-then a b) c) refl refl (by (cases_lt h leaf_height))
+-- all levels, with the searches before them
+pub Spends-cover : {old mid new : Counts} (k top h : ℕ) → k ≤ top → top ≤ levels_to h → Spends old mid 0 0 (2 * (h + 1))
+    → Spends mid new 0 0 (k * (4 * (top + leaf_height))) → Spends old new 0 0 (4 * (h + 1) + 4 * (levels_to h * (h + 1)))
+Spends-cover k top h done few a b = Spends-within (Spends-then a b) refl refl (by (cases_lt h leaf_height))
   where
-    by : (h < leaf_height) ⊎ (leaf_height ≤ h) → 2 * (h + 1) + 2 * (h + 1) + k * (4 * (top + leaf_height)) ≤ 4 * (h + 1) + 4 * (levels_to h * (h + 1))
+    by : (h < leaf_height) ⊎ (leaf_height ≤ h) → 2 * (h + 1) + k * (4 * (top + leaf_height)) ≤ 4 * (h + 1) + 4 * (levels_to h * (h + 1))
     by (inl low) = omega (arith, ap (λ n. n * (4 * (top + leaf_height))) (let none : k ≡ 0 = omega arith in none))
     by (inr high) = omega (arith, mul-le k (4 * (top + leaf_height)) (levels_to h) (4 * (h + 1)) (omega arith) (omega arith))

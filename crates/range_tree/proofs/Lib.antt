@@ -16,4 +16,3 @@ pub mod Parting
 pub mod PartingGrowth
 pub mod Putting
 pub mod BuilderLemmas
-pub mod GridLemmas

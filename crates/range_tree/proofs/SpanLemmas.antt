@@ -1,5 +1,5 @@
 -- Live points in slices of a row, and those of a block that a rectangle has.
-use Rattle.std.proofs.Common.{◌≡◌, ℕ, ◌==◌, ◌+◌, ◌-◌, ◌<◌, ◌≤◌, ◌&&◌, ◌||◌, Bool, true, false, nat_lt, nat_le, cond, List, [], ◌∷◌, ◌++◌, length, take, drop, Option, Some, None, slice_get, slice_range, slice_index_or, All, refl, sym, ap, ap₂, ◌∙◌, subst, arith, append-nil, drop-drop}
+use Rattle.std.proofs.Common.{◌≡◌, ℕ, ◌+◌, ◌-◌, ◌<◌, ◌≤◌, ◌&&◌, Bool, true, false, nat_le, cond, List, [], ◌∷◌, ◌++◌, length, take, drop, Option, Some, None, slice_get, slice_range, slice_index_or, All, refl, sym, ap, ap₂, ◌∙◌, subst, arith, append-nil, drop-drop}
 use Rattle.std.proofs.Math.Seq.{take-add}
 use Rattle.std.specs.List.{filter, flat_map}
 use Rattle.std.specs.Option.{option_map, option_to_list}
@@ -16,7 +16,7 @@ use Rattle.map_shapes.specs.declared.point.Point.{Point}
 use Rattle.map_shapes.specs.declared.rect.Rect.{Rect}
 use Rattle.map_shapes.specs.Questions.{is_in}
 use Rattle.range_tree.specs.declared.entry.Entry.{Entry}
-use Rattle.range_tree.specs.Rows.{precedes, no_entry, entry_at, IsBlock, IsEntryOf}
+use Rattle.range_tree.specs.Rows.{no_entry, entry_at, IsBlock, IsEntryOf}
 use Rattle.range_tree.specs.Queries.{live_at, live_between, live_in_slice, AreWithinAbscissas}
 use Rattle.row_blocks.proofs.Lists.{length-slice_range, get_or-slice_range}
 use Rattle.range_tree.proofs.Blocks.{block_places}
@@ -105,19 +105,6 @@ not_in-above rect p high = by rect.x1 rect.x2 rect.y1 rect.y2 p.x p.y high
   where
     by : (x1 x2 y1 y2 x y : ℕ) → y2 < y → (nat_le x1 x && nat_le x x2 && nat_le y1 y && nat_le y y2) ≡ false
     by x1 x2 y1 y2 x y high = grind (arith, nat_tests)
-
--- what stands before the least entry of an ordinate, and what doesn't
-pub ordinate-below : (e : Entry) (y : ℕ) → precedes e (record { y = y; place = 0 }) ≡ true → e.y < y
-ordinate-below e y ahead = by e.y e.place y ahead
-  where
-    by : (z p y : ℕ) → (nat_lt z y || ((z == y) && nat_lt p 0)) ≡ true → z < y
-    by z p y ahead = grind (arith, nat_tests)
-
-pub ordinate-from : (e : Entry) (y : ℕ) → precedes e (record { y = y; place = 0 }) ≡ false → y ≤ e.y
-ordinate-from e y behind = by e.y e.place y behind
-  where
-    by : (z p y : ℕ) → (nat_lt z y || ((z == y) && nat_lt p 0)) ≡ false → y ≤ z
-    by z p y behind = grind (arith, nat_tests)
 
 module _ (part : Contents Point) (entries : List Entry) (known : All (IsEntryOf part.items) entries) where
   -- an entry has the ordinate of its point

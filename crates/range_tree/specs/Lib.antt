@@ -4,4 +4,3 @@ pub mod Measures
 pub mod Queries
 pub mod Growing
 pub mod Costs
-pub mod Grid

@@ -1,5 +1,5 @@
 -- Live points between places, in spans of rows, and in a rectangle.
-use Rattle.std.specs.Prelude.{◌≡◌, ℕ, ◌+◌, ◌-◌, ◌*◌, ◌^◌, ◌<◌, ◌≤◌, ◌++◌, false, if◌then◌else◌, List, [], Some, length, filter, All, slice_get, slice_index_or, slice_range}
+use Rattle.std.specs.Prelude.{◌≡◌, ℕ, ◌+◌, ◌-◌, ◌*◌, ◌^◌, ◌<◌, ◌≤◌, ◌++◌, Bool, false, nat_lt, nat_le, if◌then◌else◌, List, [], Some, length, filter, All, slice_get, slice_index_or, slice_range}
 use Rattle.std.specs.Option.{option_to_list}
 use Rattle.std.specs.List.{flat_map, range_with_len}
 use Rattle.query_laws.specs.Permuted.{Permuted}
@@ -11,6 +11,8 @@ use Rattle.map_shapes.specs.declared.rect.Rect.{Rect}
 use Rattle.map_shapes.specs.Questions.{is_in}
 use Rattle.range_tree.specs.declared.entry.Entry.{Entry}
 use Rattle.range_tree.specs.declared.level.Level.{Level}
+use Rattle.range_tree.specs.declared.search.Reach.{Reach}
+use Rattle.range_tree.specs.declared.search.Reach.TheVariants.{Below, UpTo}
 use Rattle.range_tree.specs.declared.span.Span.{Span}
 use Rattle.range_tree.specs.declared.tree.RangeTree.{RangeTree}
 use Rattle.range_tree.specs.declared.cover.Cover.{Cover}
@@ -49,13 +51,18 @@ pub record IsSpan (tree : RangeTree) (span : Span) : Type 0 where
   pub within : (level : Level) → slice_get tree.levels.items span.row ≡ Some level → span.to ≤ length level.counts.places
   pub built : (level : Level) → slice_get tree.levels.items span.row ≡ Some level → IsBuilt level.counts
 
+-- the coordinate is one of those below the bound, or up to it
+abbrev pub reaches : Reach → ℕ → Bool
+reaches (Below bound) coordinate = nat_lt coordinate bound
+reaches (UpTo bound) coordinate = nat_le coordinate bound
+
 -- the points at places below `place` have abscissas below `x`
 abbrev pub AbscissasBelow : List Point → ℕ → ℕ → Type 0
 AbscissasBelow points place x = (k : ℕ) (p : Point) → k < place → slice_get points k ≡ Some p → p.x < x
 
--- those from `place` on have at least `x`
-abbrev pub AbscissasFrom : List Point → ℕ → ℕ → Type 0
-AbscissasFrom points place x = (k : ℕ) (p : Point) → place ≤ k → slice_get points k ≡ Some p → x ≤ p.x
+-- those from `place` on have abscissas above `x`
+abbrev pub AbscissasAbove : List Point → ℕ → ℕ → Type 0
+AbscissasAbove points place x = (k : ℕ) (p : Point) → place ≤ k → slice_get points k ≡ Some p → x < p.x
 
 -- the points from place `from` on and below `to` have abscissas in the rectangle
 abbrev pub AreWithinAbscissas : Contents Point → ℕ → ℕ → Rect → Type 0

@@ -11,8 +11,9 @@ ghost use Rattle.range_tree.specs.Growing.{HasRoom};
 use crate::entry::Entry;
 use crate::height::LEAF_HEIGHT;
 use crate::level::Level;
-use crate::search::first_entry;
+use crate::search::Preceding;
 use crate::tree::RangeTree;
+use builder_trait::partition_point;
 use map_shapes::Point;
 use query_laws::step_ledger::Steps;
 use row_blocks::block_len;
@@ -34,7 +35,7 @@ impl Level {
             → self.new ≡ record self.old { counts = record self.old.counts { places = cleared self.old.counts.places k } } }
         ensures cost { (h : ℕ) → length self.old.entries.items ≤ 2 ^ h → Spends steps.old steps.new 0 0 (5 * (h + 2)) }
     {
-        let k = first_entry(&self.entries, entry, start, end, steps);
+        let k = partition_point(&self.entries, &Preceding(*entry), start, end, steps);
         self.counts.clear(k, steps);
     }
 }

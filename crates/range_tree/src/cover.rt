@@ -6,15 +6,16 @@ ghost use Rattle.query_laws.specs.Permuted.{Permuted};
 ghost use Rattle.row_blocks.specs.Blocks.{IsMultiple};
 ghost use Rattle.map_shapes.specs.Questions.{is_in};
 ghost use Rattle.range_tree.specs.Heights.{levels_to, most_scanned};
-ghost use Rattle.range_tree.specs.Queries.{live_in_span, live_in_places, AreWithinAbscissas, IsSpan, HasRow, IsBlockOrNone, IsCover, IsTaken};
+ghost use Rattle.range_tree.specs.Queries.{live_in_span, live_in_places, AreWithinAbscissas, AbscissasBelow, AbscissasAbove, IsSpan, HasRow, IsBlockOrNone, IsCover, IsTaken};
 
 use crate::height::LEAF_HEIGHT;
-use crate::search::first_place;
+use crate::search::Reach;
 use crate::span::{Span, span_in};
 use crate::tree::RangeTree;
 use arrayvec::ArrayVec;
-use builder_trait::Part;
-use map_shapes::Rect;
+use builder_trait::flat::FlatPart;
+use builder_trait::{Part, partition_point};
+use map_shapes::{Point, Rect};
 use query_laws::step_ledger::Steps;
 use row_blocks::{block_len, block_start};
 use std::sync::ledger::Ledger;
@@ -43,6 +44,21 @@ pub(crate) struct Pieces {
     pub(crate) spans: ArrayVec<Span, 64>,
     pub(crate) front: Places,
     pub(crate) back: Places,
+}
+
+/// The places whose points have abscissas in the rectangle: two binary searches.
+fn places_in<L: Ledger>(points: &FlatPart<Point>, rect: &Rect, steps: &mut Steps<L>) -> Places
+    ensures ordered { result.from ≤ result.to }
+    ensures within { result.to ≤ length points.now.items }
+    ensures inside { AreWithinAbscissas points.now result.from result.to rect.now }
+    ensures before { AbscissasBelow points.now.items result.from rect.now.x1 }
+    ensures behind { AbscissasAbove points.now.items result.to rect.now.x2 }
+    ensures cost { (h : ℕ) → length points.now.items ≤ 2 ^ h → Spends steps.old steps.new 0 0 (2 * (h + 1)) }
+{
+    let row = points.items();
+    let from = partition_point(row, &Reach::Below(rect.x1), 0, row.len(), steps);
+    let to = partition_point(row, &Reach::UpTo(rect.x2), from, row.len(), steps);
+    Places { from, to }
 }
 
 /// The places between two that whole blocks of a height have.
@@ -146,10 +162,10 @@ impl RangeTree {
         ensures cost { (h : ℕ) → length self.now.points.items ≤ 2 ^ h
             → Spends steps.old steps.new 0 0 (4 * (h + 1) + 4 * (levels_to h * (h + 1))) }
     {
-        let len = self.points.len();
-        let from = first_place(&self.points, rect.x1, 0, len, steps);
-        let to = first_place(&self.points, rect.x2 + 1, from, len, steps);
-        let middle = whole_blocks(from, to, LEAF_HEIGHT as u32);
+        // By its contract the points are few, and each has its flag.
+        let _len = self.points.len();
+        let ends = places_in(&self.points, rect, steps);
+        let middle = whole_blocks(ends.from, ends.to, LEAF_HEIGHT as u32);
         let mut cover = Cover {
             spans: ArrayVec::new(),
             from: middle.from,
@@ -163,12 +179,12 @@ impl RangeTree {
         Pieces {
             spans: cover.spans,
             front: Places {
-                from,
+                from: ends.from,
                 to: middle.from,
             },
             back: Places {
                 from: middle.to,
-                to,
+                to: ends.to,
             },
         }
     }

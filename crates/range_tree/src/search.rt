@@ -1,74 +1,55 @@
-//! Binary searches, which halve what is left at each step.
-ghost use Rattle.std.specs.Prelude.{◌≡◌, ◌+◌, ◌-◌, ◌*◌, ◌^◌, ◌≤◌, ◌<◌, ℕ, false, IsTrue, length};
-ghost use Rattle.query_laws.specs.StepLedger.{Spends};
-ghost use Rattle.builder_trait.specs.Parts.{IsPart};
-ghost use Rattle.range_tree.specs.Rows.{precedes, entry_at, IsRising};
-ghost use Rattle.range_tree.specs.Queries.{AbscissasBelow, AbscissasFrom};
+//! What binary searches ask of points and of entries.
+ghost use Rattle.std.specs.Prelude.{◌≡◌};
+ghost use Rattle.range_tree.specs.Rows.{precedes};
+ghost use Rattle.range_tree.specs.Queries.{reaches};
 
 use crate::entry::Entry;
-use builder_trait::Part;
-use builder_trait::flat::FlatPart;
+use builder_trait::EntryTest;
 use map_shapes::Point;
-use query_laws::step_ledger::{Row, Steps};
-use std::sync::ledger::Ledger;
 
-/// The first entry from `low` on and below `high` that doesn't stand before a key, or `high` where each does: one touch a step.
-pub(crate) fn first_entry<L: Ledger>(
-    row: &Row<Entry>,
-    key: &Entry,
-    low: usize,
-    high: usize,
-    steps: &mut Steps<L>,
-) -> usize
-    requires ordered { low ≤ high }
-    requires within { high ≤ length row.now.items }
-    requires rising { IsRising row.now.items low high }
-    ensures from_low { low ≤ result }
-    ensures to_high { result ≤ high }
-    ensures before { (k : ℕ) → low ≤ k → k < result → IsTrue (precedes (entry_at row.now.items k) key.now) }
-    ensures after { (k : ℕ) → result ≤ k → k < high → precedes (entry_at row.now.items k) key.now ≡ false }
-    ensures cost { (h : ℕ) → high - low < 2 ^ h → Spends steps.old steps.new 0 0 h }
-{
-    if low == high {
-        return low;
-    }
-    let middle = low + (high - low) / 2;
-    let entry = row.at(middle, steps);
-    if entry.precedes(key) {
-        first_entry(row, key, middle + 1, high, steps)
-    } else {
-        first_entry(row, key, low, middle, steps)
+/// The coordinates below a bound, or up to it: of points the abscissas, of entries the ordinates.
+#[derive(Clone, Copy, Debug)]
+pub(crate) enum Reach {
+    Below(u32),
+    UpTo(u32),
+}
+
+impl Reach {
+    #[inline]
+    fn has(self, coordinate: u32) -> bool
+        ensures { result ≡ reaches self coordinate }
+    {
+        match self {
+            Reach::Below(bound) => coordinate < bound,
+            Reach::UpTo(bound) => coordinate <= bound,
+        }
     }
 }
 
-/// The first place from `low` on and below `high` whose point has at least this abscissa, or `high` where none has: two
-/// touches a step.
-pub(crate) fn first_place<L: Ledger>(
-    points: &FlatPart<Point>,
-    x: u32,
-    low: usize,
-    high: usize,
-    steps: &mut Steps<L>,
-) -> usize
-    requires ordered { low ≤ high }
-    requires within { high ≤ length points.now.items }
-    requires before { AbscissasBelow points.now.items low x }
-    requires after { AbscissasFrom points.now.items high x }
-    ensures from_low { low ≤ result }
-    ensures to_high { result ≤ high }
-    ensures before { AbscissasBelow points.now.items result x }
-    ensures after { AbscissasFrom points.now.items result x }
-    ensures cost { (h : ℕ) → high - low < 2 ^ h → Spends steps.old steps.new 0 0 (2 * h) }
-{
-    // By its contract the points rise.
-    let _len = points.len();
-    if low == high {
-        return low;
+impl EntryTest<Point> for Reach {
+    ghost passes = { λ reach point. reaches reach point.x };
+
+    fn passes(&self, point: &Point) -> bool {
+        self.has(point.x)
     }
-    let middle = low + (high - low) / 2;
-    if points.item(0, middle, steps).x < x {
-        first_place(points, x, middle + 1, high, steps)
-    } else {
-        first_place(points, x, low, middle, steps)
+}
+
+impl EntryTest<Entry> for Reach {
+    ghost passes = { λ reach entry. reaches reach entry.y };
+
+    fn passes(&self, entry: &Entry) -> bool {
+        self.has(entry.y)
+    }
+}
+
+/// The entries that stand before one.
+#[derive(Clone, Copy, Debug)]
+pub(crate) struct Preceding(pub(crate) Entry);
+
+impl EntryTest<Entry> for Preceding {
+    ghost passes = { λ test entry. precedes entry test.0 };
+
+    fn passes(&self, entry: &Entry) -> bool {
+        entry.precedes(&self.0)
     }
 }

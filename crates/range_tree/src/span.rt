@@ -12,8 +12,9 @@ ghost use Rattle.range_tree.specs.Queries.{live_between, live_in_slice, live_in_
 
 use crate::entry::Entry;
 use crate::measure::Measure;
-use crate::search::first_entry;
+use crate::search::Reach;
 use crate::tree::RangeTree;
+use builder_trait::partition_point;
 use map_shapes::{Point, Rect};
 use query_laws::step_ledger::{Row, Steps};
 use std::sync::ledger::Ledger;
@@ -48,16 +49,8 @@ pub(crate) fn span_in<L: Ledger>(
         → Permuted (live_in_slice part entries.now.items result.from result.to) (filter (is_in rect.now) (live_between part start end)) }
     ensures cost { (h : ℕ) → end ≤ start + 2 ^ h → Spends steps.old steps.new 0 0 (2 * (h + 1)) }
 {
-    let low = Entry {
-        y: rect.y1,
-        place: 0,
-    };
-    let high = Entry {
-        y: rect.y2 + 1,
-        place: 0,
-    };
-    let from = first_entry(entries, &low, start, end, steps);
-    let to = first_entry(entries, &high, from, end, steps);
+    let from = partition_point(entries, &Reach::Below(rect.y1), start, end, steps);
+    let to = partition_point(entries, &Reach::UpTo(rect.y2), from, end, steps);
     Span { row, from, to }
 }
 

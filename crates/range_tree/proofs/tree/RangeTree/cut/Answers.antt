@@ -1,21 +1,18 @@
-use Rattle.std.proofs.Common.{◌≡◌, ◌+◌, ◌≤◌, ◌∙◌, length, arith, refl, subst}
+use Rattle.std.proofs.Common.{◌≡◌, ◌+◌, ◌∙◌, arith, refl, subst}
 use Rattle.std.specs.List.{flat_map, filter}
 use Rattle.query_laws.specs.Permuted.{Permuted}
 use Rattle.query_laws.proofs.Counting.{Spends-nothing, Spends-within}
 use Rattle.map_shapes.specs.Questions.{is_in}
 use Rattle.range_tree.specs.Heights.{leaf_height}
 use Rattle.range_tree.specs.Queries.{IsCover, live_in_span, live_between}
-use Rattle.range_tree.proofs.Covers.{IsCover-init, points_covered, points_cut, levels_few, Spends-level, Spends-cover, within_search}
+use Rattle.range_tree.proofs.Covers.{IsCover-init, points_covered, points_cut, levels_few, Spends-level, Spends-cover}
 use Rattle.range_tree.proofs.tree.RangeTree.cut.Goals as goal
 
 pub loop-step-init : goal.loop-step-init
 loop-step-init g c = record {
   cover = IsCover-init c.new.ensures refl refl c.whole_blocks-middle.ensures.ordered
-      (omega (arith, c.whole_blocks-middle.ensures.last, c.first_place-to.ensures.to_high, c.len-len.ensures.value))
-      (λ k p low high at.
-      let least : c.args.rect.now.x1 ≤ p.x = c.first_place-from.ensures.after k p (omega (arith, c.whole_blocks-middle.ensures.first)) at in
-      let most = c.first_place-to.ensures.before k p (omega (arith, c.whole_blocks-middle.ensures.last)) at in
-      (least, omega arith))
+      (omega (arith, c.whole_blocks-middle.ensures.last, c.places_in-ends.ensures.within))
+      (λ k p low high at. c.places_in-ends.ensures.inside k p (omega (arith, c.whole_blocks-middle.ensures.first)) (omega (arith, c.whole_blocks-middle.ensures.last)) at)
       c.whole_blocks-middle.ensures.front c.whole_blocks-middle.ensures.back;
   low = refl;
   high = refl;
@@ -41,16 +38,14 @@ returns-clause-points g c =
     let rect = c.args.rect.now in
     let part = c.args.self.now.points in
     let spans = flat_map (live_in_span c.args.self.now) c.loop-step.cover.spans.items in
-    points_cut c.args.self.now rect c.loop-step.cover.spans.items c.first_place-from.result c.whole_blocks-middle.result.from c.whole_blocks-middle.result.to _ c.first_place-to.result
+    points_cut c.args.self.now rect c.loop-step.cover.spans.items c.places_in-ends.result.from c.whole_blocks-middle.result.from c.whole_blocks-middle.result.to _ c.places_in-ends.result.to
     (omega (arith, c.whole_blocks-middle.ensures.last)) c.len-len.ensures.valid.flagged c.whole_blocks-middle.ensures.first c.whole_blocks-middle.ensures.ordered c.whole_blocks-middle.ensures.last
-    (omega (arith, c.first_place-to.ensures.to_high, c.len-len.ensures.value)) c.first_place-from.ensures.before
-    (λ k p beyond at. let h = c.first_place-to.ensures.after k p beyond at in omega arith)
+    c.places_in-ends.ensures.within c.places_in-ends.ensures.before c.places_in-ends.ensures.behind
     (subst (λ b. Permuted spans (filter (is_in rect) (live_between part c.whole_blocks-middle.result.from b))) c.loop-step.invariant.high
     (subst (λ a. Permuted spans (filter (is_in rect) (live_between part a c.loop-step.cover.high))) c.loop-step.invariant.low covered))
 
 pub returns-clause-cost : goal.returns-clause-cost
 returns-clause-cost g c h few =
     Spends-cover c.loop-step.step c.args.self.now.used h (omega arith) (levels_few c.args.self.now h few)
-    (c.first_place-from.ensures.cost (h + 1) (within_search (length c.args.self.now.points.items) _ h few (omega (arith, c.len-len.ensures.value))))
-    (c.first_place-to.ensures.cost (h + 1) (within_search (length c.args.self.now.points.items) _ h few (omega (arith, c.len-len.ensures.value))))
+    (c.places_in-ends.ensures.cost h few)
     c.loop-step.invariant.cost
