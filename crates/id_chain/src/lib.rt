@@ -5,12 +5,10 @@
 
 mod chain;
 mod handle;
-mod laws;
 mod node;
 
 pub use chain::Chain;
 pub use handle::Handle;
-pub use laws::before_by_stamp;
 
 #[cfg(test)]
 mod tests;

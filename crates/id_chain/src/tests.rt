@@ -1,9 +1,8 @@
 //! A place that is used again, a walk while entries come and go, and many calls in random order against a plain vector.
-ghost use Rattle.std.specs.Prelude.{◌≡◌, ◌≢◌, ◌+◌, ◌≤◌, ℕ, [], ◌∷◌, ◌++◌, Some, IsTrue};
+ghost use Rattle.std.specs.Prelude.{◌≡◌, ◌≢◌, ◌+◌, ◌≤◌, [], ◌∷◌, ◌++◌, Some, IsTrue};
 ghost use Rattle.id_chain.specs.Chain.{is_linked, before, IsCursor, before_cursor, without_handle};
-ghost use Rattle.id_chain.specs.StampsRise.{StampsRise};
 
-use crate::{Chain, Handle, before_by_stamp};
+use crate::{Chain, Handle};
 use query_laws::NoMemory;
 use std::process::Abort;
 use std::test::Fail;
@@ -88,17 +87,6 @@ fn append_beside<I: Copy>(chain: &mut Chain<I>, cursor: Option<Handle>, item: I)
 {
     let handle = chain.append(item);
     cursor.or(Some(handle))
-}
-
-/// Whether an entry is before another, as its stamp tells; here an item is its own stamp.
-fn is_before(chain: &Chain<u64>, handle: Handle, other: Handle) -> bool
-    requires handle { IsTrue (is_linked handle chain.now.entries) }
-    requires other { IsTrue (is_linked other chain.now.entries) }
-    requires rising { (high : ℕ) × StampsRise (λ n. n) 0 chain.now.entries high }
-    ensures { result ≡ is_linked other (before handle chain.now.entries) }
-{
-    before_by_stamp::<u64>();
-    chain.item(other) < chain.item(handle)
 }
 
 #[test]

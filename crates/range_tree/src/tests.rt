@@ -1,6 +1,6 @@
 //! A part of two points, one of which lies at the last coordinates and dies, and a part of one on its memory.
 ghost use Rattle.range_tree.specs.Rows.{before};
-ghost use Rattle.std.specs.Prelude.{◌≡◌, ◌≢◌, ◌∷◌, [], IsTrue, IfOk};
+ghost use Rattle.std.specs.Prelude.{◌≡◌, ◌≢◌, ◌≤◌, ◌<◌, ◌^◌, ◌∷◌, [], IsTrue, IfOk};
 
 use crate::{RangeBuilder, RangePart};
 use builder_trait::{Answers, Asking, Builder, Part, part_of_one};
@@ -65,7 +65,7 @@ fn measured<L: Ledger>(
 /// What a part of two points tells of rectangles, and which of its points lie in the first; what two marks of the second point
 /// answer, and the same questions again; and how many points of a part of the second, on the same memory, lie in the first.
 #[derive(Drop)]
-struct Seen {
+struct Findings {
     measured: Vec<[u64; 2]>,
     listed: Vec<u64>,
     marks: [bool; 2],
@@ -81,7 +81,7 @@ fn seen<L: Ledger>(
     rects: &[Rect],
     whole: Rect,
     blank: Blank,
-) -> Result<Seen, NoMemory>
+) -> Result<Findings, NoMemory>
     requires name { blank.name ≡ L.name }
     requires parts { blank.parts ≡ L.parts }
     requires shares { blank.parts ≡ SHARES }
@@ -97,7 +97,7 @@ fn seen<L: Ledger>(
     let remeasured = measured(alloc, rects, &part, &mut steps)?;
     let relisted = answer_of(alloc, &ListIn(whole), &part, &mut steps)?.into_vec();
     let again = part_of_one(RangeBuilder::recycle(part), high, &mut steps);
-    Ok(Seen {
+    Ok(Findings {
         measured: measured_all,
         listed,
         marks,
@@ -109,6 +109,15 @@ fn seen<L: Ledger>(
 
 /// The last coordinate.
 const LAST: u32 = 2_147_483_647;
+
+fn rect(x1: u32, y1: u32, x2: u32, y2: u32) -> Rect
+    requires x_ordered { x1 ≤ x2 }
+    requires y_ordered { y1 ≤ y2 }
+    requires x_in_range { x2 < 2 ^ 31 }
+    requires y_in_range { y2 < 2 ^ 31 }
+{
+    Rect { x1, y1, x2, y2 }
+}
 
 #[test]
 fn answers_over_rectangles(rt: HostRuntime) -> Result<(), Fail> {
@@ -126,33 +135,13 @@ fn answers_over_rectangles(rt: HostRuntime) -> Result<(), Fail> {
         w: 40,
         stamp: 2,
     };
-    let whole = Rect {
-        x1: 0,
-        y1: 0,
-        x2: LAST,
-        y2: LAST,
-    };
+    let whole = rect(0, 0, LAST, LAST);
     let rects = [
         whole,
-        Rect {
-            x1: LAST,
-            y1: LAST,
-            ..whole
-        },
-        Rect {
-            x2: LAST - 1,
-            ..whole
-        },
-        Rect {
-            y2: LAST - 1,
-            ..whole
-        },
-        Rect {
-            x1: 1,
-            x2: 1,
-            y1: 2,
-            ..whole
-        },
+        rect(LAST, LAST, LAST, LAST),
+        rect(0, 0, LAST - 1, LAST),
+        rect(0, 0, LAST, LAST - 1),
+        rect(1, 2, 1, LAST),
     ];
     let seen = seen::<Brand>(rt.alloc(), low, high, &rects, whole, blank())?;
     assert_eq!(rt;
