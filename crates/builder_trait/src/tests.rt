@@ -1,5 +1,5 @@
 //! The flat kind through the traits, and questions put to its parts.
-ghost use Rattle.std.specs.Prelude.{◌≡◌, ◌≢◌, IsTrue};
+ghost use Rattle.std.specs.Prelude.{◌≡◌, ◌≢◌, [], ◌∷◌, IsTrue, IfOk};
 
 mod points;
 
@@ -13,15 +13,59 @@ use std::marker::Brand;
 use std::sync::ledger::{Blank, Ledger};
 use std::test::Fail;
 
-/// A part of two items, the first of which is marked twice: the turns left after the seal, those taken in all, what the marks
-/// answer, how many items are live then, and the marks and the stamps in order 1. Then a part of the second item alone, on the
-/// same memory: how many items it has.
+/// A part of two items that stand the other way round in order 1; and how many turns were left after the seal.
+fn pair<B: Builder, L: Ledger>(
+    alloc: Global,
+    first: B::Item,
+    second: B::Item,
+    steps: &mut Steps<L>,
+) -> Result<(u64, B::Part), NoMemory>
+    requires rising { IsTrue (B.Item.before 0 first second) }
+    requires falling { IsTrue (B.Item.before 1 second first) }
+    ensures { IfOk result (λ made. (B.Part.Part.contents made.1).items ≡ first ∷ second ∷ []) }
+{
+    let mut builder = B::room(alloc, 1)?;
+    builder.put(0, first, 0, steps);
+    builder.put(0, second, 1, steps);
+    builder.put(1, second, 1, steps);
+    builder.put(1, first, 0, steps);
+    builder.seal();
+    let left = builder.left();
+    builder.turns(left, steps);
+    Ok((left, builder.finish()))
+}
+
+/// The item at a place of order 0, if there is one: its stamp, its index in order 1 by the place there, and whether it is live.
+fn seen_at<P: Part, L: Ledger>(
+    part: &P,
+    place: usize,
+    steps: &mut Steps<L>,
+) -> Option<(u64, usize, bool)> {
+    if place >= part.len() {
+        return None;
+    }
+    let stamp = part.item(0, place, steps).stamp();
+    Some((stamp, part.place(1, place, steps), part.alive(place, steps)))
+}
+
+/// What a part of two items, the first of which is marked, tells of both; and how many items a part of the second has, on the same memory.
+#[derive(Drop)]
+struct Seen {
+    left: u64,
+    was_live: bool,
+    live: usize,
+    items: [Option<(u64, usize, bool)>; 2],
+    turns: u64,
+    marks: u64,
+    single: usize,
+}
+
 fn pair_seen<B: Builder, L: Ledger>(
     alloc: Global,
     first: B::Item,
     second: B::Item,
     blank: Blank,
-) -> Result<([u64; 2], [bool; 4], [u64; 4], [usize; 3]), NoMemory>
+) -> Result<Seen, NoMemory>
     requires name { blank.name ≡ L.name }
     requires parts { blank.parts ≡ L.parts }
     requires shares { blank.parts ≡ SHARES }
@@ -30,35 +74,22 @@ fn pair_seen<B: Builder, L: Ledger>(
     requires falling { IsTrue (B.Item.before 1 second first) }
 {
     let mut steps = Steps::<L>::new(blank);
-    let mut builder = B::room(alloc, 1)?;
-    builder.put(0, first, 0, &mut steps);
-    builder.put(0, second, 1, &mut steps);
-    builder.put(1, second, 1, &mut steps);
-    builder.put(1, first, 0, &mut steps);
-    builder.seal();
-    let left = builder.left();
-    builder.turns(left, &mut steps);
+    let (left, mut part) = pair::<B, L>(alloc, first, second, &mut steps)?;
     let turns = steps.lap_turns();
-    let mut part = builder.finish();
-    let once = part.mark(&first, &mut steps);
-    let again = part.mark(&first, &mut steps);
-    let flags = [part.alive(0, &mut steps), part.alive(1, &mut steps)];
-    let low = part.item(1, 0, &mut steps);
-    let high = part.item(1, 1, &mut steps);
-    let places = [part.place(1, 0, &mut steps), part.place(1, 1, &mut steps)];
-    let seen = [
-        part.live() as u64,
-        steps.lap_marks(),
-        low.stamp(),
-        high.stamp(),
-    ];
-    let single = part_of_one(B::recycle(part), second, &mut steps);
-    Ok((
-        [left, turns],
-        [once, again, flags[0], flags[1]],
-        seen,
-        [places[0], places[1], single.len()],
-    ))
+    let was_live = part.mark(&first, &mut steps);
+    let items = [seen_at(&part, 0, &mut steps), seen_at(&part, 1, &mut steps)];
+    let live = part.live();
+    let marks = steps.lap_marks();
+    let single = part_of_one(B::recycle(part), second, &mut steps).len();
+    Ok(Seen {
+        left,
+        was_live,
+        live,
+        items,
+        turns,
+        marks,
+        single,
+    })
 }
 
 #[test]
@@ -74,10 +105,9 @@ fn marks_one_of_two(rt: HostRuntime) -> Result<(), Fail> {
         stamp: 41,
     };
     let seen = pair_seen::<FlatBuilder<Point>, Brand>(rt.alloc(), near, far, blank())?;
-    assert_eq!(rt; seen.0, [2, 6]);
-    assert_eq!(rt; seen.1, [true, false, false, true]);
-    assert_eq!(rt; seen.2, [1, 2, 41, 40]);
-    assert_eq!(rt; seen.3, [1, 0, 1]);
+    assert_eq!(rt; (seen.left, seen.turns, seen.marks), (2, 6, 1));
+    assert_eq!(rt; (seen.was_live, seen.live, seen.single), (true, 1, 1));
+    assert_eq!(rt; seen.items, [Some((40, 1, false)), Some((41, 0, true))]);
     Ok(())
 }
 

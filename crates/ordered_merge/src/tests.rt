@@ -1,11 +1,11 @@
-//! A merge of flat parts, two of whose items die on the way.
-ghost use Rattle.std.specs.Prelude.{◌≡◌, ◌≢◌, ◌<◌, [], ◌∷◌, IsTrue, IfOk};
+//! A merge of two flat parts of one item each.
+ghost use Rattle.std.specs.Prelude.{◌≡◌, ◌≢◌, ◌<◌};
 
 mod item;
 
 use crate::Merge;
 use builder_trait::flat::FlatBuilder;
-use builder_trait::{Builder, Part};
+use builder_trait::{Builder, Part, part_of_one};
 use item::Pair;
 use query_laws::step_ledger::{SHARES, Steps, blank};
 use query_laws::{Item, NoMemory};
@@ -14,26 +14,31 @@ use std::marker::Brand;
 use std::sync::ledger::{Blank, Ledger};
 use std::test::Fail;
 
-/// A part of two items that rise in both orders.
-fn pair<B: Builder, L: Ledger>(
+/// The parts of two items, merged: the turns left at the beginning, and once the merge is cleared; whether order 0 had passed the
+/// first item after a turn, and whether all was done after the others; and the part of both.
+fn merged<B: Builder, L: Ledger>(
     alloc: Global,
     low: B::Item,
     high: B::Item,
     steps: &mut Steps<L>,
-) -> Result<B::Part, NoMemory>
-    requires rising { IsTrue (B.Item.before 0 low high) }
-    requires rising_reordered { IsTrue (B.Item.before 1 low high) }
-    ensures { IfOk result (λ part. (B.Part.Part.contents part).items ≡ low ∷ high ∷ []) }
+) -> Result<([u64; 2], [bool; 2], B::Part), NoMemory>
+    requires { B.Item.stamp low ≢ B.Item.stamp high }
 {
+    let a: B::Part = part_of_one(B::room(alloc, 0)?, low, steps);
+    let b: B::Part = part_of_one(B::room(alloc, 0)?, high, steps);
+    let mut merge = Merge::<B>::room(alloc, 1)?;
     let mut builder = B::room(alloc, 1)?;
-    builder.put(0, low, 0, steps);
-    builder.put(0, high, 1, steps);
-    builder.put(1, low, 0, steps);
-    builder.put(1, high, 1, steps);
+    merge.begin(&a, &b);
+    let left = merge.left();
+    merge.turn(&a, &b, &mut builder, steps);
+    let passed = merge.passed(&low);
+    merge.turns(left - 1, &a, &b, &mut builder, steps);
+    let done = merge.done();
     builder.seal();
-    let left = builder.left();
-    builder.turns(left, steps);
-    Ok(builder.finish())
+    let rest = builder.left();
+    builder.turns(rest, steps);
+    merge.clear();
+    Ok(([left, merge.left()], [passed, done], builder.finish()))
 }
 
 /// The stamps of a part in an order.
@@ -52,94 +57,52 @@ fn stamps<P: Part, L: Ledger>(
     Ok(stamps)
 }
 
-/// Two parts of two items each, merged; after two turns the lowest and the highest item die. The turns left at the beginning,
-/// those taken after two and in all, and those left once it is cleared; whether order 0 had passed each of the two, and whether
-/// it was done; and the stamps in both orders.
+/// What a merge of two items told, and the stamps of its part in both orders.
+#[derive(Drop)]
+struct Seen {
+    left: [u64; 2],
+    passed_and_done: [bool; 2],
+    stamps: [Vec<u64>; 2],
+}
+
 fn merge_seen<B: Builder, L: Ledger>(
     alloc: Global,
-    first: B::Item,
-    second: B::Item,
-    third: B::Item,
-    fourth: B::Item,
+    low: B::Item,
+    high: B::Item,
     blank: Blank,
-) -> Result<([u64; 4], [bool; 3], Vec<u64>, Vec<u64>), NoMemory>
+) -> Result<Seen, NoMemory>
     requires name { blank.name ≡ L.name }
     requires parts { blank.parts ≡ L.parts }
     requires shares { blank.parts ≡ SHARES }
-    requires rising_a { IsTrue (B.Item.before 0 first third) × IsTrue (B.Item.before 1 first third) }
-    requires rising_b { IsTrue (B.Item.before 0 second fourth) × IsTrue (B.Item.before 1 second fourth) }
-    requires apart_first { (B.Item.stamp first ≢ B.Item.stamp second) × (B.Item.stamp first ≢ B.Item.stamp fourth) }
-    requires apart_third { (B.Item.stamp third ≢ B.Item.stamp second) × (B.Item.stamp third ≢ B.Item.stamp fourth) }
-    requires within_a { B.Item.stamp first ≢ B.Item.stamp third }
-    requires within_b { B.Item.stamp second ≢ B.Item.stamp fourth }
+    requires apart { B.Item.stamp low ≢ B.Item.stamp high }
 {
     let mut steps = Steps::<L>::new(blank);
-    let mut a: B::Part = pair::<B, L>(alloc, first, third, &mut steps)?;
-    let mut b: B::Part = pair::<B, L>(alloc, second, fourth, &mut steps)?;
-    let mut merge = Merge::<B>::room(alloc, 2)?;
-    let mut builder = B::room(alloc, 2)?;
-    merge.begin(&a, &b);
-    let left = merge.left();
-    steps.start_lap();
-    merge.turn(&a, &b, &mut builder, &mut steps);
-    merge.turn(&a, &b, &mut builder, &mut steps);
-    let two = steps.lap_turns();
-    a.mark(&first, &mut steps);
-    b.mark(&fourth, &mut steps);
-    let passed = [merge.passed(&first), merge.passed(&fourth)];
-    let rest = merge.left();
-    merge.turns(rest, &a, &b, &mut builder, &mut steps);
-    let turns = steps.lap_turns();
-    let done = merge.done();
-    let _lens = [a.len(), b.len()];
-    builder.seal();
-    let rest = builder.left();
-    builder.turns(rest, &mut steps);
-    let merged = builder.finish();
-    let in_first = stamps(alloc, 0, &merged, &mut steps)?;
-    let in_second = stamps(alloc, 1, &merged, &mut steps)?;
-    merge.clear();
-    Ok((
-        [left, two, turns, merge.left()],
-        [passed[0], passed[1], done],
-        in_first,
-        in_second,
-    ))
+    let (left, passed_and_done, part) = merged::<B, L>(alloc, low, high, &mut steps)?;
+    let first = stamps(alloc, 0, &part, &mut steps)?;
+    let second = stamps(alloc, 1, &part, &mut steps)?;
+    Ok(Seen {
+        left,
+        passed_and_done,
+        stamps: [first, second],
+    })
 }
 
 #[test]
-fn merges_what_was_live(rt: HostRuntime) -> Result<(), Fail> {
-    let first = Pair {
+fn merges_two_items(rt: HostRuntime) -> Result<(), Fail> {
+    let low = Pair {
         x: 1,
-        y: 1,
-        stamp: 0,
-    };
-    let second = Pair {
-        x: 2,
-        y: 2,
-        stamp: 2,
-    };
-    let third = Pair {
-        x: 3,
-        y: 3,
-        stamp: 1,
-    };
-    let fourth = Pair {
-        x: 4,
         y: 4,
-        stamp: 3,
+        stamp: 7,
     };
-    let (turns, passed, in_first, in_second) = merge_seen::<FlatBuilder<Pair>, Brand>(
-        rt.alloc(),
-        first,
-        second,
-        third,
-        fourth,
-        blank(),
-    )?;
-    assert_eq!(rt; turns, [8, 2, 8, 0]);
-    assert_eq!(rt; passed, [true, false, true]);
-    assert_eq!(rt; in_first.as_slice(), [0, 2, 1].as_slice());
-    assert_eq!(rt; in_second.as_slice(), [0, 2, 1].as_slice());
+    let high = Pair {
+        x: 2,
+        y: 3,
+        stamp: 9,
+    };
+    let seen = merge_seen::<FlatBuilder<Pair>, Brand>(rt.alloc(), low, high, blank())?;
+    assert_eq!(rt; seen.left, [4, 0]);
+    assert_eq!(rt; seen.passed_and_done, [true, true]);
+    assert_eq!(rt; seen.stamps[0].as_slice(), [7, 9].as_slice());
+    assert_eq!(rt; seen.stamps[1].as_slice(), [9, 7].as_slice());
     Ok(())
 }
