@@ -7,6 +7,6 @@ turn-requires-clause-merges g c =
     let a = g.B.Part.Part.contents c.part_of_one-a.result in
     let b = g.B.Part.Part.contents c.part_of_one-b.result in
     let few : length a.items + length b.items ≤ 2 ^ 1 =
-        omega (arith, ap (λ p. length p.items) c.part_of_one-a.ensures.whole, ap (λ p. length p.items) c.part_of_one-b.ensures.whole) in
+    omega (arith, ap (λ p. length p.items) c.part_of_one-a.ensures.whole, ap (λ p. length p.items) c.part_of_one-b.ensures.whole) in
     subst (λ p. Merges g.B.Item.Item.stamp g.B.Item.Item.before c.begin.new.self a b p) (sym c.in_ok-builder.ensures)
     (c.begin.ensures.merges 1 few)
