@@ -1,11 +1,8 @@
 //! Example scripts beside the answers that are expected.
-ghost use Rattle.std.specs.Prelude.{◌≡◌, ◌<◌, ◌^◌, true, false, length, Ok};
-ghost use Rattle.map_model.specs.Text.{lines};
-ghost use Rattle.session_trials.specs.Examples.{IsAnsweredBy, IsAnsweredOtherwise};
+ghost use Rattle.std.specs.Prelude.{◌<◌, ◌^◌, length};
 
-use crate::commands::are_read_again;
 use map_io::{MemSink, WriteFault};
-use map_samples::Failure;
+use samples::Failure;
 use map_session::{Session, answer_lines};
 use query_laws::step_ledger::Steps;
 use std::alloc::{AllocError, Global};
@@ -16,10 +13,9 @@ use std::sync::ledger::Ledger;
 /// A script has fewer bytes than this.
 const MOST_BYTES: usize = 1 << 40;
 
-/// Runs each script `NAME.livemap` of a folder by a session of its own, and compares its answers with the file `NAME.out`. Each of its
-/// commands must be read again from the line that it is written as.
+/// Runs each script `NAME.livemap` of a folder by a session of its own, and compares its answers with the file `NAME.out`.
 ///
-/// Prints a line for each example. `Differs` where the answers aren't those of the file, or a command isn't read again.
+/// Prints a line for each example. `Differs` where the answers aren't those of the file.
 pub fn check_examples<R: Print + Files + AllocGlobal + Clone + Drop, L: Ledger>(
     rt: &R,
     folder: &str,
@@ -62,10 +58,6 @@ fn check_example<R: Files + AllocGlobal, L: Ledger>(
     if script.len() >= MOST_BYTES {
         return Err(Failure::TooLong);
     }
-    if !are_read_again(alloc, &script)? {
-        let text = format!(in alloc; "a command of {folder}/{name}.livemap isn't read again")?;
-        return Err(Failure::Differs(text));
-    }
     if has_answers(alloc, &script, &wanted, steps)? {
         return Ok(());
     }
@@ -76,17 +68,13 @@ fn check_example<R: Files + AllocGlobal, L: Ledger>(
 }
 
 /// Whether the lines of a script are answered, from an empty map on, by these bytes.
-///
-/// Takes as much memory as they have, and what the map takes.
-pub fn has_answers<L: Ledger>(
+fn has_answers<L: Ledger>(
     alloc: Global,
     script: &[u8],
     wanted: &[u8],
     steps: &mut Steps<L>,
 ) -> Result<bool, AllocError>
     requires { length script.now < 2 ^ 40 }
-    ensures same { result ≡ Ok true → IsAnsweredBy (lines script.now) wanted.now }
-    ensures differs { result ≡ Ok false → IsAnsweredOtherwise (lines script.now) wanted.now }
 {
     let space = vec![in alloc; 0u8; wanted.len()]?;
     let mut sink = MemSink::new(space, usize::MAX, Vec::new(alloc));

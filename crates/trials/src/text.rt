@@ -1,0 +1,193 @@
+//! Lines read and replies written, by the map's crates and by std alone.
+use answer_text::{Reply, write_reply};
+use map_io::{MemSink, Sink, WriteFault};
+use samples::{Failure, Generator, Watch};
+use map_shapes::Asked;
+use script_lang::{Command, parse};
+use std::alloc::{AllocError, Global};
+use std::io;
+use std::time::Clock;
+
+/// Coordinates and weights are below this.
+const COORDINATES: u32 = 1 << 31;
+
+/// The most bytes of a count's reply: `count`, a space, 20 digits and a line feed.
+const LONGEST: usize = 27;
+
+/// What a reply says that it cost; without the ledger it isn't written.
+const ASKED: Asked = Asked {
+    parts: 0,
+    part_bound: 0,
+    touches: 0,
+};
+
+/// Reads so many seeded lines and writes so many replies, by the map's crates and by std alone.
+///
+/// Prints `lines N sum S` and `replies N bytes B`, and where times are wanted the nanoseconds a line behind each, by both.
+/// `Differs` where the two come to other sums or other bytes.
+pub fn measure_text<R: Print + Clock + AllocGlobal>(
+    watch: &Watch<'_, R>,
+    seed: u64,
+    size: usize,
+) -> Result<(), Failure> {
+    let alloc = watch.rt.alloc();
+    let mut generator = Generator::new(seed);
+    compare_reading(watch, &made_lines(alloc, &mut generator, size)?)?;
+    compare_writing(watch, &made_numbers(alloc, &mut generator, size)?)
+}
+
+/// So many lines that add a point.
+fn made_lines(
+    alloc: Global,
+    generator: &mut Generator,
+    size: usize,
+) -> Result<Vec<String>, AllocError> {
+    let mut lines = Vec::with_capacity(alloc, size)?;
+    for _ in 0..size {
+        let id = generator.draw();
+        let x = generator.below(COORDINATES);
+        let y = generator.below(COORDINATES);
+        let w = generator.below(COORDINATES);
+        lines.push(format!(in alloc; "add a {id} {x} {y} {w}")?)?;
+    }
+    Ok(lines)
+}
+
+/// So many numbers of 64 bits.
+fn made_numbers(
+    alloc: Global,
+    generator: &mut Generator,
+    size: usize,
+) -> Result<Vec<u64>, AllocError> {
+    let mut numbers = Vec::with_capacity(alloc, size)?;
+    for _ in 0..size {
+        let upper = u64::from(generator.draw());
+        numbers.push(upper * (1 << 32) + u64::from(generator.draw()))?;
+    }
+    Ok(numbers)
+}
+
+/// Adds up the numbers of lines, by the script language and by std.
+fn compare_reading<R: Print + Clock + AllocGlobal>(
+    watch: &Watch<'_, R>,
+    lines: &[String],
+) -> Result<(), Failure> {
+    let count = lines.len();
+    let begun = watch.start()?;
+    let sum = sum_of_adds(lines);
+    let time = watch.since(begun)?;
+    let begun = watch.start()?;
+    let wanted = sum_by_std(lines);
+    let time_of_std = watch.since(begun)?;
+    if sum != wanted {
+        let text = format!(in watch.rt.alloc(); "the lines' sum: {sum}, and {wanted} by std")?;
+        return Err(Failure::Differs(text));
+    }
+    println!(watch.rt; "lines {count} sum {sum}")?;
+    report(watch, "read", time, count)?;
+    report(watch, "read by std", time_of_std, count)?;
+    Ok(())
+}
+
+/// Writes a count's reply for each number, by the map's crates and by std.
+fn compare_writing<R: Print + Clock + AllocGlobal>(
+    watch: &Watch<'_, R>,
+    numbers: &[u64],
+) -> Result<(), Failure> {
+    let alloc = watch.rt.alloc();
+    let count = numbers.len();
+    let size = count.saturating_mul(LONGEST);
+    let mut sink = MemSink::new(vec![in alloc; 0u8; size]?, usize::MAX, Vec::new(alloc));
+    let begun = watch.start()?;
+    write_counts(numbers, &mut sink)?;
+    let time = watch.since(begun)?;
+    let mut text = String::with_capacity(alloc, size)?;
+    let begun = watch.start()?;
+    write_counts_by_std(numbers, &mut text)?;
+    let time_of_std = watch.since(begun)?;
+    let bytes = text.len();
+    if sink.written() != text.as_bytes() {
+        let text = format!(in alloc; "the replies: not the {bytes} bytes by std")?;
+        return Err(Failure::Differs(text));
+    }
+    println!(watch.rt; "replies {count} bytes {bytes}")?;
+    report(watch, "write", time, count)?;
+    report(watch, "write by std", time_of_std, count)?;
+    Ok(())
+}
+
+/// Prints the nanoseconds a line, rounded down, where times are wanted.
+fn report<R: Print + Clock>(
+    watch: &Watch<'_, R>,
+    word: &str,
+    time: u64,
+    lines: usize,
+) -> io::Result<()> {
+    if watch.is_on && lines > 0 {
+        let mean = time / lines as u64;
+        println!(watch.rt; "{word} mean {mean}")?;
+    }
+    Ok(())
+}
+
+/// The sum of the numbers of all points that the lines add, by the script language; 2^64 - 1 where it is more.
+fn sum_of_adds(lines: &[String]) -> u64 {
+    let mut sum = 0u64;
+    for line in lines {
+        if let Ok(Some(Command::Add { id, x, y, w, .. })) = parse(line.as_bytes()) {
+            let others = u64::from(x) + u64::from(y) + u64::from(w);
+            sum = sum.saturating_add(id).saturating_add(others);
+        }
+    }
+    sum
+}
+
+/// The sum of all words that are numbers, by std alone.
+fn sum_by_std(lines: &[String]) -> u64 {
+    lines
+        .iter()
+        .flat_map(|line| line.split_ascii_whitespace())
+        .filter_map(|word| word.parse::<u64>().ok())
+        .fold(0, |sum: u64, number| sum.saturating_add(number))
+}
+
+/// Writes the reply to a count for each number.
+fn write_counts<K: Sink>(numbers: &[u64], sink: &mut K) -> Result<(), WriteFault> {
+    for number in numbers {
+        let reply = Reply::Count {
+            n: *number,
+            asked: ASKED,
+        };
+        write_reply(&reply, false, sink)?;
+    }
+    Ok(())
+}
+
+/// Writes the same lines by `writeln!`.
+fn write_counts_by_std(numbers: &[u64], text: &mut String) -> Result<(), AllocError> {
+    for number in numbers {
+        writeln!(text, "count {number}")?;
+    }
+    Ok(())
+}
+
+#[cfg(test)]
+mod tests {
+    use super::{compare_reading, measure_text};
+    use samples::{Failure, Watch};
+    use std::test::Fail;
+
+    /// The script language finds no point in a segment, and std finds numbers.
+    #[test]
+    fn other_lines_differ(rt: HostRuntime) -> Result<(), Fail> {
+        let watch = Watch {
+            rt: &rt,
+            is_on: true,
+        };
+        measure_text(&watch, 1, 33)?;
+        let line = String::from_str(rt.alloc(), "seg a 1 2 3 4")?;
+        let found = compare_reading(&watch, &vec![in rt.alloc(); line]?);
+        assert!(rt; matches!(found, Err(Failure::Differs(_))));
+        Ok(())
+    }
+}
