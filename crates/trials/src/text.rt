@@ -1,11 +1,10 @@
 //! Lines read and replies written, by the map's crates and by std alone.
 use answer_text::{Reply, write_reply};
 use map_io::{MemSink, Sink, WriteFault};
-use samples::{Failure, Generator, Watch};
 use map_shapes::Asked;
+use samples::{Failure, Generator, Watch, expect_same};
 use script_lang::{Command, parse};
 use std::alloc::{AllocError, Global};
-use std::io;
 use std::time::Clock;
 
 /// Coordinates and weights are below this.
@@ -23,48 +22,31 @@ const ASKED: Asked = Asked {
 
 /// Reads so many seeded lines and writes so many replies, by the map's crates and by std alone.
 ///
-/// Prints `lines N sum S` and `replies N bytes B`, and where times are wanted the nanoseconds a line behind each, by both.
+/// Prints `lines N sum S` and `replies N bytes B`, and where times are wanted the nanoseconds a line before each, by both.
 /// `Differs` where the two come to other sums or other bytes.
 pub fn measure_text<R: Print + Clock + AllocGlobal>(
     watch: &Watch<'_, R>,
     seed: u64,
     size: usize,
 ) -> Result<(), Failure> {
-    let alloc = watch.rt.alloc();
     let mut generator = Generator::new(seed);
-    compare_reading(watch, &made_lines(alloc, &mut generator, size)?)?;
-    compare_writing(watch, &made_numbers(alloc, &mut generator, size)?)
+    let mut lines = Vec::new(watch.rt.alloc());
+    let mut numbers = Vec::new(watch.rt.alloc());
+    for _ in 0..size {
+        lines.push(made_line(watch.rt.alloc(), &mut generator)?)?;
+        numbers.push(generator.state)?;
+    }
+    compare_reading(watch, &lines)?;
+    compare_writing(watch, &numbers)
 }
 
-/// So many lines that add a point.
-fn made_lines(
-    alloc: Global,
-    generator: &mut Generator,
-    size: usize,
-) -> Result<Vec<String>, AllocError> {
-    let mut lines = Vec::with_capacity(alloc, size)?;
-    for _ in 0..size {
-        let id = generator.draw();
-        let x = generator.below(COORDINATES);
-        let y = generator.below(COORDINATES);
-        let w = generator.below(COORDINATES);
-        lines.push(format!(in alloc; "add a {id} {x} {y} {w}")?)?;
-    }
-    Ok(lines)
-}
-
-/// So many numbers of 64 bits.
-fn made_numbers(
-    alloc: Global,
-    generator: &mut Generator,
-    size: usize,
-) -> Result<Vec<u64>, AllocError> {
-    let mut numbers = Vec::with_capacity(alloc, size)?;
-    for _ in 0..size {
-        let upper = u64::from(generator.draw());
-        numbers.push(upper * (1 << 32) + u64::from(generator.draw()))?;
-    }
-    Ok(numbers)
+/// A line that adds a point.
+fn made_line(alloc: Global, generator: &mut Generator) -> Result<String, AllocError> {
+    let id = generator.draw();
+    let x = generator.below(COORDINATES);
+    let y = generator.below(COORDINATES);
+    let w = generator.below(COORDINATES);
+    format!(in alloc; "add a {id} {x} {y} {w}")
 }
 
 /// Adds up the numbers of lines, by the script language and by std.
@@ -73,19 +55,10 @@ fn compare_reading<R: Print + Clock + AllocGlobal>(
     lines: &[String],
 ) -> Result<(), Failure> {
     let count = lines.len();
-    let begun = watch.start()?;
-    let sum = sum_of_adds(lines);
-    let time = watch.since(begun)?;
-    let begun = watch.start()?;
-    let wanted = sum_by_std(lines);
-    let time_of_std = watch.since(begun)?;
-    if sum != wanted {
-        let text = format!(in watch.rt.alloc(); "the lines' sum: {sum}, and {wanted} by std")?;
-        return Err(Failure::Differs(text));
-    }
+    let sum = timed(watch, "read", count, || sum_of_adds(lines))?;
+    let wanted = timed(watch, "read by std", count, || sum_by_std(lines))?;
+    expect_same(watch.rt.alloc(), "the sum", &count, &sum, &wanted)?;
     println!(watch.rt; "lines {count} sum {sum}")?;
-    report(watch, "read", time, count)?;
-    report(watch, "read by std", time_of_std, count)?;
     Ok(())
 }
 
@@ -98,36 +71,38 @@ fn compare_writing<R: Print + Clock + AllocGlobal>(
     let count = numbers.len();
     let size = count.saturating_mul(LONGEST);
     let mut sink = MemSink::new(vec![in alloc; 0u8; size]?, usize::MAX, Vec::new(alloc));
-    let begun = watch.start()?;
-    write_counts(numbers, &mut sink)?;
-    let time = watch.since(begun)?;
+    timed(watch, "write", count, || write_counts(numbers, &mut sink))??;
     let mut text = String::with_capacity(alloc, size)?;
-    let begun = watch.start()?;
-    write_counts_by_std(numbers, &mut text)?;
-    let time_of_std = watch.since(begun)?;
-    let bytes = text.len();
-    if sink.written() != text.as_bytes() {
-        let text = format!(in alloc; "the replies: not the {bytes} bytes by std")?;
-        return Err(Failure::Differs(text));
-    }
-    println!(watch.rt; "replies {count} bytes {bytes}")?;
-    report(watch, "write", time, count)?;
-    report(watch, "write by std", time_of_std, count)?;
+    timed(
+        watch,
+        "write by std",
+        count,
+        || write_by_std(numbers, &mut text),
+    )??;
+    let is_same = sink.written() == text.as_bytes();
+    expect_same(alloc, "the same bytes", &count, &is_same, &true)?;
+    println!(watch.rt; "replies {count} bytes {}", text.len())?;
     Ok(())
 }
 
-/// Prints the nanoseconds a line, rounded down, where times are wanted.
-fn report<R: Print + Clock>(
+/// Does some work on so many lines, and prints the nanoseconds that each took, rounded down, where times are wanted.
+fn timed<R: Print + Clock, T, F: FnOnce() -> T>(
     watch: &Watch<'_, R>,
     word: &str,
-    time: u64,
     lines: usize,
-) -> io::Result<()> {
+    work: F,
+) -> Result<T, Failure>
+where
+    T: Drop,
+    requires { F.IsAlwaysCallable work }
+{
+    let begun = watch.start()?;
+    let done = work();
+    let time = watch.since(begun)?;
     if watch.is_on && lines > 0 {
-        let mean = time / lines as u64;
-        println!(watch.rt; "{word} mean {mean}")?;
+        println!(watch.rt; "{word} mean {}", time / lines as u64)?;
     }
-    Ok(())
+    Ok(done)
 }
 
 /// The sum of the numbers of all points that the lines add, by the script language; 2^64 - 1 where it is more.
@@ -153,18 +128,14 @@ fn sum_by_std(lines: &[String]) -> u64 {
 
 /// Writes the reply to a count for each number.
 fn write_counts<K: Sink>(numbers: &[u64], sink: &mut K) -> Result<(), WriteFault> {
-    for number in numbers {
-        let reply = Reply::Count {
-            n: *number,
-            asked: ASKED,
-        };
-        write_reply(&reply, false, sink)?;
+    for n in numbers.iter().copied() {
+        write_reply(&Reply::Count { n, asked: ASKED }, false, sink)?;
     }
     Ok(())
 }
 
 /// Writes the same lines by `writeln!`.
-fn write_counts_by_std(numbers: &[u64], text: &mut String) -> Result<(), AllocError> {
+fn write_by_std(numbers: &[u64], text: &mut String) -> Result<(), AllocError> {
     for number in numbers {
         writeln!(text, "count {number}")?;
     }

@@ -1,11 +1,8 @@
 //! Example scripts beside the answers that are expected.
-ghost use Rattle.std.specs.Prelude.{◌<◌, ◌^◌, length};
-
-use map_io::{MemSink, WriteFault};
-use samples::Failure;
+use map_io::MemSink;
 use map_session::{Session, answer_lines};
 use query_laws::step_ledger::Steps;
-use std::alloc::{AllocError, Global};
+use samples::Failure;
 use std::fs;
 use std::rt::Files;
 use std::sync::ledger::Ledger;
@@ -58,29 +55,14 @@ fn check_example<R: Files + AllocGlobal, L: Ledger>(
     if script.len() >= MOST_BYTES {
         return Err(Failure::TooLong);
     }
-    if has_answers(alloc, &script, &wanted, steps)? {
+    let space = vec![in alloc; 0u8; wanted.len()]?;
+    let mut sink = MemSink::new(space, usize::MAX, Vec::new(alloc));
+    let done = answer_lines(&mut Session::new(alloc, false), &script, &mut sink, steps);
+    if done.is_ok() && sink.written() == wanted.as_slice() {
         return Ok(());
     }
     let text = format!(in alloc;
         "the answers to {folder}/{name}.livemap aren't those of {name}.out"
     )?;
     Err(Failure::Differs(text))
-}
-
-/// Whether the lines of a script are answered, from an empty map on, by these bytes.
-fn has_answers<L: Ledger>(
-    alloc: Global,
-    script: &[u8],
-    wanted: &[u8],
-    steps: &mut Steps<L>,
-) -> Result<bool, AllocError>
-    requires { length script.now < 2 ^ 40 }
-{
-    let space = vec![in alloc; 0u8; wanted.len()]?;
-    let mut sink = MemSink::new(space, usize::MAX, Vec::new(alloc));
-    let mut session = Session::new(alloc, false);
-    match answer_lines(&mut session, script, &mut sink, steps) {
-        Ok(()) => Ok(sink.written() == wanted),
-        Err(WriteFault) => Ok(false),
-    }
 }

@@ -2,42 +2,21 @@
 ghost use Rattle.std.specs.Prelude.{None};
 
 use map_io::{Failed, Sink};
-use samples::{Failure, Samples, Watch};
 use map_session::{Done, Session, split_line};
 use query_laws::step_ledger::Steps;
+use samples::{Failure, Samples, Watch};
 use script_lang::split_word;
-use std::alloc::{AllocError, Global};
 use std::fs;
 use std::rt::Files;
 use std::sync::ledger::Ledger;
 use std::time::Clock;
 
 /// A session takes fewer lines than this.
-pub const MOST_LINES: u64 = 1 << 40;
+const MOST_LINES: u64 = 1 << 40;
 
-/// The word that stands for all updates together.
-const UPDATE: &str = "update";
-
-/// What lines are told of by: the command words of scripts in alphabetical order, and all updates together.
-const WORDS: [&str; 17] = [
-    "above",
-    "add",
-    "count",
-    "drop",
-    "get",
-    "layer",
-    "list",
-    "near",
-    "nearest",
-    "recent",
-    "seg",
-    "size",
-    "stab",
-    "stabcount",
-    "sum",
-    "top",
-    UPDATE,
-];
+/// What lines are told of by: the command words in alphabetical order, and all updates together.
+const WORDS: &str =
+    "above add count drop get layer list near nearest recent seg size stab stabcount sum top update";
 
 /// The times of the lines that are told of by one word; 0 for each where times aren't wanted.
 #[derive(Drop)]
@@ -49,10 +28,21 @@ struct Told {
 impl Told {
     /// Whether a line with this first word is told of here.
     fn has(&self, first: &[u8]) -> bool {
-        if self.word == UPDATE {
+        if self.word == "update" {
             return matches!(first, b"add" | b"seg" | b"drop");
         }
         self.word.as_bytes() == first
+    }
+
+    /// Prints how many lines there were, and what is told of their times where those are wanted.
+    fn print<R: Print + Clock>(self, watch: &Watch<'_, R>) -> Result<(), Failure> {
+        let Told { word, times } = self;
+        match times.summary() {
+            Some(summary) if watch.is_on => println!(watch.rt; "{word} {summary}")?,
+            Some(summary) => println!(watch.rt; "{word} count {}", summary.count)?,
+            None => {}
+        }
+        Ok(())
     }
 }
 
@@ -80,23 +70,18 @@ pub fn measure_script<R: Print + Clock + Files + AllocGlobal, L: Ledger>(
     path: &str,
     steps: &mut Steps<L>,
 ) -> Result<(), Failure> {
+    let alloc = watch.rt.alloc();
     let script = fs::read(watch.rt, path)?;
-    let mut table = table_of_words(watch.rt.alloc())?;
-    run_script(watch, &script, &mut table, steps)?;
-    for told in table {
-        report(watch, told)?;
-    }
-    Ok(())
-}
-
-/// An entry for each word.
-fn table_of_words(alloc: Global) -> Result<Vec<Told>, AllocError> {
-    let mut table = Vec::with_capacity(alloc, WORDS.len())?;
-    for word in WORDS {
+    let mut table = Vec::new(alloc);
+    for word in WORDS.split_ascii_whitespace() {
         let times = Samples::new(alloc);
         table.push(Told { word, times })?;
     }
-    Ok(table)
+    run_script(watch, &script, &mut table, steps)?;
+    for told in table {
+        told.print(watch)?;
+    }
+    Ok(())
 }
 
 /// Gives each line of a script to a session, and puts its time where it is told of.
@@ -115,7 +100,7 @@ fn run_script<R: Clock + AllocGlobal, L: Ledger>(
     run_line(watch, &mut session, rest, table, steps)
 }
 
-/// Gives a line to a session, drops its answer, and puts its time where it is told of: nowhere where it says nothing.
+/// Gives a line to a session, and puts its time where it is told of: nowhere where it says nothing.
 fn run_line<R: Clock, L: Ledger>(
     watch: &Watch<'_, R>,
     session: &mut Session,
@@ -123,11 +108,8 @@ fn run_line<R: Clock, L: Ledger>(
     table: &mut [Told],
     steps: &mut Steps<L>,
 ) -> Result<(), Failure> {
-    if session.lines() >= MOST_LINES {
-        return Err(Failure::TooLong);
-    }
     let begun = watch.start()?;
-    let done = session.line(line, &mut NullSink, steps)?;
+    let done = give_line(session, line, &mut NullSink, steps)?;
     let nanoseconds = watch.since(begun)?;
     if let (true, Some((first, _))) = (done != Done::Silent, split_word(line)) {
         for told in table.iter_mut().filter(|told| told.has(first)) {
@@ -137,17 +119,15 @@ fn run_line<R: Clock, L: Ledger>(
     Ok(())
 }
 
-/// Prints how many lines there were, and what is told of their times where those are wanted.
-fn report<R: Print + Clock>(watch: &Watch<'_, R>, told: Told) -> Result<(), Failure> {
-    let Told { word, times } = told;
-    let Some(summary) = times.summary() else {
-        return Ok(());
-    };
-    let count = summary.count;
-    if watch.is_on {
-        println!(watch.rt; "{word} {summary}")?;
-    } else {
-        println!(watch.rt; "{word} count {count}")?;
+/// Gives a line to a session. `TooLong` where it has had 2^40.
+pub fn give_line<K: Sink, L: Ledger>(
+    session: &mut Session,
+    line: &[u8],
+    sink: &mut K,
+    steps: &mut Steps<L>,
+) -> Result<Done, Failure> {
+    if session.lines() >= MOST_LINES {
+        return Err(Failure::TooLong);
     }
-    Ok(())
+    Ok(session.line(line, sink, steps)?)
 }

@@ -1,45 +1,53 @@
-//! Scripts and examples: one that is answered rightly, and one that isn't.
+//! Scripts and examples that are answered rightly, and such as aren't.
 ghost use Rattle.std.specs.Prelude.{◌≡◌};
 
 use crate::session::made::Pair;
+use crate::session::plain_map::PlainMap;
 use crate::session::{check_examples, check_made_script, measure_script};
-use samples::{Failure, Watch};
 use query_laws::step_ledger::{SHARES, Steps, blank};
+use samples::{Failure, Watch};
 use std::alloc::Global;
 use std::fs;
 use std::marker::Brand;
 use std::sync::ledger::{Blank, Ledger};
 use std::test::Fail;
 
-/// Measures a script in the folder that the test runs in, and compares its answers with right ones and with wrong ones.
-fn examples<L: Ledger>(rt: &HostRuntime, blank: Blank) -> Result<bool, Failure>
+/// Whether an example with a wrong answer differs, and a map that lost its layers.
+fn try_others<L: Ledger>(rt: &HostRuntime, blank: Blank) -> Result<[bool; 2], Failure>
     requires name { blank.name ≡ L.name }
     requires parts { blank.parts ≡ L.parts }
     requires shares { blank.parts ≡ SHARES }
 {
     let mut steps = Steps::<L>::new(blank);
-    fs::create_dir_all(rt, "compared")?;
+    fs::create_dir_all(rt, "examples")?;
     fs::write(
         rt,
-        "compared/one.livemap",
+        "examples/one.livemap",
         "#\ndrop a 1\nlayer a points range",
     )?;
-    fs::write(rt, "compared/one.out", "no layer\nok\n")?;
+    fs::write(rt, "examples/one.out", "no layer\nok\n")?;
     measure_script(
         &Watch { rt, is_on: true },
-        "compared/one.livemap",
+        "examples/one.livemap",
         &mut steps,
     )?;
-    check_examples(rt, "compared", &mut steps)?;
-    fs::write(rt, "compared/one.out", "no layer\nno\n")?;
-    let found = check_examples(rt, "compared", &mut steps);
-    fs::remove_dir_all(rt, "compared")?;
-    Ok(matches!(found, Err(Failure::Differs(_))))
+    check_examples(rt, "examples", &mut steps)?;
+    fs::write(rt, "examples/one.out", "no layer\nno\n")?;
+    let found = check_examples(rt, "examples", &mut steps);
+    fs::remove_dir_all(rt, "examples")?;
+    let mut pair = Pair::new(rt.alloc(), 64)?;
+    pair.check_lines(rt.alloc(), 0, 32, &mut steps)?;
+    pair.map = PlainMap::new(rt.alloc(), 64)?;
+    let other = pair.check_lines(rt.alloc(), 0, 32, &mut steps);
+    Ok([
+        matches!(found, Err(Failure::Differs(_))),
+        matches!(other, Err(Failure::Differs(_))),
+    ])
 }
 
 #[test]
-fn wrong_examples_differ(rt: HostRuntime) -> Result<(), Fail> {
-    assert!(rt; examples::<Brand>(&rt, blank())?);
+fn others_differ(rt: HostRuntime) -> Result<(), Fail> {
+    assert_eq!(rt; try_others::<Brand>(&rt, blank())?, [true, true]);
     Ok(())
 }
 
