@@ -11,6 +11,9 @@ use trials::{
     Indexed, Order, Stacked, check_collections, check_parts, measure_collection, measure_part,
 };
 
+/// How many stacks, and indexes, are compared with lists in each order of deletes.
+const LISTS: u64 = 50;
+
 /// What is tried of a kind of part.
 #[derive(Clone, Copy, Debug, PartialEq, Eq)]
 pub enum Layer {
@@ -63,8 +66,8 @@ where
         }
         Layer::All => {
             check_parts::<B, R, L>(rt, seed, size, steps)?;
-            check_collections::<B, Stacked<B>, R, L>(rt, seed, steps)?;
-            check_collections::<B, Indexed<B>, R, L>(rt, seed, steps)
+            check_collections::<B, Stacked<B>, R, L>(rt, seed, LISTS, steps)?;
+            check_collections::<B, Indexed<B>, R, L>(rt, seed, LISTS, steps)
         }
     }
 }

@@ -41,7 +41,7 @@ fn main(rt: HostRuntime) -> anyhow::Result<ExitCode> {
 }
 
 /// What the program ends with.
-fn exit_code<R: Print>(rt: &R, done: Result<(), Failure>) -> anyhow::Result<ExitCode> {
+fn exit_code<R: Eprint>(rt: &R, done: Result<(), Failure>) -> anyhow::Result<ExitCode> {
     match done {
         Ok(()) => Ok(ExitCode::SUCCESS),
         Err(Failure::Differs(text)) => {

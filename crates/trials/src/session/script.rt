@@ -2,7 +2,7 @@
 ghost use Rattle.std.specs.Prelude.{None};
 
 use map_io::{Failed, Sink};
-use map_session::{Done, Session, split_line};
+use map_session::{Done, Session};
 use query_laws::step_ledger::Steps;
 use samples::{Failure, Samples, Watch};
 use script_lang::split_word;
@@ -92,12 +92,10 @@ fn run_script<R: Clock + AllocGlobal, L: Ledger>(
     steps: &mut Steps<L>,
 ) -> Result<(), Failure> {
     let mut session = Session::new(watch.rt.alloc(), false);
-    let mut rest = script;
-    while let Some((line, after)) = split_line(rest) {
+    for line in script.split(|byte| *byte == b'\n') {
         run_line(watch, &mut session, line, table, steps)?;
-        rest = after;
     }
-    run_line(watch, &mut session, rest, table, steps)
+    Ok(())
 }
 
 /// Gives a line to a session, and puts its time where it is told of: nowhere where it says nothing.
