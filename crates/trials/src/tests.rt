@@ -1,0 +1,47 @@
+//! Trials that run.
+ghost use Rattle.std.specs.Prelude.{◌≡◌};
+
+use crate::{
+    Indexed, Order, Stacked, check_collections, check_parts, measure_collection, measure_part,
+};
+use query_laws::step_ledger::{SHARES, Steps, blank};
+use range_tree::RangeBuilder;
+use samples::{Failure, Spread, Watch};
+use std::marker::Brand;
+use std::rt::Files;
+use std::sync::ledger::{Blank, Ledger};
+use std::test::Fail;
+use std::time::Clock;
+
+/// All trials of range parts, with times.
+fn try_all<R: Print + Clock + Files + AllocGlobal, L: Ledger>(
+    rt: &R,
+    blank: Blank,
+) -> Result<(), Failure>
+    requires name { blank.name ≡ L.name }
+    requires parts { blank.parts ≡ L.parts }
+    requires shares { blank.parts ≡ SHARES }
+{
+    let mut steps = Steps::<L>::new(blank);
+    let watch = Watch { rt, is_on: true };
+    check_parts::<RangeBuilder, R, L>(rt, 1, 257, &mut steps)?;
+    check_collections::<RangeBuilder, Stacked<RangeBuilder>, R, L>(rt, 1, &mut steps)?;
+    check_collections::<RangeBuilder, Indexed<RangeBuilder>, R, L>(rt, 1, &mut steps)?;
+    measure_part::<RangeBuilder, R, L>(&watch, 1, 33, Spread::Column, &mut steps)?;
+    measure_collection::<RangeBuilder, Stacked<RangeBuilder>, R, L>(
+        &watch, 1, 300, None, &mut steps,
+    )?;
+    measure_collection::<RangeBuilder, Indexed<RangeBuilder>, R, L>(
+        &watch,
+        1,
+        300,
+        Some(Order::Random),
+        &mut steps,
+    )
+}
+
+#[test]
+fn tries_all(rt: HostRuntime) -> Result<(), Fail> {
+    try_all::<HostRuntime, Brand>(&rt, blank())?;
+    Ok(())
+}
