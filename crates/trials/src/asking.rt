@@ -30,7 +30,8 @@ impl<B: Builder, S: Answering<B>, R: Print + Clock + AllocGlobal> Asker<B> for T
     where
         B::Part: Answers<Q>,
     {
-        let (alloc, watch) = (self.watch.rt.alloc(), self.watch);
+        let (watch, set) = (self.watch, self.set);
+        let alloc = watch.rt.alloc();
         let mut times = Samples::new(alloc);
         let [mut answers, mut parts] = [0u64; 2];
         steps.start_lap();
@@ -38,7 +39,7 @@ impl<B: Builder, S: Answering<B>, R: Print + Clock + AllocGlobal> Asker<B> for T
             let question = Q::drawn(&mut self.generator, self.spread);
             let begun = watch.start()?;
             let (numbers, consulted) = do_or_retry(&mut self.refused, || {
-                numbers_of::<B, Q, S, L>(alloc, self.set, &question, steps)
+                numbers_of::<B, Q, S, L>(alloc, set, &question, steps)
             })?;
             watch.stop(begun, &mut times)?;
             answers = answers.wrapping_add(sum_of(&numbers));

@@ -1,5 +1,7 @@
 //! A part of some items, built at once.
-ghost use Rattle.std.specs.Prelude.{◌≡◌, ◌<◌, ◌≤◌, ◌^◌};
+ghost use Rattle.std.specs.Prelude.{◌≡◌, ◌<◌, ◌≤◌, ◌^◌, true, false, IfOk, OnOk, IsTrue, length};
+ghost use Rattle.builder_trait.specs.Builders.{begun};
+ghost use Rattle.trials.specs.Filling.{comes_after};
 
 use builder_trait::Builder;
 use query_laws::Item;
@@ -36,6 +38,7 @@ fn reordered<I: Item>(alloc: Global, items: &[I]) -> Result<Vec<usize>, AllocErr
 /// Whether an item may be put after the last one that was put in an order.
 fn is_after<I: Item>(order: usize, last: Option<I>, item: &I) -> bool
     requires { order < 2 }
+    ensures { result ≡ comes_after (I.before order) last item.now }
 {
     match last {
         Some(last) => last.before(order, item),
@@ -46,7 +49,10 @@ fn is_after<I: Item>(order: usize, last: Option<I>, item: &I) -> bool
 /// A builder of the least level with room for so many items.
 ///
 /// `Unfit` where no builder has it.
-fn room_for<B: Builder>(alloc: Global, n: usize) -> Result<B, Failure> {
+fn room_for<B: Builder>(alloc: Global, n: usize) -> Result<B, Failure>
+    ensures begun { IfOk result (λ builder. B.progress builder ≡ begun (B.progress builder).at_level) }
+    ensures room { IfOk result (λ builder. n ≤ 2 ^ (B.progress builder).at_level) }
+{
     for level in 0..32 {
         if n <= 1 << level {
             return Ok(B::room(alloc, level)?);
@@ -60,7 +66,11 @@ fn put_in_first<B: Builder, L: Ledger>(
     builder: &mut B,
     items: &[B::Item],
     steps: &mut Steps<L>,
-) -> Result<(), Failure> {
+) -> Result<(), Failure>
+    requires begun { B.progress builder.old ≡ begun (B.progress builder.old).at_level }
+    requires room { length items.now ≤ 2 ^ (B.progress builder.old).at_level }
+    ensures put { OnOk result (B.progress builder.new ≡ record (B.progress builder.old) { items = items.now }) }
+{
     let mut last = None;
     for (place, item) in items.iter().enumerate() {
         if !is_after(0, last, item) {
@@ -78,7 +88,12 @@ fn put_in_second<B: Builder, L: Ledger>(
     items: &[B::Item],
     places: &[usize],
     steps: &mut Steps<L>,
-) -> Result<(), Failure> {
+) -> Result<(), Failure>
+    requires begun { B.progress builder.old ≡ record (begun (B.progress builder.old).at_level) { items = items.now } }
+    ensures open { OnOk result ((B.progress builder.new).is_sealed ≡ false) }
+    ensures same { OnOk result ((B.progress builder.new).items ≡ items.now) }
+    ensures count { OnOk result (length (B.progress builder.new).reordered ≡ length places.now) }
+{
     let mut last = None;
     for place in places {
         let Some(item) = items.get(*place) else {
@@ -98,7 +113,9 @@ pub fn filled<B: Builder, L: Ledger>(
     alloc: Global,
     items: &[B::Item],
     steps: &mut Steps<L>,
-) -> Result<B, Failure> {
+) -> Result<B, Failure>
+    ensures { IfOk result (λ builder. (B.progress builder).is_sealed ≡ true) }
+{
     let mut items = Vec::from_slice(alloc, items)?;
     items.sort_unstable_by(|a, b| compare(0, a, b));
     let places = reordered(alloc, &items)?;

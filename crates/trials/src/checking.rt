@@ -19,9 +19,6 @@ const ROUNDS: usize = 4;
 /// How often each question of a kind is asked in a round.
 const EACH: usize = 12;
 
-/// The lists of updates of each order of deletes.
-const LISTS: u64 = 50;
-
 /// The most updates of a list.
 const MOST_UPDATES: u32 = 400;
 
@@ -128,7 +125,9 @@ fn mark_some<B: Builder, L: Ledger>(
 ) -> Result<(), Failure> {
     let size = trial.set.part.len();
     for _ in 0..size.div_ceil(4) {
-        let place = trial.generator.below(size as u32) as usize;
+        let place = Order::Random
+            .place(&mut trial.generator, size)
+            .ok_or(Failure::Unfit)?;
         mark(trial, place, steps)?;
     }
     Ok(())
@@ -150,31 +149,33 @@ fn mark<B: Builder, L: Ledger>(
     expect_same(trial.alloc, "mark", &item.stamp(), &found, &wanted)
 }
 
-/// Compares collections with plain lists, over fifty lists of up to 400 updates for each order of deletes. Prints a line for each order.
+/// Compares collections with plain lists, over some lists of up to 400 updates for each order of deletes. Prints a line for each order.
 ///
 /// It asks twice for memory. `Differs` where an answer of a collection isn't that of the list.
 pub fn check_collections<B: Kind, C: Collection<B> + Drop, R: Print + AllocGlobal, L: Ledger>(
     rt: &R,
     seed: u64,
+    lists: u64,
     steps: &mut Steps<L>,
 ) -> Result<(), Failure> {
     for order in [Order::Oldest, Order::Random] {
-        let seen = check_order::<B, C, L>(rt.alloc(), seed, order, steps)?;
-        println!(rt; "{} {LISTS} {order} {seen}", C::word())?;
+        let seen = check_order::<B, C, L>(rt.alloc(), seed, lists, order, steps)?;
+        println!(rt; "{} {lists} {order:?} {seen:?}", C::word())?;
     }
     Ok(())
 }
 
-/// Compares fifty collections with plain lists.
+/// Compares some collections with plain lists.
 fn check_order<B: Kind, C: Collection<B> + Drop, L: Ledger>(
     alloc: Global,
     seed: u64,
+    lists: u64,
     order: Order,
     steps: &mut Steps<L>,
 ) -> Result<Seen, Failure> {
     let mut seen = Seen::default();
-    for list in 0..LISTS {
-        let mut generator = Generator::new(seed.wrapping_add(list));
+    for list in 0..lists {
+        let generator = Generator::new(seed.wrapping_add(list));
         let set = do_or_retry(&mut seen.refused, || C::new(alloc, order, 0))?;
         let mut trial = Trial::<B, _> {
             alloc,

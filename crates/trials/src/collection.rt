@@ -7,7 +7,6 @@ use query_laws::step_ledger::Steps;
 use query_laws::{NoMemory, Question};
 use samples::{Failure, Generator, Seeded, Spread};
 use std::alloc::Global;
-use std::fmt;
 use std::sync::ledger::Ledger;
 
 /// Which item is deleted next.
@@ -17,18 +16,7 @@ pub enum Order {
     Random,
 }
 
-impl fmt::Display for Order {
-    fn fmt<W: fmt::Write>(&self, f: &mut fmt::Formatter<W>) -> fmt::Result {
-        f.write_str(match self {
-            Order::Oldest => "oldest",
-            Order::Random => "random",
-        })
-    }
-}
-
 /// What a collection tells of itself.
-///
-/// It prints as `live L weight W parts P rooms R unwalked U`.
 #[derive(Clone, Copy, Debug, Default, PartialEq, Eq)]
 pub struct Told {
     pub live: u64,
@@ -37,22 +25,6 @@ pub struct Told {
     pub rooms: u64,
     /// The items that a rebuild has still to come by, and 0 where none runs.
     pub unwalked: u64,
-}
-
-impl fmt::Display for Told {
-    fn fmt<W: fmt::Write>(&self, f: &mut fmt::Formatter<W>) -> fmt::Result {
-        let Told {
-            live,
-            weight,
-            parts,
-            rooms,
-            unwalked,
-        } = *self;
-        write!(
-            f,
-            "live {live} weight {weight} parts {parts} rooms {rooms} unwalked {unwalked}"
-        )
-    }
 }
 
 /// What questions are put to.

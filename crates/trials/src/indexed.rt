@@ -1,15 +1,17 @@
 //! An index of seeded items, beside their chain.
-ghost use Rattle.std.specs.Prelude.{◌≡◌, ◌<◌, ◌≤◌};
+ghost use Rattle.std.specs.Prelude.{◌≡◌, ◌<◌, ◌≤◌, IfSome, IsTrue};
+ghost use Rattle.id_chain.specs.Chain.{is_linked};
 
 use crate::collection::{Answering, Collection, Order, Told};
 use crate::kind::Kind;
-use builder_trait::{Answers, Asking, Builder};
+use builder_trait::{Answers, Asking, Builder, Part};
 use global_rebuild::Index;
 use id_chain::{Chain, Handle};
 use query_laws::step_ledger::Steps;
 use query_laws::{Item, NoMemory, Question};
 use samples::{Failure, Generator, Seeded, Spread};
 use std::alloc::Global;
+use std::marker::Model;
 use std::sync::ledger::Ledger;
 
 /// The most items, and the most inserts.
@@ -22,6 +24,18 @@ pub struct Indexed<B: Builder> {
     index: Index<B>,
     handles: Vec<Handle>,
     order: Order,
+}
+
+impl<B: Builder> Model for Indexed<B> {
+    ghost use Rattle.std.specs.Prelude.{List};
+    ghost use Rattle.id_chain.specs.Chain.{Entry};
+    ghost use Rattle.global_rebuild.specs.Index.{IsIndexOf};
+
+    ghost Value = { List (Entry B.Item) };
+
+    ghost view = { λ c. c.chain.entries };
+
+    ghost invariant = { λ c. IsIndexOf B.Part.Part.contents B.Item.stamp c.index c.chain.entries };
 }
 
 impl<B: Builder> Answering<B> for Indexed<B> {
@@ -44,17 +58,26 @@ impl<B: Builder> Answering<B> for Indexed<B> {
     }
 }
 
-impl<B: Builder> Indexed<B> {
-    /// The handle of the item that is deleted next, if there is one.
-    fn next_deleted(&mut self, generator: &mut Generator) -> Option<Handle> {
-        let handle = match self.order {
-            Order::Oldest => self.chain.first()?,
-            Order::Random => {
-                let place = self.order.place(generator, self.handles.len())?;
-                self.handles.swap_remove(place)
-            }
-        };
-        self.chain.has(handle).then_some(handle)
+/// The handle of the item that is deleted next, if there is one.
+fn next_deleted<I: Copy>(
+    chain: &Chain<I>,
+    handles: &mut Vec<Handle>,
+    order: Order,
+    generator: &mut Generator,
+) -> Option<Handle>
+    ensures { IfSome result (λ handle. IsTrue (is_linked handle chain.now.entries)) }
+{
+    let handle = match order {
+        Order::Oldest => chain.first()?,
+        Order::Random => {
+            let place = order.place(generator, handles.len())?;
+            handles.swap_remove(place)
+        }
+    };
+    if chain.has(handle) {
+        Some(handle)
+    } else {
+        None
     }
 }
 
@@ -92,6 +115,9 @@ where
         self.index.prepare(&self.chain, steps)?;
         let item = <B::Item as Seeded>::drawn(generator, spread, stamp);
         let handle = self.chain.append(item);
+
+        // It says that the handles differ.
+        self.chain.len();
         self.index.commit_insert(&self.chain, handle, steps);
         if self.order == Order::Random {
             self.handles.push_reserved(handle);
@@ -105,7 +131,8 @@ where
         steps: &mut Steps<L>,
     ) -> Result<Option<B::Item>, Failure> {
         self.index.prepare(&self.chain, steps)?;
-        let Some(handle) = self.next_deleted(generator) else {
+        let Some(handle) = next_deleted(&self.chain, &mut self.handles, self.order, generator)
+        else {
             return Ok(None);
         };
         self.index.commit_delete(&self.chain, handle, steps);

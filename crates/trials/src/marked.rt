@@ -1,5 +1,6 @@
 //! A part whose items are marked.
-ghost use Rattle.std.specs.Prelude.{◌≡◌, ◌<◌};
+ghost use Rattle.std.specs.Prelude.{◌≡◌, ◌<◌, IfSome};
+ghost use Rattle.builder_trait.specs.Parts.{OwnsStamp};
 
 use crate::collection::Answering;
 use builder_trait::{Answers, Asking, Builder, Part};
@@ -31,11 +32,9 @@ impl<B: Builder> Answering<B> for Marked<B> {
 }
 
 /// The item at a place of a part, if no other has its stamp.
-pub fn own_item<P: Part, L: Ledger>(
-    part: &P,
-    place: usize,
-    steps: &mut Steps<L>,
-) -> Option<P::Item> {
+pub fn own_item<P: Part, L: Ledger>(part: &P, place: usize, steps: &mut Steps<L>) -> Option<P::Item>
+    ensures { IfSome result (λ item. OwnsStamp P.Item.stamp item (P.contents part.now).items) }
+{
     if place >= part.len() {
         return None;
     }

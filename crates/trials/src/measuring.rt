@@ -22,12 +22,10 @@ const ASKED: usize = 256;
 /// How many marks are tried.
 const MARKS: usize = 256;
 
-/// The most pairs of a delete and an insert.
-const MOST_PAIRS: usize = 90_000;
+/// The most updates after the first inserts.
+const MOST_UPDATES: usize = 180_000;
 
 /// Builds a part of so many seeded items, asks its questions and marks items, and prints what it took.
-///
-/// Where times are wanted, it also builds the part once more for the times of its turns.
 pub fn measure_part<B: Kind, R: Print + Clock + AllocGlobal, L: Ledger>(
     watch: &Watch<'_, R>,
     seed: u64,
@@ -41,14 +39,11 @@ where
     let mut generator = Generator::new(seed);
     let items = drawn_items(watch.rt.alloc(), &mut generator, spread, size)?;
     let mut set = measured_part::<B, R, L>(watch, &items, steps)?;
-    if watch.is_on {
-        time_turns::<B, R, L>(watch, &items, steps)?;
-    }
     ask_all(watch, "part", &set, seed, spread, steps)?;
     mark_some(watch, &mut generator, &mut set.part, steps)
 }
 
-/// The part of some items. Prints what it took.
+/// The part of some items. Prints what it took, and the times of its turns.
 fn measured_part<B: Builder, R: Print + Clock + AllocGlobal, L: Ledger>(
     watch: &Watch<'_, R>,
     items: &[B::Item],
@@ -56,29 +51,17 @@ fn measured_part<B: Builder, R: Print + Clock + AllocGlobal, L: Ledger>(
 ) -> Result<Marked<B>, Failure> {
     let mut times = Samples::new(watch.rt.alloc());
     steps.start_lap();
-    let begun = watch.start()?;
-    let part = built::<B, L>(watch.rt.alloc(), items, steps)?;
-    watch.stop(begun, &mut times)?;
-    let (size, turns, touches) = (part.len(), steps.lap_turns(), steps.lap_touches());
-    println!(watch.rt; "build items {size} turns {turns} touches {touches}")?;
-    watch.report("build", times)?;
-    Ok(Marked { part })
-}
-
-/// Builds the part of some items, and prints the times of its turns.
-fn time_turns<B: Builder, R: Print + Clock + AllocGlobal, L: Ledger>(
-    watch: &Watch<'_, R>,
-    items: &[B::Item],
-    steps: &mut Steps<L>,
-) -> Result<(), Failure> {
-    let mut times = Samples::new(watch.rt.alloc());
     let mut builder = filled::<B, L>(watch.rt.alloc(), items, steps)?;
     while builder.left() > 0 {
         let begun = watch.start()?;
         builder.turn(steps);
         watch.stop(begun, &mut times)?;
     }
-    watch.report("turn", times)
+    let part = builder.finish();
+    let (size, turns, touches) = (part.len(), steps.lap_turns(), steps.lap_touches());
+    println!(watch.rt; "build items {size} turns {turns} touches {touches}")?;
+    watch.report("turn", times)?;
+    Ok(Marked { part })
 }
 
 /// Asks each question of a kind, and prints what that took.
@@ -112,7 +95,9 @@ fn mark_some<P: Part, R: Print + Clock + AllocGlobal, L: Ledger>(
     let mut costs = Costs::new(watch.rt.alloc());
     let mut marked = 0u64;
     for _ in 0..MARKS.min(part.len()) {
-        let place = generator.below(u32::try_from(part.len()).unwrap_or(u32::MAX)) as usize;
+        let place = Order::Random
+            .place(generator, part.len())
+            .ok_or(Failure::Unfit)?;
         let item = own_item(part, place, steps).ok_or(Failure::Unfit)?;
         steps.start_lap();
         let begun = watch.start()?;
@@ -147,11 +132,11 @@ where
     let mut generator = Generator::new(seed);
     let before = bytes_held(watch)?;
     let mut set = C::new(alloc, order.unwrap_or(Order::Oldest), size)?;
-    grow(watch, &mut generator, &mut set, size, steps)?;
+    update_all(watch, &mut generator, &mut set, size, false, steps)?;
     report_memory(watch, bytes_held(watch)?.saturating_sub(before), size)?;
     if order.is_some() {
-        let pairs = size.saturating_mul(3).min(2 * MOST_PAIRS) / 2;
-        renew(watch, &mut generator, &mut set, pairs, steps)?;
+        let updates = size.saturating_mul(3).min(MOST_UPDATES);
+        update_all(watch, &mut generator, &mut set, updates, true, steps)?;
     }
     ask_all::<B, C, R, L>(watch, C::word(), &set, seed, spread, steps)?;
     let items = drawn_items(alloc, &mut Generator::new(seed), spread, size)?;
@@ -172,46 +157,27 @@ fn report_memory<R: Print + Clock>(
     Ok(())
 }
 
-/// Inserts so many items, and prints what that took.
-fn grow<B: Kind, C: Collection<B>, R: Print + Clock + AllocGlobal, L: Ledger>(
+/// Inserts so many items, or deletes and inserts in turn, and prints what that took.
+fn update_all<B: Kind, C: Collection<B>, R: Print + Clock + AllocGlobal, L: Ledger>(
     watch: &Watch<'_, R>,
     generator: &mut Generator,
     set: &mut C,
     count: usize,
+    is_renewed: bool,
     steps: &mut Steps<L>,
 ) -> Result<(), Failure> {
     let mut costs = Costs::new(watch.rt.alloc());
-    for _ in 0..count {
+    for number in 0..count {
         steps.start_lap();
         let begun = watch.start()?;
-        set.insert(generator, Spread::Square, steps)?;
+        if is_renewed && number % 2 == 0 {
+            set.delete(generator, steps)?;
+        } else {
+            set.insert(generator, Spread::Square, steps)?;
+        }
         costs.take_in(watch, begun, steps)?;
     }
     let (word, told) = (C::word(), set.told());
-    println!(watch.rt; "{word} {told}")?;
-    costs.report(watch, "inserts")
-}
-
-/// Deletes an item and inserts one, so many times, and prints what that took.
-fn renew<B: Kind, C: Collection<B>, R: Print + Clock + AllocGlobal, L: Ledger>(
-    watch: &Watch<'_, R>,
-    generator: &mut Generator,
-    set: &mut C,
-    count: usize,
-    steps: &mut Steps<L>,
-) -> Result<(), Failure> {
-    let mut costs = Costs::new(watch.rt.alloc());
-    for _ in 0..count {
-        steps.start_lap();
-        let begun = watch.start()?;
-        set.delete(generator, steps)?;
-        costs.take_in(watch, begun, steps)?;
-        steps.start_lap();
-        let begun = watch.start()?;
-        set.insert(generator, Spread::Square, steps)?;
-        costs.take_in(watch, begun, steps)?;
-    }
-    let (word, told) = (C::word(), set.told());
-    println!(watch.rt; "{word} {told}")?;
-    costs.report(watch, "updates")
+    println!(watch.rt; "{word} {told:?}")?;
+    costs.report(watch, if is_renewed { "updates" } else { "inserts" })
 }

@@ -1,14 +1,14 @@
 //! A stack of seeded items.
-ghost use Rattle.std.specs.Prelude.{◌≡◌, ◌<◌, ◌≤◌};
 
 use crate::collection::{Answering, Collection, Order, Told};
 use crate::kind::Kind;
-use builder_trait::{Answers, Asking, Builder};
+use builder_trait::{Answers, Asking, Builder, Part};
 use level_slots::Stack;
 use query_laws::step_ledger::Steps;
 use query_laws::{Item, NoMemory, Question};
 use samples::{Failure, Generator, Seeded, Spread};
 use std::alloc::Global;
+use std::marker::Model;
 use std::sync::ledger::Ledger;
 
 /// The most inserts.
@@ -20,6 +20,17 @@ pub struct Stacked<B: Builder> {
     stack: Stack<B>,
     items: Vec<B::Item>,
     order: Order,
+}
+
+impl<B: Builder> Model for Stacked<B> {
+    ghost use Rattle.std.specs.Prelude.{List};
+    ghost use Rattle.trials.specs.Stacks.{IsStackOf};
+
+    ghost Value = { List B.Item };
+
+    ghost view = { λ s. s.items.items };
+
+    ghost invariant = { λ s. IsStackOf B.Part.Part.contents B.Item.stamp s.stack.levels s.items.items };
 }
 
 impl<B: Builder> Answering<B> for Stacked<B> {

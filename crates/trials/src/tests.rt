@@ -24,9 +24,9 @@ fn try_all<R: Print + Clock + Files + AllocGlobal, L: Ledger>(
 {
     let mut steps = Steps::<L>::new(blank);
     let watch = Watch { rt, is_on: true };
-    check_parts::<RangeBuilder, R, L>(rt, 1, 257, &mut steps)?;
-    check_collections::<RangeBuilder, Stacked<RangeBuilder>, R, L>(rt, 1, &mut steps)?;
-    check_collections::<RangeBuilder, Indexed<RangeBuilder>, R, L>(rt, 1, &mut steps)?;
+    check_parts::<RangeBuilder, R, L>(rt, 1, 33, &mut steps)?;
+    check_collections::<RangeBuilder, Stacked<RangeBuilder>, R, L>(rt, 1, 3, &mut steps)?;
+    check_collections::<RangeBuilder, Indexed<RangeBuilder>, R, L>(rt, 1, 3, &mut steps)?;
     measure_part::<RangeBuilder, R, L>(&watch, 1, 33, Spread::Column, &mut steps)?;
     measure_collection::<RangeBuilder, Stacked<RangeBuilder>, R, L>(
         &watch, 1, 300, None, &mut steps,

@@ -8,12 +8,9 @@ use query_laws::step_ledger::Steps;
 use query_laws::{Item, Question};
 use samples::{Failure, Generator, Scanned, Spread, do_or_retry, expect_same};
 use std::alloc::Global;
-use std::fmt;
 use std::sync::ledger::Ledger;
 
 /// What was done in trials, and what was answered: sums modulo 2^64.
-///
-/// It prints as `inserts I deletes D live L parts P unwalked U asked A consulted K answers X`, and `refused R` where memory was.
 #[derive(Clone, Copy, Debug, Default, PartialEq, Eq)]
 pub struct Seen {
     pub inserted: u64,
@@ -27,30 +24,6 @@ pub struct Seen {
     /// The numbers of all answers.
     pub answers: u64,
     pub refused: u64,
-}
-
-impl fmt::Display for Seen {
-    fn fmt<W: fmt::Write>(&self, f: &mut fmt::Formatter<W>) -> fmt::Result {
-        let Seen {
-            inserted,
-            deleted,
-            live,
-            parts,
-            unwalked,
-            asked,
-            consulted,
-            answers,
-            refused,
-        } = *self;
-        write!(
-            f,
-            "inserts {inserted} deletes {deleted} live {live} parts {parts} unwalked {unwalked} asked {asked} consulted {consulted} answers {answers}"
-        )?;
-        if refused > 0 {
-            write!(f, " refused {refused}")?;
-        }
-        Ok(())
-    }
 }
 
 /// What answers questions, beside a plain list of its items.
