@@ -92,6 +92,9 @@ where
         generator: &mut Generator,
         steps: &mut Steps<L>,
     ) -> Result<Option<B::Item>, Failure> {
+        if self.stack.weight() >= MOST {
+            return Err(Failure::Unfit);
+        }
         self.stack.prepare()?;
         let Some(place) = self.order.place(generator, self.items.len()) else {
             return Ok(None);

@@ -1,12 +1,17 @@
-//! Trials that run.
+//! Trials that run, and one that differs.
 ghost use Rattle.std.specs.Prelude.{◌≡◌};
 
+use crate::building::built;
+use crate::checking::drawn_items;
+use crate::marked::Marked;
+use crate::trial::{Seen, Trial};
 use crate::{
-    Indexed, Order, Stacked, check_collections, check_parts, measure_collection, measure_part,
+    Indexed, Kind, Order, Stacked, check_collections, check_parts, measure_collection, measure_part,
 };
 use query_laws::step_ledger::{SHARES, Steps, blank};
 use range_tree::RangeBuilder;
-use samples::{Failure, Spread, Watch};
+use samples::{Failure, Generator, Spread, Watch};
+use std::alloc::Global;
 use std::marker::Brand;
 use std::rt::Files;
 use std::sync::ledger::{Blank, Ledger};
@@ -44,4 +49,30 @@ fn try_all<R: Print + Clock + Files + AllocGlobal, L: Ledger>(
 fn tries_all(rt: HostRuntime) -> Result<(), Fail> {
     try_all::<HostRuntime, Brand>(&rt, blank())?;
     Ok(())
+}
+
+/// Asks a part of some items beside an empty list.
+fn ask_beside_nothing<L: Ledger>(alloc: Global, blank: Blank) -> Result<(), Failure>
+    requires name { blank.name ≡ L.name }
+    requires parts { blank.parts ≡ L.parts }
+    requires shares { blank.parts ≡ SHARES }
+{
+    let mut steps = Steps::<L>::new(blank);
+    let mut generator = Generator::new(1);
+    let items = drawn_items(alloc, &mut generator, Spread::Dense, 64)?;
+    let part = built::<RangeBuilder, L>(alloc, &items, &mut steps)?;
+    let mut trial = Trial::<RangeBuilder, _> {
+        alloc,
+        set: Marked { part },
+        items: Vec::new(alloc),
+        generator,
+        seen: Seen::default(),
+    };
+    RangeBuilder::ask_each(&mut trial, &mut steps)
+}
+
+#[test]
+fn tells_a_difference(rt: HostRuntime) {
+    let asked = ask_beside_nothing::<Brand>(rt.alloc(), blank());
+    assert!(rt; matches!(asked, Err(Failure::Differs(_))));
 }
