@@ -1,5 +1,5 @@
 -- Items that are put one after another.
-use Rattle.std.proofs.Common.{◌≡◌, ℕ, Bool, IsTrue, List, [], ◌∷◌, ◌++◌, Option, Some, None, get_or}
+use Rattle.std.proofs.Common.{ℕ, Bool, IsTrue, List, [], ◌∷◌, ◌++◌, Option, Some, None, get_or}
 use Rattle.std.proofs.lemmas.List.Elements.{All-nil, All-push}
 use Rattle.query_laws.specs.Orders.{IsStrictTotalOrder}
 use Rattle.trials.specs.Filling.{comes_after, Leads}

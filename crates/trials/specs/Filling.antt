@@ -1,5 +1,5 @@
 -- Items that are put one after another.
-use Rattle.std.specs.Prelude.{ℕ, Bool, true, IsTrue, List, Option, Some, None}
+use Rattle.std.specs.Prelude.{Bool, true, IsTrue, List, Option, Some, None}
 use Rattle.builder_trait.specs.Builders.{IsAfter}
 
 module _ {Item : Type 0} (before : Item → Item → Bool) where
