@@ -21,9 +21,9 @@ pub enum Failure {
     /// A script has 2^40 lines, or an example as many bytes.
     #[error("the script is too long")]
     TooLong,
-    /// More items come than a collection takes.
-    #[error("too many items")]
-    TooMany,
+    /// Items are too many, or in no order.
+    #[error("the items are too many, or in no order")]
+    Unfit,
 }
 
 impl From<NoMemory> for Failure {

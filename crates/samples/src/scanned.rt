@@ -4,9 +4,10 @@ use crate::spread::Spread;
 use map_shapes::{CountIn, IdList, ListIn, Point, Rect, SumIn};
 use query_laws::Question;
 use std::alloc::{AllocError, Global};
+use std::fmt::Debug;
 
 /// A question that is drawn, and that a plain list can be scanned for. Its answers are told as numbers.
-pub trait Scanned: Question {
+pub trait Scanned: Question + Debug {
     /// The word of its command.
     fn word() -> &'static str;
 
