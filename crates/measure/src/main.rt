@@ -1,26 +1,28 @@
 //! Measures the parts of Livemap and checks them against plain lists, over seeded items and scripts.
 #![tactic(auto)]
 
+mod layer;
 mod words;
 
 ghost use Rattle.std.specs.Prelude.{◌≡◌};
 
-use crate::words::{Job, Size, command, job_of};
-use build_trials::{check_builds, measure_build};
-use index_costs::measure_index;
-use index_trials::check_indexes;
-use map_samples::{Failure, Watch};
-use part_trials::{check_parts, measure_part};
+use crate::layer::{Layer, run_layer};
+use crate::words::{Job, KINDS, Options, command, job_of};
 use query_laws::step_ledger::{SHARES, Steps, blank};
-use session_trials::{check_examples, measure_script};
-use stack_trials::{check_stacks, measure_stack};
+use samples::{Failure, Watch};
 use std::env;
 use std::marker::Brand;
 use std::process::ExitCode;
 use std::rt::Files;
 use std::sync::ledger::{Blank, Ledger};
 use std::time::Clock;
-use text_trials::measure_text;
+use trials::{check_examples, check_made_script, measure_script, measure_text};
+
+/// The exit status where a comparison differs. Other failures have 1, and wrong words 2.
+const DIFFERS: u8 = 3;
+
+/// The lines of a made script.
+const LINES: u32 = 4_000;
 
 fn main(rt: HostRuntime) -> anyhow::Result<ExitCode> {
     let alloc = rt.alloc();
@@ -32,10 +34,22 @@ fn main(rt: HostRuntime) -> anyhow::Result<ExitCode> {
             return Ok(ExitCode::from(error.exit_code() as u8));
         }
     };
-    if let Some(job) = job_of(&matches) {
-        run::<HostRuntime, Brand>(&rt, &job, blank())?;
+    match job_of(&matches) {
+        Some(job) => exit_code(&rt, run::<HostRuntime, Brand>(&rt, &job, blank())),
+        None => Ok(ExitCode::SUCCESS),
     }
-    Ok(ExitCode::SUCCESS)
+}
+
+/// What the program ends with.
+fn exit_code<R: Eprint>(rt: &R, done: Result<(), Failure>) -> anyhow::Result<ExitCode> {
+    match done {
+        Ok(()) => Ok(ExitCode::SUCCESS),
+        Err(Failure::Differs(text)) => {
+            eprintln!(rt; "{text}")?;
+            Ok(ExitCode::from(DIFFERS))
+        }
+        Err(failure) => Err(failure.into()),
+    }
 }
 
 /// Does what the words ask for.
@@ -50,54 +64,36 @@ fn run<R: Print + Clock + Files + AllocGlobal + Clone + Drop, L: Ledger>(
 {
     let mut steps = Steps::<L>::new(blank);
     match *job {
-        Job::Part {
-            seed,
-            size,
-            spread,
-            is_timed,
-        } => measure_part(&watch(rt, is_timed), seed, size.number, spread, &mut steps),
-        Job::Build {
-            seed,
-            level,
-            is_timed,
-        } => measure_build(&watch(rt, is_timed), seed, level.number, &mut steps),
-        Job::Stack {
-            seed,
-            size,
-            is_timed,
-        } => measure_stack(&watch(rt, is_timed), seed, size.number, &mut steps),
-        Job::Index {
-            seed,
-            level,
-            is_timed,
-        } => measure_index(&watch(rt, is_timed), seed, level.number, &mut steps),
-        Job::Text {
-            seed,
-            size,
-            is_timed,
-        } => measure_text(&watch(rt, is_timed), seed, size.number),
+        Job::Layer {
+            layer,
+            kind,
+            options,
+        } => run_layer(rt, layer, kind, &options, &mut steps),
+        Job::Text(
+            Options {
+                seed,
+                size,
+                is_timed,
+            },
+        ) => measure_text(&watch(rt, is_timed), seed, size),
         Job::Script { path, is_timed } => measure_script(&watch(rt, is_timed), path, &mut steps),
-        Job::Check {
-            seed,
-            size,
-            examples,
-        } => check(rt, seed, size, examples, &mut steps),
+        Job::Check { options, examples } => check(rt, &options, examples, &mut steps),
     }
 }
 
-/// Compares parts, constructions, stacks, indexes and text, and the answers to the scripts of a folder where one is named.
+/// Compares parts, stacks and indexes of each kind, a session, text, and the answers to the scripts of a folder where one is named.
 fn check<R: Print + Clock + Files + AllocGlobal + Clone + Drop, L: Ledger>(
     rt: &R,
-    seed: u64,
-    size: Size,
+    options: &Options,
     examples: Option<&str>,
     steps: &mut Steps<L>,
 ) -> Result<(), Failure> {
-    check_parts(rt, seed, size.number, steps)?;
-    check_builds(rt, seed, steps)?;
-    check_stacks(rt, seed, steps)?;
-    check_indexes(rt, seed, steps)?;
-    measure_text(&watch(rt, false), seed, size.number)?;
+    for (_, kind) in KINDS {
+        run_layer(rt, Layer::All, kind, options, steps)?;
+    }
+    check_made_script(rt.alloc(), options.seed, LINES, steps)?;
+    println!(rt; "script {LINES}")?;
+    measure_text(&watch(rt, options.is_timed), options.seed, options.size)?;
     match examples {
         Some(folder) => check_examples(rt, folder, steps),
         None => Ok(()),

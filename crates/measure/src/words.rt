@@ -1,266 +1,166 @@
 //! The words after the program's name.
-ghost use Rattle.std.specs.Prelude.{◌≤◌, ◌^◌};
-
-use clap::{Arg, ArgAction, ArgMatches, Command, value_parser};
-use part_trials::Spread;
+use crate::layer::Layer;
+use clap::{ArgMatches, Command, arg, value_parser};
+use samples::Spread;
 use std::alloc::{AllocError, Global};
 
-/// The most points or lines: 2^20.
-const MOST: usize = 1_048_576;
+/// The most items or lines: 2^20.
+const MOST: i64 = 1_048_576;
 
-/// The highest level of a construction, of 2^20 points.
-const TOP_LEVEL: u32 = 20;
-
-/// A number of points or lines.
+/// A kind of part.
 #[derive(Clone, Copy, Debug, PartialEq, Eq)]
-pub struct Size {
-    pub number: usize,
-    pub ghost few: { number ≤ 2 ^ 20 },
+pub enum Kind {
+    Range,
 }
 
-/// The level of a construction, or of a number of points.
+/// Each kind, after its word.
+pub const KINDS: [(&str, Kind); 1] = [("range", Kind::Range)];
+
+/// Where the items of a part may lie, after its word.
+const SPREADS: [(&str, Spread); 3] = [
+    ("square", Spread::Square),
+    ("column", Spread::Column),
+    ("row", Spread::Row),
+];
+
+/// The seed of all random numbers, how many items or lines there are, and whether times are told.
 #[derive(Clone, Copy, Debug, PartialEq, Eq)]
-pub struct Level {
-    pub number: u32,
-    pub ghost least: { 1 ≤ number },
-    pub ghost most: { number ≤ 20 },
+pub struct Options {
+    pub seed: u64,
+    pub size: usize,
+    pub is_timed: bool,
 }
 
-/// What is asked for. A seed is that of all random numbers.
+/// What is asked for.
 #[derive(Clone, Copy, Debug, PartialEq, Eq)]
 pub enum Job<'a> {
-    /// What a range part of so many points costs, with times or without.
-    Part {
-        seed: u64,
-        size: Size,
-        spread: Spread,
-        is_timed: bool,
+    /// A layer over parts of a kind.
+    Layer {
+        layer: Layer,
+        kind: Kind,
+        options: Options,
     },
-    /// What a construction of this level costs, with times or without.
-    Build {
-        seed: u64,
-        level: Level,
-        is_timed: bool,
-    },
-    /// What a stack of so many points costs, beside one part of them, with times or without.
-    Stack {
-        seed: u64,
-        size: Size,
-        is_timed: bool,
-    },
-    /// What an index of `2^level` points costs while points come and go, with times or without.
-    Index {
-        seed: u64,
-        level: Level,
-        is_timed: bool,
-    },
-    /// Parts of at most so many points, constructions, stacks and indexes, beside plain lists, so many lines and replies beside std,
-    /// and the scripts of a folder beside their answers.
-    Check {
-        seed: u64,
-        size: Size,
-        examples: Option<&'a str>,
-    },
-    /// What reading so many lines and writing so many replies costs, with times or without.
-    Text {
-        seed: u64,
-        size: Size,
-        is_timed: bool,
-    },
-    /// What the commands of a script cost, with times or without.
+    /// What reading so many lines and writing so many replies costs.
+    Text(Options),
+    /// What the commands of a script cost.
     Script {
         path: &'a str,
         is_timed: bool,
+    },
+    /// All layers over parts of each kind, a session, text, and the scripts of a folder beside their answers.
+    Check {
+        options: Options,
+        examples: Option<&'a str>,
     },
 }
 
 /// The command line.
 pub fn command<'a>(alloc: Global) -> Result<Command<'a>, AllocError> {
     Command::new(alloc, "measure")
-        .about(
-            "Measures the parts of Livemap and checks them against plain lists, over seeded items and scripts",
-        )
+        .about("Measures the parts of Livemap and checks them, over seeded items and scripts")
         .subcommand_required(true)
         .subcommand(part_command(alloc)?)?
-        .subcommand(build_command(alloc)?)?
-        .subcommand(stack_command(alloc)?)?
-        .subcommand(index_command(alloc)?)?
-        .subcommand(check_command(alloc)?)?
+        .subcommand(layer_command(alloc, "stack", "Try a stack of parts")?)?
+        .subcommand(layer_command(alloc, "index", "Try an index of parts")?)?
+        .subcommand(sized_command(alloc, "text", "Read and write lines", "4096")?)?
         .subcommand(script_command(alloc)?)?
-        .subcommand(text_command(alloc)?)
+        .subcommand(check_command(alloc)?)
 }
 
 fn part_command<'a>(alloc: Global) -> Result<Command<'a>, AllocError> {
-    Command::new(alloc, "part")
-        .about("Build a range part of random points, put questions to it and mark points")
-        .arg(seed_arg(alloc))?
-        .arg(size_arg(alloc, "4096"))?
-        .arg(spread_arg(alloc))?
-        .arg(time_arg(alloc))
+    let spread = arg!(in alloc; --spread <SPREAD> "Where the items lie")
+        .value_parser(["square", "column", "row"].as_slice())
+        .default_value("square");
+    layer_command(alloc, "part", "Try one part")?.arg(spread)
 }
 
-fn build_command<'a>(alloc: Global) -> Result<Command<'a>, AllocError> {
-    Command::new(alloc, "build")
-        .about("Make one range part of two in all ticks of a construction")
-        .arg(seed_arg(alloc))?
-        .arg(level_arg(alloc))?
-        .arg(time_arg(alloc))
-}
-
-fn stack_command<'a>(alloc: Global) -> Result<Command<'a>, AllocError> {
-    Command::new(alloc, "stack")
-        .about("Insert random points into a stack of range parts, and count beside one part of all")
-        .arg(seed_arg(alloc))?
-        .arg(size_arg(alloc, "4096"))?
-        .arg(time_arg(alloc))
-}
-
-fn index_command<'a>(alloc: Global) -> Result<Command<'a>, AllocError> {
-    Command::new(alloc, "index")
-        .about("Add random points to an index of range parts, and drop and add others in turn")
-        .arg(seed_arg(alloc))?
-        .arg(level_arg(alloc))?
-        .arg(time_arg(alloc))
-}
-
-fn check_command<'a>(alloc: Global) -> Result<Command<'a>, AllocError> {
-    Command::new(alloc, "check")
-        .about(
-            "Compare range parts, and constructions, stacks and indexes of them, with plain lists, and text with that of std",
-        )
-        .arg(seed_arg(alloc))?
-        .arg(size_arg(alloc, "257"))?
-        .arg(examples_arg(alloc))
-}
-
-fn text_command<'a>(alloc: Global) -> Result<Command<'a>, AllocError> {
-    Command::new(alloc, "text")
-        .about("Read random lines and write replies, and the same by std alone")
-        .arg(seed_arg(alloc))?
-        .arg(size_arg(alloc, "4096"))?
-        .arg(time_arg(alloc))
+/// A subcommand for a layer over parts of a kind.
+fn layer_command<'a>(
+    alloc: Global,
+    name: &'a str,
+    about: &'a str,
+) -> Result<Command<'a>, AllocError> {
+    let kind = arg!(in alloc; --kind <KIND> "The kind of part")
+        .value_parser(["range"].as_slice())
+        .default_value("range");
+    sized_command(alloc, name, about, "4096")?.arg(kind)
 }
 
 fn script_command<'a>(alloc: Global) -> Result<Command<'a>, AllocError> {
     Command::new(alloc, "script")
         .about("Run a script, and count its commands by their words")
-        .arg(file_arg(alloc))?
-        .arg(time_arg(alloc))
+        .arg(arg!(in alloc; <file> "The script"))?
+        .arg(arg!(in alloc; --time "Print nanoseconds too"))
 }
 
-fn time_arg<'a>(alloc: Global) -> Arg<'a> {
-    Arg::new(alloc, "time")
-        .long("time")
-        .action(ArgAction::SetTrue)
-        .help("Print nanoseconds too")
+fn check_command<'a>(alloc: Global) -> Result<Command<'a>, AllocError> {
+    let about = "Compare parts, stacks, indexes, a session and text with plain lists and std";
+    let examples =
+        arg!(in alloc; --examples <FOLDER> "Compare the answers to each NAME.livemap with NAME.out too");
+    sized_command(alloc, "check", about, "257")?.arg(examples)
 }
 
-fn seed_arg<'a>(alloc: Global) -> Arg<'a> {
-    Arg::new(alloc, "seed")
-        .long("seed")
+/// A subcommand with a seed, a size and times.
+fn sized_command<'a>(
+    alloc: Global,
+    name: &'a str,
+    about: &'a str,
+    size: &'a str,
+) -> Result<Command<'a>, AllocError> {
+    let seed = arg!(in alloc; --seed <SEED> "The seed of all random numbers")
         .value_parser(value_parser!(u64))
-        .default_value("1")
-        .help("The seed of all random numbers")
-}
-
-fn size_arg<'a>(alloc: Global, default: &'a str) -> Arg<'a> {
-    Arg::new(alloc, "size")
-        .long("size")
-        .value_parser(value_parser!(u32).range(0..=MOST as i64))
-        .default_value(default)
-        .help("The number of points or lines")
-}
-
-fn spread_arg<'a>(alloc: Global) -> Arg<'a> {
-    Arg::new(alloc, "spread")
-        .long("spread")
-        .value_parser(["square", "column", "row"].as_slice())
-        .default_value("square")
-        .help("Where the points lie: in a square, or all with one abscissa or ordinate")
-}
-
-fn level_arg<'a>(alloc: Global) -> Arg<'a> {
-    Arg::new(alloc, "level")
-        .long("level")
-        .value_parser(value_parser!(u32).range(1..=TOP_LEVEL as i64))
-        .default_value("6")
-        .help("The level of the new part, or of the number of points")
-}
-
-fn examples_arg<'a>(alloc: Global) -> Arg<'a> {
-    Arg::new(alloc, "examples")
-        .long("examples")
-        .value_name("FOLDER")
-        .help("Compare the answers to each NAME.livemap of a folder with NAME.out too")
-}
-
-fn file_arg<'a>(alloc: Global) -> Arg<'a> {
-    Arg::new(alloc, "file")
-        .required(true)
-        .action(ArgAction::Set)
-        .help("The script")
+        .default_value("1");
+    let size = arg!(in alloc; --size <SIZE> "The number of items or lines")
+        .value_parser(value_parser!(u32).range(0..=MOST))
+        .default_value(size);
+    Command::new(alloc, name)
+        .about(about)
+        .arg(seed)?
+        .arg(size)?
+        .arg(arg!(in alloc; --time "Print nanoseconds too"))
 }
 
 /// What the words ask for, or `None` where they name no subcommand.
 pub fn job_of<'a>(matches: &ArgMatches<'a>) -> Option<Job<'a>> {
     let (word, matches) = matches.subcommand()?;
     match word {
-        "part" => Some(Job::Part {
-            seed: matches.get_one::<u64>("seed")?,
-            size: size_of(matches)?,
-            spread: spread_of(matches)?,
-            is_timed: matches.get_flag("time"),
-        }),
-        "build" => Some(Job::Build {
-            seed: matches.get_one::<u64>("seed")?,
-            level: level_of(matches)?,
-            is_timed: matches.get_flag("time"),
-        }),
-        "stack" => Some(Job::Stack {
-            seed: matches.get_one::<u64>("seed")?,
-            size: size_of(matches)?,
-            is_timed: matches.get_flag("time"),
-        }),
-        "index" => Some(Job::Index {
-            seed: matches.get_one::<u64>("seed")?,
-            level: level_of(matches)?,
-            is_timed: matches.get_flag("time"),
-        }),
-        "check" => Some(Job::Check {
-            seed: matches.get_one::<u64>("seed")?,
-            size: size_of(matches)?,
-            examples: matches.get_str("examples"),
-        }),
-        "text" => Some(Job::Text {
-            seed: matches.get_one::<u64>("seed")?,
-            size: size_of(matches)?,
-            is_timed: matches.get_flag("time"),
-        }),
+        "part" => layer_job(
+            Layer::Part(named(&SPREADS, matches.get_str("spread")?)?),
+            matches,
+        ),
+        "stack" => layer_job(Layer::Stack, matches),
+        "index" => layer_job(Layer::Index, matches),
+        "text" => Some(Job::Text(options_of(matches)?)),
         "script" => Some(Job::Script {
             path: matches.get_str("file")?,
             is_timed: matches.get_flag("time"),
         }),
+        "check" => Some(Job::Check {
+            options: options_of(matches)?,
+            examples: matches.get_str("examples"),
+        }),
         _ => None,
     }
 }
 
-fn size_of(matches: &ArgMatches<'_>) -> Option<Size> {
-    Some(Size {
-        number: matches.get_one::<usize>("size")?.min(MOST),
+fn layer_job<'a>(layer: Layer, matches: &ArgMatches<'a>) -> Option<Job<'a>> {
+    Some(Job::Layer {
+        layer,
+        kind: named(&KINDS, matches.get_str("kind")?)?,
+        options: options_of(matches)?,
     })
 }
 
-fn spread_of(matches: &ArgMatches<'_>) -> Option<Spread> {
-    match matches.get_str("spread")? {
-        "square" => Some(Spread::Square),
-        "column" => Some(Spread::Column),
-        "row" => Some(Spread::Row),
-        _ => None,
-    }
+fn options_of(matches: &ArgMatches<'_>) -> Option<Options> {
+    Some(Options {
+        seed: matches.get_one::<u64>("seed")?,
+        size: matches.get_one::<usize>("size")?,
+        is_timed: matches.get_flag("time"),
+    })
 }
 
-fn level_of(matches: &ArgMatches<'_>) -> Option<Level> {
-    Some(Level {
-        number: matches.get_one::<u32>("level")?.clamp(1, TOP_LEVEL),
-    })
+/// What a word stands for.
+fn named<T: Copy>(table: &[(&str, T)], word: &str) -> Option<T> {
+    let (_, found) = table.iter().find(|(name, _)| *name == word)?;
+    Some(*found)
 }

@@ -1,3 +1,0 @@
-pub mod Collection
-pub mod Reading
-pub mod Trial

@@ -1,4 +1,0 @@
-pub mod Sorting
-pub mod Putting
-pub mod Scanning
-pub mod Stamps

@@ -1,3 +1,0 @@
-pub mod Generator
-pub mod BothOrders
-pub mod Samples

@@ -1,0 +1,51 @@
+//! Why a trial ends early.
+use map_io::WriteFault;
+use query_laws::NoMemory;
+use std::alloc::{AllocError, AllocFailed};
+use std::io;
+use thiserror::Error;
+
+/// Why a trial ends early.
+#[derive(Debug, Drop, Error)]
+pub enum Failure {
+    #[error("no memory")]
+    NoMemory,
+    #[error("{0}")]
+    System(#[from] io::Error),
+    /// An answer isn't the one that is wanted: says which.
+    #[error("{0}")]
+    Differs(String),
+    /// Answers could not be written.
+    #[error("the answers could not be written")]
+    NoAnswers,
+    /// A script has 2^40 lines, or an example as many bytes.
+    #[error("the script is too long")]
+    TooLong,
+    /// Items are too many, or in no order.
+    #[error("the items are too many, or in no order")]
+    Unfit,
+}
+
+impl From<NoMemory> for Failure {
+    fn from(_refused: NoMemory) -> Failure {
+        Failure::NoMemory
+    }
+}
+
+impl From<AllocError> for Failure {
+    fn from(_refused: AllocError) -> Failure {
+        Failure::NoMemory
+    }
+}
+
+impl<T: Drop> From<AllocFailed<T>> for Failure {
+    fn from(_refused: AllocFailed<T>) -> Failure {
+        Failure::NoMemory
+    }
+}
+
+impl From<WriteFault> for Failure {
+    fn from(_fault: WriteFault) -> Failure {
+        Failure::NoAnswers
+    }
+}

@@ -1,8 +1,0 @@
-use Rattle.std.proofs.Common.{length}
-use Rattle.session_trials.proofs.commands.are_read_again.Given as goal
-
-abbrev pub invariant-loop-line : goal.invariant-loop-line
-invariant-loop-line l = Unit {0}
-
-abbrev pub decreases-loop-line : goal.decreases-loop-line
-decreases-loop-line l = length l.rest

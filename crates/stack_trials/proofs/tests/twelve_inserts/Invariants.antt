@@ -1,4 +1,0 @@
-use Rattle.stack_trials.proofs.tests.twelve_inserts.Given as goal
-
-abbrev pub ghosts-traced : goal.ghosts-traced
-ghosts-traced g a = record { name = a.blank.name; parts = a.blank.parts }

@@ -1,0 +1,26 @@
+use Rattle.std.proofs.Common.{rules, ◌≡◌, ◌<◌, length, sym, subst, arith}
+use Rattle.std.proofs.lemmas.Fn.{filter_same}
+use Rattle.std.proofs.lemmas.List.Sorted.{Contains-permutation}
+use Rattle.query_laws.proofs.Permutations.{IsPermutation-from_Permuted, Permuted-sym}
+use Rattle.builder_trait.specs.Parts.{without}
+use Rattle.trials.specs.Stacks.{IsStackOf}
+use Rattle.trials.proofs.Stacks.{IsStackOf-same, IsStackOf-delete}
+use Rattle.trials.proofs.stacked.StackedCollection.delete.Goals as goal
+
+pub delete-requires-clause-live : goal.delete-requires-clause-live
+delete-requires-clause-live g c =
+    let p = c.prepare.ensures in
+    let h : IsStackOf g.B.Part.Part.contents g.B.Item.Item.stamp c.prepare.new.self.levels c.self.inside.items.items =
+    IsStackOf-same p.weight p.items p.live c.self.invariant in
+    let within : c.in-Some.place < length c.self.inside.items.items = omega (arith, c.in-Some.ensures, c.len.ensures) in
+    Contains-permutation _ _ c.index.result.now (IsPermutation-from_Permuted (Permuted-sym h.live)) (c.in-Some.place, within, sym c.index.ensures)
+
+pub invariant_of-self-2 : goal.invariant_of-self-2
+invariant_of-self-2 g c =
+    let stamp = g.B.Item.Item.stamp in
+    let p = c.prepare.ensures in
+    let left : c.retain.new.self.items ≡ without stamp (stamp c.index.result.now) c.self.inside.items.items =
+    filter_same _ _ _ (λ x b f' k. search rules) _ _ c.retain.ensures.filtered in
+    subst (IsStackOf g.B.Part.Part.contents stamp c.delete.new.self.levels) (sym left)
+    (IsStackOf-delete (stamp c.index.result.now) c.delete.ensures.weight c.delete.ensures.items c.delete.ensures.live
+    (IsStackOf-same p.weight p.items p.live c.self.invariant))

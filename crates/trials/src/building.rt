@@ -1,0 +1,142 @@
+//! A part of some items, built at once.
+ghost use Rattle.std.specs.Prelude.{◌≡◌, ◌<◌, ◌≤◌, ◌^◌, true, false, IfOk, OnOk, IsTrue, length};
+ghost use Rattle.builder_trait.specs.Builders.{begun};
+ghost use Rattle.trials.specs.Filling.{comes_after};
+
+use builder_trait::Builder;
+use query_laws::Item;
+use query_laws::step_ledger::Steps;
+use samples::Failure;
+use std::alloc::{AllocError, Global};
+use std::cmp::Ordering;
+use std::sync::ledger::Ledger;
+
+/// How two items stand in an order.
+fn compare<I: Item>(order: usize, a: &I, b: &I) -> Ordering
+    requires { order < 2 }
+{
+    if a.before(order, b) {
+        Ordering::Less
+    } else if b.before(order, a) {
+        Ordering::Greater
+    } else {
+        Ordering::Equal
+    }
+}
+
+/// The places of sorted items, in order 1.
+fn reordered<I: Item>(alloc: Global, items: &[I]) -> Result<Vec<usize>, AllocError> {
+    let mut entries: Vec<(I, usize)> = items
+        .iter()
+        .enumerate()
+        .map(|(place, item)| (*item, place))
+        .collect(alloc)?;
+    entries.sort_unstable_by(|a, b| compare(1, &a.0, &b.0));
+    entries.iter().map(|entry| entry.1).collect(alloc)
+}
+
+/// Whether an item may be put after the last one that was put in an order.
+fn is_after<I: Item>(order: usize, last: Option<I>, item: &I) -> bool
+    requires { order < 2 }
+    ensures { result ≡ comes_after (I.before order) last item.now }
+{
+    match last {
+        Some(last) => last.before(order, item),
+        None => true,
+    }
+}
+
+/// A builder of the least level with room for so many items.
+///
+/// `Unfit` where no builder has it.
+fn room_for<B: Builder>(alloc: Global, n: usize) -> Result<B, Failure>
+    ensures begun { IfOk result (λ builder. B.progress builder ≡ begun (B.progress builder).at_level) }
+    ensures room { IfOk result (λ builder. n ≤ 2 ^ (B.progress builder).at_level) }
+{
+    for level in 0..32 {
+        if n <= 1 << level {
+            return Ok(B::room(alloc, level)?);
+        }
+    }
+    Err(Failure::Unfit)
+}
+
+/// Puts sorted items in order 0.
+fn put_in_first<B: Builder, L: Ledger>(
+    builder: &mut B,
+    items: &[B::Item],
+    steps: &mut Steps<L>,
+) -> Result<(), Failure>
+    requires begun { B.progress builder.old ≡ begun (B.progress builder.old).at_level }
+    requires room { length items.now ≤ 2 ^ (B.progress builder.old).at_level }
+    ensures put { OnOk result (B.progress builder.new ≡ record (B.progress builder.old) { items = items.now }) }
+{
+    let mut last = None;
+    for (place, item) in items.iter().enumerate() {
+        if !is_after(0, last, item) {
+            return Err(Failure::Unfit);
+        }
+        builder.put(0, *item, place, steps);
+        last = Some(*item);
+    }
+    Ok(())
+}
+
+/// Puts the items at some places in order 1.
+fn put_in_second<B: Builder, L: Ledger>(
+    builder: &mut B,
+    items: &[B::Item],
+    places: &[usize],
+    steps: &mut Steps<L>,
+) -> Result<(), Failure>
+    requires begun { B.progress builder.old ≡ record (begun (B.progress builder.old).at_level) { items = items.now } }
+    ensures open { OnOk result ((B.progress builder.new).is_sealed ≡ false) }
+    ensures same { OnOk result ((B.progress builder.new).items ≡ items.now) }
+    ensures count { OnOk result (length (B.progress builder.new).reordered ≡ length places.now) }
+{
+    let mut last = None;
+    for place in places {
+        let Some(item) = items.get(*place) else {
+            return Err(Failure::Unfit);
+        };
+        if !is_after(1, last, item) {
+            return Err(Failure::Unfit);
+        }
+        builder.put(1, *item, *place, steps);
+        last = Some(*item);
+    }
+    Ok(())
+}
+
+/// A builder to which all items were put, and which is sealed.
+pub fn filled<B: Builder, L: Ledger>(
+    alloc: Global,
+    items: &[B::Item],
+    steps: &mut Steps<L>,
+) -> Result<B, Failure>
+    ensures { IfOk result (λ builder. (B.progress builder).is_sealed ≡ true) }
+{
+    let mut items = Vec::from_slice(alloc, items)?;
+    items.sort_unstable_by(|a, b| compare(0, a, b));
+    let places = reordered(alloc, &items)?;
+    if places.len() != items.len() {
+        return Err(Failure::Unfit);
+    }
+    let mut builder = room_for::<B>(alloc, items.len())?;
+    put_in_first(&mut builder, &items, steps)?;
+    put_in_second(&mut builder, &items, &places, steps)?;
+    builder.seal();
+    Ok(builder)
+}
+
+/// The part of all items.
+pub fn built<B: Builder, L: Ledger>(
+    alloc: Global,
+    items: &[B::Item],
+    steps: &mut Steps<L>,
+) -> Result<B::Part, Failure> {
+    let mut builder = filled::<B, L>(alloc, items, steps)?;
+    let left = builder.left();
+    builder.turns(left, steps);
+    Ok(builder.finish())
+}
