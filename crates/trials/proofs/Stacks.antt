@@ -1,6 +1,7 @@
 -- What updates keep of a stack beside the list of its live items.
 use Rattle.std.proofs.Common.{◌≡◌, ℕ, ◌+◌, ◌<◌, List, [], ◌∷◌, ◌++◌, All, sym, subst, arith}
-use Rattle.query_laws.specs.Permuted.{Permuted, same_head, composed}
+use Rattle.query_laws.specs.Permuted.{Permuted, nothing, same_head, composed}
+use Rattle.std.proofs.lemmas.List.Elements.{All-nil}
 use Rattle.query_laws.proofs.Permutations.{Permuted-append_comm, Permuted-filter}
 use Rattle.builder_trait.specs.Parts.{Contents, without}
 use Rattle.stack_levels.specs.Slots.{Slots, IsPartOf}
@@ -38,3 +39,7 @@ module _ {P Item : Type 0} {contents : P → Contents Item} {stamp : Item → �
         (All-part (λ x. stamp x < weight_of levels) (all_items contents levels') (all_items contents levels) part h.below);
     live = composed live (Permuted-filter _ h.live);
   }
+
+-- nothing is inserted
+pub IsStackOf-nil : {P Item : Type 0} {contents : P → Contents Item} {stamp : Item → ℕ} → IsStackOf contents stamp [] []
+IsStackOf-nil {P} {Item} {contents} {stamp} = record { below = All-nil (λ x. stamp x < 0); live = nothing }

@@ -1,0 +1,11 @@
+use Rattle.std.proofs.Common.{[], ap, subst, sym}
+use Rattle.trials.specs.Stacks.{IsStackOf}
+use Rattle.trials.proofs.Stacks.{IsStackOf-nil}
+use Rattle.trials.proofs.stacked.StackedCollection.new.Goals as goal
+
+pub invariant_of-result : goal.invariant_of-result
+invariant_of-result g c =
+    let contents = g.B.Part.Part.contents in
+    let stamp = g.B.Item.Item.stamp in
+    subst (λ levels. IsStackOf contents stamp levels c.in_ok-with_capacity.field-0.items) (sym (ap (λ s. s.levels) c.new.ensures))
+    (subst (λ items. IsStackOf contents stamp [] items) (sym c.in_ok-with_capacity.ensures.items) IsStackOf-nil)
