@@ -1,4 +1,6 @@
 //! Numbers from outside, what is told of numbers, scans, and work that is done twice.
+ghost use Rattle.std.specs.Prelude.{◌<◌, ◌^◌};
+
 use crate::{Generator, Samples, Summary, count_in, do_or_retry, ids_in, sum_in};
 use map_shapes::{Point, Rect};
 use std::test::Fail;
@@ -37,15 +39,22 @@ fn does_refused_work_once_more(rt: HostRuntime) {
     assert_eq!(rt; (result, refused), (Ok(2), 1));
 }
 
-#[test]
-fn scans_a_list(rt: HostRuntime) -> Result<(), Fail> {
-    let point = |id, x, y, w| Point {
+fn point(id: u64, x: u32, y: u32, w: u32) -> Point
+    requires x_in_range { x < 2 ^ 31 }
+    requires y_in_range { y < 2 ^ 31 }
+    requires w_in_range { w < 2 ^ 31 }
+{
+    Point {
         id,
         x,
         y,
         w,
         stamp: id,
-    };
+    }
+}
+
+#[test]
+fn scans_a_list(rt: HostRuntime) -> Result<(), Fail> {
     let points = [
         point(7, 2, 3, 5),
         point(8, 5, 3, 100),
