@@ -12,6 +12,3 @@ mod writing;
 pub use refusal::Refusal;
 pub use reply::Reply;
 pub use writing::write_reply;
-
-#[cfg(test)]
-mod tests;

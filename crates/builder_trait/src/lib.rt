@@ -18,6 +18,3 @@ pub use at_once::part_of_one;
 pub use builder::Builder;
 pub use part::{Answers, Part};
 pub use search::{EntryTest, partition_point};
-
-#[cfg(test)]
-mod tests;

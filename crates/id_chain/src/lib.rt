@@ -9,6 +9,3 @@ mod node;
 
 pub use chain::Chain;
 pub use handle::Handle;
-
-#[cfg(test)]
-mod tests;

@@ -7,6 +7,3 @@ mod directory;
 mod slots;
 
 pub use directory::Directory;
-
-#[cfg(test)]
-mod tests;

@@ -11,6 +11,3 @@ mod stack;
 
 pub use retired::Retired;
 pub use stack::Stack;
-
-#[cfg(test)]
-mod tests;

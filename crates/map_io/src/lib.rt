@@ -18,6 +18,3 @@ pub use mem_source::MemSource;
 pub use sink::{Sink, WriteFault, write_all};
 pub use source::{Failed, Source};
 pub use standard::{StdSink, StdSource};
-
-#[cfg(test)]
-mod tests;

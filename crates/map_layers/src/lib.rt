@@ -13,6 +13,3 @@ pub use bounds::Bounds;
 pub use faults::{AskFault, CreateFault, UpdateFault};
 pub use layers::Layers;
 pub use point_layer::PointLayer;
-
-#[cfg(test)]
-mod tests;

@@ -29,6 +29,3 @@ pub fn answers_are_outputs()
         × Interrupted start.session.ledger (map_in start.session) (map as_built script) bytes (map_in now.session) }
     ensures unbuilt { (line : List ℕ) → parse (as_built line) ≡ built (parse line) }
 {}
-
-#[cfg(test)]
-mod tests;

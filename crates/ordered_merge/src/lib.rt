@@ -9,6 +9,3 @@ mod merge;
 mod steps;
 
 pub use merge::Merge;
-
-#[cfg(test)]
-mod tests;

@@ -12,6 +12,3 @@ mod room;
 
 pub use build::Build;
 pub use room::{Room, Tables};
-
-#[cfg(test)]
-mod tests;

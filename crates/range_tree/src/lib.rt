@@ -27,6 +27,3 @@ mod tree;
 
 pub use builder::RangeBuilder;
 pub use part::RangePart;
-
-#[cfg(test)]
-mod tests;

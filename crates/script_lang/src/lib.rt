@@ -20,6 +20,3 @@ pub use line_fault::LineFault;
 pub use numbers::{Limits, parse_number};
 pub use parsing::parse;
 pub use words::split_word;
-
-#[cfg(test)]
-mod tests;

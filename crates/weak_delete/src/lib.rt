@@ -10,6 +10,3 @@ mod place;
 pub use live_counts::LiveCounts;
 pub use live_max::LiveMax;
 pub use place::Place;
-
-#[cfg(test)]
-mod tests;

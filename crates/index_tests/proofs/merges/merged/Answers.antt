@@ -1,0 +1,12 @@
+use Rattle.std.proofs.Common.{◌+◌, ◌≤◌, ◌^◌, length, ap, arith, sym, subst}
+use Rattle.ordered_merge.specs.Merging.{Merges}
+use Rattle.index_tests.proofs.merges.merged.Goals as goal
+
+pub turn-requires-clause-merges : goal.turn-requires-clause-merges
+turn-requires-clause-merges g c =
+    let a = g.B.Part.Part.contents c.part_of_one-a.result in
+    let b = g.B.Part.Part.contents c.part_of_one-b.result in
+    let few : length a.items + length b.items ≤ 2 ^ 1 =
+    omega (arith, ap (λ p. length p.items) c.part_of_one-a.ensures.whole, ap (λ p. length p.items) c.part_of_one-b.ensures.whole) in
+    subst (λ p. Merges g.B.Item.Item.stamp g.B.Item.Item.before c.begin.new.self a b p) (sym c.in_ok-builder.ensures)
+    (c.begin.ensures.merges 1 few)

@@ -1,0 +1,165 @@
+//! The flat kind through the traits, and questions put to its parts.
+ghost use Rattle.std.specs.Prelude.{◌≡◌, ◌≢◌, [], ◌∷◌, IsTrue, IfOk};
+
+use crate::item::Pair;
+use crate::sums::SumOfX;
+use builder_trait::flat::{FlatBuilder, FlatPart};
+use builder_trait::{Asking, Builder, Given, Part, part_of_one};
+use query_laws::step_ledger::{SHARES, Steps, blank};
+use query_laws::{Item, NoMemory};
+use std::alloc::Global;
+use std::marker::Brand;
+use std::sync::ledger::{Blank, Ledger};
+use std::test::Fail;
+
+/// A part of two items that stand the other way round in order 1; and how many turns were left after the seal.
+fn pair<B: Builder, L: Ledger>(
+    alloc: Global,
+    first: B::Item,
+    second: B::Item,
+    steps: &mut Steps<L>,
+) -> Result<(u64, B::Part), NoMemory>
+    requires rising { IsTrue (B.Item.before 0 first second) }
+    requires falling { IsTrue (B.Item.before 1 second first) }
+    ensures { IfOk result (λ made. (B.Part.Part.contents made.1).items ≡ first ∷ second ∷ []) }
+{
+    let mut builder = B::room(alloc, 1)?;
+    builder.put(0, first, 0, steps);
+    builder.put(0, second, 1, steps);
+    builder.put(1, second, 1, steps);
+    builder.put(1, first, 0, steps);
+    builder.seal();
+    let left = builder.left();
+    builder.turns(left, steps);
+    Ok((left, builder.finish()))
+}
+
+/// The item at a place of order 0, if there is one: its stamp, its index in order 1 by the place there, and whether it is live.
+fn seen_at<P: Part, L: Ledger>(
+    part: &P,
+    place: usize,
+    steps: &mut Steps<L>,
+) -> Option<(u64, usize, bool)> {
+    if place >= part.len() {
+        return None;
+    }
+    let stamp = part.item(0, place, steps).stamp();
+    Some((stamp, part.place(1, place, steps), part.alive(place, steps)))
+}
+
+/// What a part of two items, the first of which is marked, tells of both; and how many items a part of the second has, on the same memory.
+#[derive(Drop)]
+struct Seen {
+    left: u64,
+    was_live: bool,
+    live: usize,
+    items: [Option<(u64, usize, bool)>; 2],
+    turns: u64,
+    marks: u64,
+    single: usize,
+}
+
+fn pair_seen<B: Builder, L: Ledger>(
+    alloc: Global,
+    first: B::Item,
+    second: B::Item,
+    blank: Blank,
+) -> Result<Seen, NoMemory>
+    requires name { blank.name ≡ L.name }
+    requires parts { blank.parts ≡ L.parts }
+    requires shares { blank.parts ≡ SHARES }
+    requires stamps { B.Item.stamp first ≢ B.Item.stamp second }
+    requires rising { IsTrue (B.Item.before 0 first second) }
+    requires falling { IsTrue (B.Item.before 1 second first) }
+{
+    let mut steps = Steps::<L>::new(blank);
+    let (left, mut part) = pair::<B, L>(alloc, first, second, &mut steps)?;
+    let turns = steps.lap_turns();
+    let was_live = part.mark(&first, &mut steps);
+    let items = [seen_at(&part, 0, &mut steps), seen_at(&part, 1, &mut steps)];
+    let live = part.live();
+    let marks = steps.lap_marks();
+    let single = part_of_one(B::recycle(part), second, &mut steps).len();
+    Ok(Seen {
+        left,
+        was_live,
+        live,
+        items,
+        turns,
+        marks,
+        single,
+    })
+}
+
+#[test]
+fn marks_one_of_two(rt: HostRuntime) -> Result<(), Fail> {
+    let near = Pair {
+        x: 1,
+        y: 8,
+        stamp: 40,
+    };
+    let far = Pair {
+        x: 5,
+        y: 2,
+        stamp: 41,
+    };
+    let seen = pair_seen::<FlatBuilder<Pair>, Brand>(rt.alloc(), near, far, blank())?;
+    assert_eq!(rt; (seen.left, seen.turns, seen.marks), (2, 6, 1));
+    assert_eq!(rt; (seen.was_live, seen.live, seen.single), (true, 1, 1));
+    assert_eq!(rt; seen.items, [Some((40, 1, false)), Some((41, 0, true))]);
+    Ok(())
+}
+
+/// The sum of `x` over three parts.
+fn sum_of_three<L: Ledger>(
+    alloc: Global,
+    parts: &[FlatPart<Pair>; 3],
+    steps: &mut Steps<L>,
+) -> Result<Given<FlatPart<Pair>, SumOfX>, NoMemory> {
+    let mut asking = Asking::new(alloc, &SumOfX);
+    asking.part(&parts[0], steps)?;
+    asking.part(&parts[1], steps)?;
+    asking.part(&parts[2], steps)?;
+    asking.finish()
+}
+
+/// Three parts of one point each, of which the second is marked: the sum of `x`, the parts consulted, and the turns.
+fn sum_seen<L: Ledger>(alloc: Global, blank: Blank) -> Result<[u64; 3], NoMemory>
+    requires name { blank.name ≡ L.name }
+    requires parts { blank.parts ≡ L.parts }
+    requires shares { blank.parts ≡ SHARES }
+{
+    let mut steps = Steps::<L>::new(blank);
+    let one = Pair {
+        x: 7,
+        y: 1,
+        stamp: 0,
+    };
+    let other = Pair {
+        x: 100,
+        y: 2,
+        stamp: 1,
+    };
+    let third = Pair {
+        x: 50,
+        y: 3,
+        stamp: 2,
+    };
+    let mut marked: FlatPart<Pair> = part_of_one(FlatBuilder::room(alloc, 0)?, other, &mut steps);
+    marked.mark(&other, &mut steps);
+    let parts = [
+        part_of_one(FlatBuilder::room(alloc, 0)?, one, &mut steps),
+        marked,
+        part_of_one(FlatBuilder::room(alloc, 0)?, third, &mut steps),
+    ];
+    let given = sum_of_three(alloc, &parts, &mut steps)?;
+    let consulted = given.consulted();
+    Ok([given.into_answer(), consulted as u64, steps.lap_turns()])
+}
+
+#[test]
+fn sums_over_parts(rt: HostRuntime) -> Result<(), Fail> {
+    let seen = sum_seen::<Brand>(rt.alloc(), blank())?;
+    assert_eq!(rt; seen, [57, 3, 9]);
+    Ok(())
+}

@@ -1,0 +1,184 @@
+//! Each call once, and each refusal that needs no full layer.
+ghost use Rattle.std.specs.Prelude.{◌≡◌, ◌<◌, ◌^◌, [], IfOk, OnOk};
+ghost use Rattle.map_layers.specs.Layers.{no_layers};
+
+use map_layers::{AskFault, CreateFault, Layers, UpdateFault};
+use map_shapes::{Asked, IndexSet, Kind, Name, Rect, Shape, Spent};
+use query_laws::step_ledger::{SHARES, Steps, blank};
+use std::alloc::Global;
+use std::marker::Brand;
+use std::sync::ledger::{Blank, Ledger};
+use std::test::Fail;
+
+const RANGE: IndexSet = IndexSet {
+    range: true,
+    near: false,
+    top: false,
+    stab: false,
+};
+
+/// A map with one layer, and no updates yet.
+fn with_layer(alloc: Global, name: &Name) -> Result<Layers, CreateFault>
+    ensures { IfOk result (λ layers. layers.updates ≡ 0) }
+{
+    let mut layers = Layers::new(alloc);
+    layers.create(name, Kind::Points, RANGE)?;
+    Ok(layers)
+}
+
+/// An update of another layer, an add, the same identifier again, a drop of an unknown one, and a drop.
+fn updates_seen<L: Ledger>(
+    alloc: Global,
+    name: &Name,
+    other: &Name,
+    blank: Blank,
+) -> Result<[Result<Spent, UpdateFault>; 5], CreateFault>
+    requires name { blank.name ≡ L.name }
+    requires parts { blank.parts ≡ L.parts }
+    requires shares { blank.parts ≡ SHARES }
+{
+    let mut steps = Steps::<L>::new(blank);
+    let mut layers = with_layer(alloc, name)?;
+    Ok([
+        layers.remove(other, 7, &mut steps),
+        layers.add_point(name, 7, 1, 2, 3, &mut steps),
+        layers.add_point(name, 7, 4, 5, 6, &mut steps),
+        layers.remove(name, 8, &mut steps),
+        layers.remove(name, 7, &mut steps),
+    ])
+}
+
+/// Three points, one of them outside the rectangle that is asked for below.
+fn three_points<L: Ledger>(
+    layers: &mut Layers,
+    name: &Name,
+    steps: &mut Steps<L>,
+) -> Result<(), UpdateFault>
+    requires { layers.old.updates ≡ 0 }
+    ensures { OnOk result (layers.new.updates ≡ 3) }
+{
+    layers.add_point(name, 7, 1, 2, 3, steps)?;
+    layers.add_point(name, 3, 4, 2, 5, steps)?;
+    layers.add_point(name, 9, 9, 9, 1, steps)?;
+    Ok(())
+}
+
+/// How many points of three are in a rectangle, what they weigh, which they are, and what the count cost.
+fn questions_seen<L: Ledger>(
+    alloc: Global,
+    name: &Name,
+    blank: Blank,
+) -> Result<(u64, u64, Vec<u64>, Asked), Fail>
+    requires name { blank.name ≡ L.name }
+    requires parts { blank.parts ≡ L.parts }
+    requires shares { blank.parts ≡ SHARES }
+{
+    let mut steps = Steps::<L>::new(blank);
+    let mut layers = with_layer(alloc, name)?;
+    three_points(&mut layers, name, &mut steps)?;
+    let rect = Rect {
+        x1: 1,
+        y1: 2,
+        x2: 4,
+        y2: 2,
+    };
+    let (counted, asked) = layers.count(name, &rect, &mut steps)?;
+    let (summed, _) = layers.sum(name, &rect, &mut steps)?;
+    let (listed, _) = layers.list(name, &rect, &mut steps)?;
+    Ok((
+        counted.into_answer(),
+        summed.into_answer(),
+        listed.into_answer().into_vec(),
+        asked,
+    ))
+}
+
+/// The size of the layer, the shape of a point, that of one which isn't there, and how many updates there were.
+fn readings_seen<L: Ledger>(
+    alloc: Global,
+    name: &Name,
+    blank: Blank,
+) -> Result<(u64, Shape, Result<Shape, AskFault>, u64), Fail>
+    requires name { blank.name ≡ L.name }
+    requires parts { blank.parts ≡ L.parts }
+    requires shares { blank.parts ≡ SHARES }
+{
+    let mut steps = Steps::<L>::new(blank);
+    let mut layers = with_layer(alloc, name)?;
+    three_points(&mut layers, name, &mut steps)?;
+    Ok((
+        layers.size(name)?,
+        layers.get(name, 3)?,
+        layers.get(name, 4),
+        layers.updates(),
+    ))
+}
+
+/// The layer is empty, so its level is at most 3, and then it has one point, with the same bounds. A part of one point takes three turns.
+#[test]
+fn updates_are_answered(rt: HostRuntime) -> Result<(), Fail> {
+    let name = Name::read(b"shops").expect(&rt, "a name");
+    let other = Name::read(b"streets").expect(&rt, "a name");
+    let seen = updates_seen::<Brand>(rt.alloc(), &name, &other, blank())?;
+    assert_eq!(rt; seen[0], Err(UpdateFault::NoLayer));
+    assert_eq!(rt; seen[1], Ok(spent(3, 0)));
+    assert_eq!(rt; seen[2], Err(UpdateFault::Duplicate(7)));
+    assert_eq!(rt; seen[3], Err(UpdateFault::Unknown(8)));
+    assert_eq!(rt; seen[4], Ok(spent(0, 1)));
+    Ok(())
+}
+
+/// Turns and marks, beside the bounds of a layer with one index and at most two points.
+fn spent(turns: u64, marks: u64) -> Spent {
+    Spent {
+        turns,
+        turn_bound: 480,
+        marks,
+        mark_bound: 60,
+    }
+}
+
+/// After three inserts there are two complete parts, and the level is at most 4.
+#[test]
+fn questions_are_answered(rt: HostRuntime) -> Result<(), Fail> {
+    let name = Name::read(b"shops").expect(&rt, "a name");
+    let (counted, summed, listed, asked) = questions_seen::<Brand>(rt.alloc(), &name, blank())?;
+    assert_eq!(rt; counted, 2);
+    assert_eq!(rt; summed, 8);
+    assert_eq!(rt; listed.as_slice(), [3, 7].as_slice());
+    assert_eq!(rt; (asked.parts, asked.part_bound), (2, 15));
+    assert!(rt; asked.touches > 0);
+    Ok(())
+}
+
+#[test]
+fn readings_are_answered(rt: HostRuntime) -> Result<(), Fail> {
+    let name = Name::read(b"shops").expect(&rt, "a name");
+    let (size, shape, unknown, updates) = readings_seen::<Brand>(rt.alloc(), &name, blank())?;
+    assert_eq!(rt; size, 3);
+    assert_eq!(rt; shape, Shape::Point { x: 4, y: 2, w: 5 });
+    assert_eq!(rt; unknown, Err(AskFault::Unknown(4)));
+    assert_eq!(rt; updates, 3);
+    Ok(())
+}
+
+#[test]
+fn eight_layers_are_made(rt: HostRuntime) -> Result<(), Fail> {
+    let mut layers = Layers::new(rt.alloc());
+    for word in [b"a", b"b", b"c", b"d", b"e", b"f", b"g", b"h"] {
+        let name = Name::read(word).expect(&rt, "a name");
+        assert_eq!(rt; layers.create(&name, Kind::Points, RANGE), Ok(()));
+        assert_eq!(rt;
+            layers.create(&name, Kind::Points, RANGE),
+            Err(CreateFault::Taken)
+        );
+        assert_eq!(rt; layers.size(&name), Ok(0));
+    }
+    let ninth = Name::read(b"i").expect(&rt, "a name");
+    assert_eq!(rt;
+        layers.create(&ninth, Kind::Points, RANGE),
+        Err(CreateFault::NoRoom)
+    );
+    assert_eq!(rt; layers.size(&ninth), Err(AskFault::NoLayer));
+    Ok(())
+}
