@@ -27,10 +27,10 @@ module _ {A : Type 0} where
   listed-front (x ∷ y ∷ ys) few = absurd (omega arith)
 
 module _ {A : Type 0} {le : A → A → Bool} (order : IsTotalOrder le) where
-  reflexive : (a : A) → le a a ≡ true
+  pub reflexive : (a : A) → le a a ≡ true
   reflexive a = elim (order.total a a) [ inl h ↦ h | inr h ↦ h ]
 
-  otherwise : (a b : A) → le a b ≡ false → le b a ≡ true
+  pub otherwise : (a b : A) → le a b ≡ false → le b a ≡ true
   otherwise a b h = elim (order.total a b) [ inl k ↦ cc | inr k ↦ k ]
 
   -- two entries may be put in in either order
@@ -68,10 +68,10 @@ module _ {A : Type 0} {le : A → A → Bool} (order : IsTotalOrder le) where
   insert_by-front x [] xs e = cc
   insert_by-front x (y ∷ ys) xs e = grind (arith, common_steps, reflexive x, e)
 
-  sorted_tail : (x : A) (xs : List A) → sorted_by le (x ∷ xs) ≡ x ∷ xs → sorted_by le xs ≡ xs
+  pub sorted_tail : (x : A) (xs : List A) → sorted_by le (x ∷ xs) ≡ x ∷ xs → sorted_by le xs ≡ xs
   sorted_tail x xs e = insert_by-front x (sorted_by le xs) xs e
 
-  sorted_head : (x : A) (xs : List A) → sorted_by le (x ∷ xs) ≡ x ∷ xs → insert_by le x xs ≡ x ∷ xs
+  pub sorted_head : (x : A) (xs : List A) → sorted_by le (x ∷ xs) ≡ x ∷ xs → insert_by le x xs ≡ x ∷ xs
   sorted_head x xs e = sym (ap (insert_by le x) (sorted_tail x xs e)) ∙ e
 
   insert_by-take_front : (x : A) (xs : List A) (k : ℕ) → insert_by le x xs ≡ x ∷ xs → insert_by le x (take k xs) ≡ x ∷ take k xs

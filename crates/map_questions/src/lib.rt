@@ -23,3 +23,6 @@ pub use stab::Stab;
 pub use stab_count::StabCount;
 pub use top::Top;
 pub use top_tally::TopTally;
+
+#[cfg(test)]
+mod tests;

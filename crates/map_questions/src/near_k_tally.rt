@@ -1,5 +1,5 @@
 //! The tally of a question for the nearest points.
-ghost use Rattle.std.specs.Prelude.{◌≡◌, ◌-◌, ◌<◌, ◌≤◌, [], ◌∷◌, IsTrue, false, IfSome, slice_get, length};
+ghost use Rattle.std.specs.Prelude.{◌≡◌, ◌-◌, ◌<◌, ◌≤◌, [], ◌∷◌, IsTrue, false, IfSome, MatchOption, slice_get, length, not, take_while};
 ghost use Rattle.map_model.specs.Found.{insert_by};
 ghost use Rattle.map_shapes.specs.Found.{nearer_le};
 ghost use Rattle.map_questions.specs.FirstFew.{IsFirstFew, first_few_of_both};
@@ -49,13 +49,17 @@ impl NearKTally {
         // Where there is no room, one that doesn't come before the worst so far changes nothing.
         ensures unchanged { IfSome (slice_get self.old.found (self.old.k - 1)) (λ worst. IsTrue (nearer_le worst found) → self.new ≡ self.old) }
     {
-        if let Some(worst) = self.worst() {
-            if !found.before(&worst) {
-                return;
-            }
-            self.found.pop();
+        if self.takes(&found) {
+            self.found.truncate(self.k - 1);
+            insert_in_order(&mut self.found, found);
         }
-        insert_in_order(&mut self.found, found);
+    }
+
+    /// Whether a point is among the nearest.
+    fn takes(&self, found: &Found) -> bool
+        ensures { MatchOption (slice_get self.now.found (self.now.k - 1)) (IsTrue result) (λ worst. result ≡ not (nearer_le worst found.now)) }
+    {
+        self.worst().is_none_or(|worst| found.before(&worst))
     }
 
     /// What a better point comes before; `None` while there is room.
@@ -71,12 +75,18 @@ fn insert_in_order(list: &mut FoundList, found: Found)
     requires { length list.old < 64 }
     ensures { list.new ≡ insert_by nearer_le found list.old }
 {
-    let place = list
-        .as_slice()
-        .iter()
-        .position(|kept| !kept.before(&found))
-        .unwrap_or(list.len());
+    let place = count_before(list, &found);
     list.insert(place, found);
+}
+
+/// How many at the front come before a point.
+fn count_before(list: &FoundList, found: &Found) -> usize
+    ensures { result ≡ length (take_while (λ kept. not (nearer_le found.now kept)) list.now) }
+{
+    list.as_slice()
+        .iter()
+        .take_while(|kept| kept.before(found))
+        .count()
 }
 
 impl Tally for NearKTally {

@@ -1,5 +1,5 @@
 //! Some found points, kept in place.
-ghost use Rattle.std.specs.Prelude.{◌≡◌, ◌==◌, ◌-◌, ◌<◌, ◌≤◌, [], ◌∷◌, ◌++◌, length, Some, slice_get, take, insert};
+ghost use Rattle.std.specs.Prelude.{◌≡◌, ◌==◌, ◌<◌, ◌≤◌, [], ◌∷◌, ◌++◌, length, Some, slice_get, take, insert};
 
 use crate::Found;
 use arrayvec::ArrayVec;
@@ -50,12 +50,11 @@ impl FoundList {
         self.found.insert(k, found);
     }
 
-    /// Takes the last one out.
-    pub fn pop(&mut self) -> Option<Found>
-        ensures rest { self.new ≡ take (length self.old - 1) self.old }
-        ensures last { result ≡ slice_get self.old (length self.old - 1) }
+    /// Keeps so many at the front.
+    pub fn truncate(&mut self, len: usize)
+        ensures { self.new ≡ take len self.old }
     {
-        self.found.pop()
+        self.found.truncate(len);
     }
 
     /// How many there are.
