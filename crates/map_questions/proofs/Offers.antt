@@ -59,7 +59,7 @@ module _ {A : Type 0} {le : A → A → Bool} (order : IsTotalOrder le) where
   fewer k xs x some h none =
       let short : length xs ≤ k - 1 = none-length (k - 1) xs none in
       let filled : first_few_of_both le k xs (x ∷ []) ≡ insert_by le x xs =
-          ap (take k) (sorted_by-push xs x h.sorted) ∙ take_all k (insert_by le x xs) (omega (arith, short, length-insert_by le x xs)) in
+      ap (take k) (sorted_by-push xs x h.sorted) ∙ take_all k (insert_by le x xs) (omega (arith, short, length-insert_by le x xs)) in
       record {
         room = omega (arith, some, length-take (k - 1) xs);
         joined = filled ∙ ap (insert_by le x) (sym (take_all (k - 1) xs short));

@@ -62,7 +62,10 @@ fn finds_the_nearest(rt: HostRuntime) -> Result<(), Fail> {
         (3, 4, Found { dist: 0, id: 7 }),
         (2_147_483_647, 2_147_483_647, Found { dist: 0, id: 1 }),
     ] {
-        assert_eq!(rt; answer_over(rt.alloc(), &Near { x, y }, &scattered())?, Some(want));
+        assert_eq!(rt;
+            answer_over(rt.alloc(), &Near { x, y }, &scattered())?,
+            Some(want)
+        );
     }
     Ok(())
 }
@@ -77,7 +80,10 @@ fn finds_across_the_map(rt: HostRuntime) -> Result<(), Fail> {
         dist: 9_223_372_028_264_841_218,
         id: 6,
     };
-    assert_eq!(rt; answer_over(rt.alloc(), &corner, &[point(6, 0, 0)])?, Some(far));
+    assert_eq!(rt;
+        answer_over(rt.alloc(), &corner, &[point(6, 0, 0)])?,
+        Some(far)
+    );
     assert_eq!(rt; answer_over(rt.alloc(), &corner, &[])?, None);
     Ok(())
 }
@@ -113,7 +119,10 @@ fn keeps_the_nearest_few(rt: HostRuntime) -> Result<(), Fail> {
     assert_eq!(rt; tally.worst(), Some(Found { dist: 9, id: 0 }));
     tally.offer(Found { dist: 4, id: 3 });
     let found = tally.finish()?;
-    assert_eq!(rt; found.as_slice(), [Found { dist: 4, id: 3 }, Found { dist: 4, id: 8 }].as_slice());
+    assert_eq!(rt;
+        found.as_slice(),
+        [Found { dist: 4, id: 3 }, Found { dist: 4, id: 8 }].as_slice()
+    );
     Ok(())
 }
 
@@ -125,7 +134,11 @@ fn finds_the_highest(rt: HostRuntime) -> Result<(), Fail> {
         (4, 8, Some(Peak { y: 1, id: 5 })),
         (5, 8, None),
     ] {
-        assert_eq!(rt; answer_over(rt.alloc(), &Top { x1, x2 }, &hills())?, want, "from {x1} to {x2}");
+        assert_eq!(rt;
+            answer_over(rt.alloc(), &Top { x1, x2 }, &hills())?,
+            want,
+            "from {x1} to {x2}"
+        );
     }
     Ok(())
 }
@@ -148,10 +161,19 @@ fn lists_those_above(rt: HostRuntime) -> Result<(), Fail> {
 #[test]
 fn lists_and_counts_the_stabbed(rt: HostRuntime) -> Result<(), Fail> {
     let all = [1u64, 2, 3];
-    for (x, want) in [(5, &all[..2]), (2, &all[1..2]), (9, &all[2..]), (10, &all[..0])] {
+    for (x, want) in [
+        (5, &all[..2]),
+        (2, &all[1..2]),
+        (9, &all[2..]),
+        (10, &all[..0]),
+    ] {
         let ids = answer_over(rt.alloc(), &Stab { x }, &segments())?;
         assert_eq!(rt; ids.as_slice(), want, "at {x}");
-        assert_eq!(rt; answer_over(rt.alloc(), &StabCount { x }, &segments())?, want.len() as u64, "at {x}");
+        assert_eq!(rt;
+            answer_over(rt.alloc(), &StabCount { x }, &segments())?,
+            want.len() as u64,
+            "at {x}"
+        );
     }
     Ok(())
 }

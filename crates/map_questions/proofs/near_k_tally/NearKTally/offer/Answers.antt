@@ -39,10 +39,13 @@ few_kept old x front new is ready grows =
 
 pub invariant_of-self : goal.invariant_of-self
 invariant_of-self c =
-    let old = c.self.inside in
-    (c.self.invariant.0, c.self.invariant.1, few_kept old c.args.found c.truncate.new.self c.insert_in_order.new.list c.truncate.ensures
-    (room old c.args.self.now c.args.found c.takes.result c.self.view_is c.self.invariant.2 c.self.invariant.0 c.takes.ensures c.if-takes.true)
-    c.insert_in_order.ensures)
+    let old = c.self.inside in (
+      c.self.invariant.0,
+      c.self.invariant.1,
+      few_kept old c.args.found c.truncate.new.self c.insert_in_order.new.list c.truncate.ensures
+          (room old c.args.self.now c.args.found c.takes.result c.self.view_is c.self.invariant.2 c.self.invariant.0 c.takes.ensures c.if-takes.true)
+          c.insert_in_order.ensures,
+    )
 
 pub returns-then-takes-clause-joined : goal.returns-then-takes-clause-joined
 returns-then-takes-clause-joined c =
@@ -62,6 +65,9 @@ pub returns-else-takes-clause-joined : goal.returns-else-takes-clause-joined
 returns-else-takes-clause-joined c =
     let old = c.self.inside in
     sym c.self.view_is
-    ∙ (λ i. record { k = old.k; found = sym (first_few-worse IsTotalOrder-nearer_le old.k old.found c.args.found c.takes.result c.self.invariant.2
-    c.self.invariant.0 (subst (Takes c.args.found c.takes.result) (sym c.self.view_is) c.takes.ensures) c.if-takes.false) i })
+    ∙ (λ i. record {
+      k = old.k;
+      found = sym (first_few-worse IsTotalOrder-nearer_le old.k old.found c.args.found c.takes.result c.self.invariant.2
+          c.self.invariant.0 (subst (Takes c.args.found c.takes.result) (sym c.self.view_is) c.takes.ensures) c.if-takes.false) i;
+    })
     ∙ ap (offered c.args.found) c.self.view_is
