@@ -7,9 +7,11 @@ use Rattle.std.proofs.lemmas.Bool.{cases_lt, le-leb, lt-leb}
 use Rattle.std.proofs.lemmas.Bool.Decides.{nat_tests}
 use Rattle.std.proofs.lemmas.List.Elements.{All-cons, All-get_or}
 use Rattle.std.proofs.lemmas.List.Sorted.{All-permutation}
+use Rattle.std.proofs.lemmas.Grind.{common_steps}
 use Rattle.query_laws.specs.Decomposable.{IsDecomposable}
 use Rattle.query_laws.specs.Permuted.{Permuted, nothing, same_head, swapped_heads, composed}
 use Rattle.query_laws.proofs.Permutations.{Permuted-refl, Permuted-sym, Permuted-append_left, Permuted-append_right, Permuted-append_comm, Permuted-from_IsPermutation, IsPermutation-from_Permuted}
+use Rattle.map_model.specs.Found.{insert_by, sorted_by}
 use Rattle.map_shapes.specs.Ascending.{insert_sorted, sorted_ids, sorted_union}
 
 -- two numbers may be put in in either order
@@ -105,3 +107,12 @@ IsDecomposable-sorted_ids = record {
   commutative = λ a b h k. sorted_ids-Permuted (Permuted-append_comm a b);
   neutral = λ a h. ap sorted_ids (append-nil a) ∙ sorted_ids-sorted a h;
 }
+
+-- the definitions' list in ascending order is this one
+insert_sorted-insert_by : (x : ℕ) (xs : List ℕ) → insert_sorted x xs ≡ insert_by nat_le x xs
+insert_sorted-insert_by x [] = refl
+insert_sorted-insert_by x (y ∷ ys) = grind (arith, common_steps, insert_sorted-insert_by x ys)
+
+pub sorted_ids-sorted_by : (xs : List ℕ) → sorted_ids xs ≡ sorted_by nat_le xs
+sorted_ids-sorted_by [] = refl
+sorted_ids-sorted_by (x ∷ xs) = insert_sorted-insert_by x (sorted_ids xs) ∙ ap (insert_by nat_le x) (sorted_ids-sorted_by xs)

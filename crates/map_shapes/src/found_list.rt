@@ -1,5 +1,5 @@
 //! Some found points, kept in place.
-ghost use Rattle.std.specs.Prelude.{◌≡◌, ◌==◌, ◌<◌, ◌≤◌, [], ◌∷◌, ◌++◌, length, Some, slice_get};
+ghost use Rattle.std.specs.Prelude.{◌≡◌, ◌==◌, ◌<◌, ◌≤◌, [], ◌∷◌, ◌++◌, length, Some, slice_get, take, insert};
 
 use crate::Found;
 use arrayvec::ArrayVec;
@@ -39,6 +39,22 @@ impl FoundList {
         ensures { self.new ≡ self.old ++ found ∷ [] }
     {
         self.found.push(found);
+    }
+
+    /// Puts one in at an index, before the one that is there.
+    pub fn insert(&mut self, k: usize, found: Found)
+        requires within { k ≤ length self.old }
+        requires room { length self.old < 64 }
+        ensures { self.new ≡ insert self.old k found }
+    {
+        self.found.insert(k, found);
+    }
+
+    /// Keeps so many at the front.
+    pub fn truncate(&mut self, len: usize)
+        ensures { self.new ≡ take len self.old }
+    {
+        self.found.truncate(len);
     }
 
     /// How many there are.

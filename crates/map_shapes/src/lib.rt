@@ -19,6 +19,7 @@ mod rect;
 mod segment;
 mod segment_item;
 mod shape;
+mod shaped;
 mod spent;
 mod sum_in;
 
@@ -39,6 +40,7 @@ pub use recent::Recent;
 pub use rect::Rect;
 pub use segment::Segment;
 pub use shape::Shape;
+pub use shaped::Shaped;
 pub use spent::Spent;
 pub use sum_in::SumIn;
 

@@ -19,7 +19,7 @@ pub struct Point {
 
 impl Point {
     ghost use Rattle.std.specs.Prelude.{◌≡◌};
-    ghost use Rattle.map_model.specs.Shape.{is_inside};
+    ghost use Rattle.map_model.specs.Shape.{is_inside, squared_distance};
     ghost use Rattle.map_shapes.specs.Point.{shape_of};
     ghost use Rattle.map_shapes.specs.Rect.{rect_of};
 
@@ -28,5 +28,16 @@ impl Point {
         ensures { result ≡ is_inside (rect_of rect.now) (shape_of self.now) }
     {
         rect.x1 <= self.x && self.x <= rect.x2 && rect.y1 <= self.y && self.y <= rect.y2
+    }
+
+    /// The square of its distance from a place.
+    pub fn squared_distance(&self, x: u32, y: u32) -> u64
+        requires x_in_range { x < 2 ^ 31 }
+        requires y_in_range { y < 2 ^ 31 }
+        ensures { result ≡ squared_distance x y (shape_of self.now) }
+    {
+        let across = u64::from(self.x.abs_diff(x));
+        let up = u64::from(self.y.abs_diff(y));
+        across * across + up * up
     }
 }

@@ -3,6 +3,7 @@ ghost use Rattle.std.specs.Prelude.{◌<◌, ◌^◌};
 
 mod one_by_one;
 mod segments;
+mod shapes;
 
 use crate::{CountIn, IdList, IdTally, ListIn, Point, Recent, Rect, SumIn};
 use one_by_one::answer_over;

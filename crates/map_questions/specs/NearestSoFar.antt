@@ -1,0 +1,8 @@
+-- What contracts see of the tally of a question for the nearest k.
+use Rattle.std.specs.Prelude.{ℕ, List}
+use Rattle.map_shapes.specs.declared.found.Found.{Found}
+
+-- how many it keeps, and those that it has, the nearest first
+pub record NearestSoFar : Type 0 where
+  pub k : ℕ
+  pub found : List Found

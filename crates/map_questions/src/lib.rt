@@ -1,0 +1,28 @@
+//! The questions for near points, for high points, and for segments over a place.
+//!
+//! `specs/Questions.antt` says what each one asks, in the definitions' words, and `specs/Scans.antt` that its answer is
+//! that of the definitions' scan.
+#![tactic(auto)]
+
+mod above;
+mod near;
+mod near_k;
+mod near_k_tally;
+mod near_tally;
+mod stab;
+mod stab_count;
+mod top;
+mod top_tally;
+
+pub use above::Above;
+pub use near::Near;
+pub use near_k::NearK;
+pub use near_k_tally::NearKTally;
+pub use near_tally::NearTally;
+pub use stab::Stab;
+pub use stab_count::StabCount;
+pub use top::Top;
+pub use top_tally::TopTally;
+
+#[cfg(test)]
+mod tests;
