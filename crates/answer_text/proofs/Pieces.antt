@@ -7,8 +7,12 @@ use Rattle.map_io.specs.SinkTold.{SinkTold, Delivers, CutOff}
 use Rattle.map_io.proofs.SinkLaws.{Delivers-nil, Delivers-trans, Delivers-within, CutOff-within, CutOff-after, CutOff-append}
 use Rattle.answer_text.specs.Pieces.{DeliversLines, CutOffInPieces, Gathers}
 
+-- bytes that the piece has room for
+pub gathers_in_piece : (o : SinkTold) (p q a : List ℕ) → q ≡ p ++ a → length q < 64 → Gathers o o p q a
+gathers_in_piece o p q a is room = record { given = []; pieces = 0; delivered = Delivers-nil o; full = refl; whole = sym is; open_ = room }
+
 pub gathers_none : (o : SinkTold) (p : List ℕ) → length p < 64 → Gathers o o p p []
-gathers_none o p room = record { given = []; pieces = 0; delivered = Delivers-nil o; full = refl; whole = append-nil p; open_ = room }
+gathers_none o p room = gathers_in_piece o p p [] (sym (append-nil p)) room
 
 pub gathers_both : (o m n : SinkTold) (p q r a b : List ℕ) → Gathers o m p q a → Gathers m n q r b → Gathers o n p r (a ++ b)
 gathers_both o m n p q r a b g h = record {
@@ -68,6 +72,12 @@ gathers_end o m n p q a g h =
 pub prefix_end : (o m n : SinkTold) (p q a : List ℕ) → Gathers o m p q a → CutOff m n q 0 → CutOffInPieces o n (p ++ a)
 prefix_end o m n p q a g h = subst (CutOffInPieces o n) (sym g.whole) (cut_after o m n p q a q 0 g (omega arith) h)
 
+-- the piece, filled up by the front of the bytes, wasn't written whole
+pub cut_in_piece : (o n : SinkTold) (p a q : List ℕ) (room : ℕ) → q ≡ p ++ take room a → CutOff o n q 0 → CutOffInPieces o n (p ++ a)
+cut_in_piece o n p a q room is h =
+    let all : q ++ drop room a ≡ p ++ a = ap (λ (z : List ℕ). z ++ drop room a) is ∙ append_assoc p (take room a) (drop room a) ∙ ap (λ (z : List ℕ). p ++ z) (take-append-drop room a) in
+    CutOff-within o n (p ++ a) 0 _ (omega arith) (subst (λ (z : List ℕ). CutOff o n z 0) all (CutOff-append o n q (drop room a) 0 h))
+
 -- ---- lists
 
 pub more_texts : {A : Type 0} (f : A → List ℕ) (xs : List A) (i : ℕ) (d : A) → i < length xs → flat_map f (take (i + 1) xs) ≡ flat_map f (take i xs) ++ f (get_or xs i d)
@@ -101,3 +111,10 @@ err_weaker (Err e) P Q f h = f h
 pub err_any : {T E : Type 0} (r : Result T E) (P : Type 0) → P → OnErr r P
 err_any (Ok x) P h = tt
 err_any (Err e) P h = h
+
+-- ---- lines
+
+pub lines_both : (o m n : SinkTold) (a b : List ℕ) (i j : ℕ) → DeliversLines o m a i → DeliversLines m n b j → DeliversLines o n (a ++ b) (i + j)
+lines_both o m n a b i j g h =
+    let few : (length a + 63 * i) / 64 + (length b + 63 * j) / 64 ≤ (length (a ++ b) + 63 * (i + j)) / 64 = omega (arith, length-append a b) in
+    Delivers-within o n (a ++ b) _ _ few (Delivers-trans o m n a b _ _ g h)

@@ -33,6 +33,7 @@ pub fn write_reply<K: Sink>(reply: &Reply, ledger: bool, sink: &mut K) -> Result
 }
 
 /// The numbers of a reply but the identifiers that it lists.
+#[tactic(auto, using(crate::proofs::Pieces::gathers_none))]
 fn put_reply_numbers<K: Sink>(
     piece: &mut Piece,
     reply: &Reply,
@@ -78,6 +79,7 @@ fn shape_numbers(shape: Shape) -> [u64; 3]
     }
 }
 
+#[tactic(auto, using(crate::proofs::Pieces::gathers_none))]
 fn put_refusal_numbers<K: Sink>(
     piece: &mut Piece,
     cause: Refusal,
@@ -118,6 +120,7 @@ fn put_pairs<K: Sink>(piece: &mut Piece, found: &[Found], sink: &mut K) -> Resul
 }
 
 /// With the ledger, what the reply cost.
+#[tactic(auto, using(crate::proofs::Pieces::gathers_none))]
 fn put_tail<K: Sink>(
     piece: &mut Piece,
     reply: &Reply,
