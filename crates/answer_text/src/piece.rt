@@ -26,13 +26,13 @@ pub fn put<K: Sink>(piece: &mut Piece, bytes: &[u8], sink: &mut K) -> Result<(),
     }
     let (front, back) = bytes.split_at(room);
     append(piece, front);
-    write_all(sink, piece.as_slice())?;
+    finish(piece, sink)?;
     piece.clear();
     append(piece, back);
     Ok(())
 }
 
-/// Writes what is left in the piece.
+/// Writes what the piece holds.
 pub fn finish<K: Sink>(piece: &Piece, sink: &mut K) -> Result<(), WriteFault>
     ensures delivered { OnOk result (Delivers (K.told sink.old) (K.told sink.new) piece.now.items (min 1 (length piece.now.items))) }
     ensures cut_off { OnErr result (CutOff (K.told sink.old) (K.told sink.new) piece.now.items 0) }
