@@ -1,8 +1,7 @@
 -- A reply's line is its parts.
-use Rattle.std.proofs.Common.{◌≡◌, ℕ, Bool, false, cond, nat_eq, List, [], ◌∷◌, ◌++◌, codes, length, Option, Some, None, map, arith, refl, sym, ap, ◌∙◌, append-nil, append_assoc, subst}
+use Rattle.std.proofs.Common.{◌≡◌, ℕ, Bool, false, cond, nat_eq, List, [], ◌∷◌, ◌++◌, codes, length, Some, None, map, arith, refl, sym, ap, ◌∙◌, append-nil, append_assoc, subst}
 use Rattle.std.specs.List.{flat_map}
-use Rattle.std.specs.Io.KnownBytes.{Appends}
-use Rattle.map_io.specs.ProperPrefix.{AppendsProperPrefix}
+use Rattle.map_io.specs.SinkTold.{SinkTold}
 use Rattle.map_model.specs.Reply.{spaced, numbers_or_none, shape_numbers, found_numbers, reply_text, reply_line}
 use Rattle.map_model.specs.Refusal.{refusal_text}
 use Rattle.std.proofs.lemmas.List.Concat.{flat_map-append}
@@ -15,6 +14,7 @@ use Rattle.answer_text.specs.declared.refusal.Refusal.TheVariants as causes
 use Rattle.answer_text.specs.declared.reply.Reply.{Reply}
 use Rattle.answer_text.specs.declared.reply.Reply.TheVariants as variants
 use Rattle.answer_text.specs.Reply.{refusal_of, reply_of, cost_of}
+use Rattle.answer_text.specs.Pieces.{DeliversLines, CutOffInPieces}
 use Rattle.answer_text.specs.Texts.{refusal_word, reply_word, spaced_all, found_text, refusal_numbers, reply_numbers, listed_ids, none_text, tail_text}
 
 -- one number
@@ -112,14 +112,14 @@ line_of_reply ledger reply piece word ids none tail h =
     ∙ ap (λ (z : List ℕ). (z ++ tail_text ledger reply) ++ 10 ∷ []) (append_assoc (reply_word reply) (numbers ++ spaced_all (listed_ids reply)) (none_text reply) ∙ text_behind reply)
 
 -- parts that were written are the line, and a proper prefix of them is one of it
-pub line_appended : (ledger : Bool) (reply : Reply) (o n : Option (List ℕ)) (piece word ids none tail : List ℕ) → Appends o n (piece ++ parts_text reply word ids none tail)
+pub line_appended : (ledger : Bool) (reply : Reply) (o n : SinkTold) (piece word ids none tail : List ℕ) → DeliversLines o n (piece ++ parts_text reply word ids none tail) 1
     → piece ≡ [] → word ≡ reply_word reply → ids ≡ listed_ids reply → none ≡ none_text reply → tail ≡ tail_text ledger reply
-    → Appends o n (reply_line ledger (reply_of reply) (cost_of reply))
+    → DeliversLines o n (reply_line ledger (reply_of reply) (cost_of reply)) 1
 line_appended ledger reply o n piece word ids none tail h begun word_is ids_are none_is tail_is =
-    subst (Appends o n) (line_of_reply ledger reply piece word ids none tail (record { begun = begun; word_is = word_is; ids_are = ids_are; none_is = none_is; tail_is = tail_is })) h
+    subst (λ (z : List ℕ). DeliversLines o n z 1) (line_of_reply ledger reply piece word ids none tail (record { begun = begun; word_is = word_is; ids_are = ids_are; none_is = none_is; tail_is = tail_is })) h
 
-pub line_cut : (ledger : Bool) (reply : Reply) (o n : Option (List ℕ)) (piece word ids none tail : List ℕ) → AppendsProperPrefix o n (piece ++ parts_text reply word ids none tail)
+pub line_cut : (ledger : Bool) (reply : Reply) (o n : SinkTold) (piece word ids none tail : List ℕ) → CutOffInPieces o n (piece ++ parts_text reply word ids none tail)
     → piece ≡ [] → word ≡ reply_word reply → ids ≡ listed_ids reply → none ≡ none_text reply → tail ≡ tail_text ledger reply
-    → AppendsProperPrefix o n (reply_line ledger (reply_of reply) (cost_of reply))
+    → CutOffInPieces o n (reply_line ledger (reply_of reply) (cost_of reply))
 line_cut ledger reply o n piece word ids none tail h begun word_is ids_are none_is tail_is =
-    subst (AppendsProperPrefix o n) (line_of_reply ledger reply piece word ids none tail (record { begun = begun; word_is = word_is; ids_are = ids_are; none_is = none_is; tail_is = tail_is })) h
+    subst (CutOffInPieces o n) (line_of_reply ledger reply piece word ids none tail (record { begun = begun; word_is = word_is; ids_are = ids_are; none_is = none_is; tail_is = tail_is })) h

@@ -1,9 +1,7 @@
 // A piece of a line, which is filled before a sink is given it.
-ghost use Rattle.std.specs.Prelude.{◌≡◌, ◌+◌, ◌<◌, ◌≤◌, ◌++◌, length, OnOk, OnErr};
-ghost use Rattle.std.specs.Io.KnownBytes.{Appends};
-ghost use Rattle.map_io.specs.Faults.{Rose};
-ghost use Rattle.map_io.specs.ProperPrefix.{AppendsProperPrefix};
-ghost use Rattle.answer_text.specs.Pieces.{Gathers};
+ghost use Rattle.std.specs.Prelude.{◌≡◌, ◌+◌, ◌<◌, ◌≤◌, ◌++◌, length, min, OnOk, OnErr};
+ghost use Rattle.map_io.specs.SinkTold.{Delivers, CutOff};
+ghost use Rattle.answer_text.specs.Pieces.{CutOffInPieces, Gathers};
 
 use arrayvec::ArrayVec;
 use map_io::{Sink, WriteFault, write_all};
@@ -18,11 +16,8 @@ pub type Piece = ArrayVec<u8, LONGEST_PIECE>;
 pub fn put<K: Sink>(piece: &mut Piece, bytes: &[u8], sink: &mut K) -> Result<(), WriteFault>
     requires some_room { length piece.old.items < 64 }
     requires small { length bytes.now ≤ 64 }
-    ensures all { OnOk result (Gathers (K.written sink.old) (K.written sink.new) piece.old.items piece.new.items bytes.now) }
-    ensures prefix { OnErr result (AppendsProperPrefix (K.written sink.old) (K.written sink.new) (piece.old.items ++ bytes.now)) }
-    ensures kept { K.faults sink.old ≤ K.faults sink.new }
-    ensures failed { OnErr result (Rose (K.faults sink.old) (K.faults sink.new)) }
-    ensures succeeded { OnOk result (K.faults sink.new ≡ K.faults sink.old) }
+    ensures gathered { OnOk result (Gathers (K.told sink.old) (K.told sink.new) piece.old.items piece.new.items bytes.now) }
+    ensures cut_off { OnErr result (CutOffInPieces (K.told sink.old) (K.told sink.new) (piece.old.items ++ bytes.now)) }
 {
     let room = LONGEST_PIECE - piece.len();
     if bytes.len() < room {
@@ -31,19 +26,16 @@ pub fn put<K: Sink>(piece: &mut Piece, bytes: &[u8], sink: &mut K) -> Result<(),
     }
     let (front, back) = bytes.split_at(room);
     append(piece, front);
-    write_all(sink, piece.as_slice())?;
+    finish(piece, sink)?;
     piece.clear();
     append(piece, back);
     Ok(())
 }
 
-/// Writes what is left in the piece.
+/// Writes what the piece holds.
 pub fn finish<K: Sink>(piece: &Piece, sink: &mut K) -> Result<(), WriteFault>
-    ensures all { OnOk result (Appends (K.written sink.old) (K.written sink.new) piece.now.items) }
-    ensures prefix { OnErr result (AppendsProperPrefix (K.written sink.old) (K.written sink.new) piece.now.items) }
-    ensures kept { K.faults sink.old ≤ K.faults sink.new }
-    ensures failed { OnErr result (Rose (K.faults sink.old) (K.faults sink.new)) }
-    ensures succeeded { OnOk result (K.faults sink.new ≡ K.faults sink.old) }
+    ensures delivered { OnOk result (Delivers (K.told sink.old) (K.told sink.new) piece.now.items (min 1 (length piece.now.items))) }
+    ensures cut_off { OnErr result (CutOff (K.told sink.old) (K.told sink.new) piece.now.items 0) }
 {
     write_all(sink, piece.as_slice())
 }

@@ -1,14 +1,11 @@
 // A reply's line, to a sink.
 ghost use Rattle.std.specs.Prelude.{◌≡◌, ◌<◌, ◌≤◌, ◌++◌, length, decimal, flat_map, OnOk, OnErr};
-ghost use Rattle.std.specs.Io.KnownBytes.{Appends};
-ghost use Rattle.map_io.specs.Faults.{Rose};
-ghost use Rattle.map_io.specs.ProperPrefix.{AppendsProperPrefix};
 ghost use Rattle.map_model.specs.Reply.{spaced, shape_numbers, reply_line};
 ghost use Rattle.map_model.specs.Cost as costs;
 ghost use Rattle.map_shapes.specs.Shape.{model_shape};
 ghost use Rattle.map_shapes.specs.Cost.{spent_of, asked_of};
 ghost use Rattle.answer_text.specs.Reply.{reply_of, cost_of};
-ghost use Rattle.answer_text.specs.Pieces.{Gathers};
+ghost use Rattle.answer_text.specs.Pieces.{DeliversLines, CutOffInPieces, Gathers};
 ghost use Rattle.answer_text.specs.Texts.{reply_numbers, refusal_numbers, spaced_all, found_text, tail_text};
 
 use crate::piece::{Piece, finish, put};
@@ -19,14 +16,11 @@ use map_shapes::{Asked, Found, Shape, Spent};
 
 /// Writes a reply's line with its line feed; with the ledger, what it cost stands at its end.
 ///
-/// The sink is handed pieces of 64 bytes, and at last what is left: a line of at most 64 bytes is one write. It takes no
-/// memory. `WriteFault` comes only where the sink failed in this call; a proper prefix of the line is written then.
+/// The sink is handed pieces of 64 bytes, and at last what is left; where it takes fewer bytes of one, the rest of that. It
+/// takes no memory.
 pub fn write_reply<K: Sink>(reply: &Reply, ledger: bool, sink: &mut K) -> Result<(), WriteFault>
-    ensures all { OnOk result (Appends (K.written sink.old) (K.written sink.new) (reply_line ledger (reply_of reply.now) (cost_of reply.now))) }
-    ensures prefix { OnErr result (AppendsProperPrefix (K.written sink.old) (K.written sink.new) (reply_line ledger (reply_of reply.now) (cost_of reply.now))) }
-    ensures kept { K.faults sink.old ≤ K.faults sink.new }
-    ensures failed { OnErr result (Rose (K.faults sink.old) (K.faults sink.new)) }
-    ensures succeeded { OnOk result (K.faults sink.new ≡ K.faults sink.old) }
+    ensures delivered { OnOk result (DeliversLines (K.told sink.old) (K.told sink.new) (reply_line ledger (reply_of reply.now) (cost_of reply.now)) 1) }
+    ensures cut_off { OnErr result (CutOffInPieces (K.told sink.old) (K.told sink.new) (reply_line ledger (reply_of reply.now) (cost_of reply.now))) }
 {
     let mut piece = Piece::new();
     put(&mut piece, reply_word(reply), sink)?;
@@ -39,17 +33,15 @@ pub fn write_reply<K: Sink>(reply: &Reply, ledger: bool, sink: &mut K) -> Result
 }
 
 /// The numbers of a reply but the identifiers that it lists.
+#[tactic(auto, using(crate::proofs::Pieces::gathers_none))]
 fn put_reply_numbers<K: Sink>(
     piece: &mut Piece,
     reply: &Reply,
     sink: &mut K,
 ) -> Result<(), WriteFault>
     requires { length piece.old.items < 64 }
-    ensures all { OnOk result (Gathers (K.written sink.old) (K.written sink.new) piece.old.items piece.new.items (reply_numbers reply.now)) }
-    ensures prefix { OnErr result (AppendsProperPrefix (K.written sink.old) (K.written sink.new) (piece.old.items ++ reply_numbers reply.now)) }
-    ensures kept { K.faults sink.old ≤ K.faults sink.new }
-    ensures failed { OnErr result (Rose (K.faults sink.old) (K.faults sink.new)) }
-    ensures succeeded { OnOk result (K.faults sink.new ≡ K.faults sink.old) }
+    ensures gathered { OnOk result (Gathers (K.told sink.old) (K.told sink.new) piece.old.items piece.new.items (reply_numbers reply.now)) }
+    ensures cut_off { OnErr result (CutOffInPieces (K.told sink.old) (K.told sink.new) (piece.old.items ++ reply_numbers reply.now)) }
 {
     match reply {
         Reply::Count { n, .. }
@@ -87,17 +79,15 @@ fn shape_numbers(shape: Shape) -> [u64; 3]
     }
 }
 
+#[tactic(auto, using(crate::proofs::Pieces::gathers_none))]
 fn put_refusal_numbers<K: Sink>(
     piece: &mut Piece,
     cause: Refusal,
     sink: &mut K,
 ) -> Result<(), WriteFault>
     requires { length piece.old.items < 64 }
-    ensures all { OnOk result (Gathers (K.written sink.old) (K.written sink.new) piece.old.items piece.new.items (refusal_numbers cause)) }
-    ensures prefix { OnErr result (AppendsProperPrefix (K.written sink.old) (K.written sink.new) (piece.old.items ++ refusal_numbers cause)) }
-    ensures kept { K.faults sink.old ≤ K.faults sink.new }
-    ensures failed { OnErr result (Rose (K.faults sink.old) (K.faults sink.new)) }
-    ensures succeeded { OnOk result (K.faults sink.new ≡ K.faults sink.old) }
+    ensures gathered { OnOk result (Gathers (K.told sink.old) (K.told sink.new) piece.old.items piece.new.items (refusal_numbers cause)) }
+    ensures cut_off { OnErr result (CutOffInPieces (K.told sink.old) (K.told sink.new) (piece.old.items ++ refusal_numbers cause)) }
 {
     match cause {
         Refusal::Duplicate { id } | Refusal::Unknown { id } => put_numbers(piece, &[id], sink),
@@ -108,11 +98,8 @@ fn put_refusal_numbers<K: Sink>(
 /// Numbers, each behind a space.
 fn put_numbers<K: Sink>(piece: &mut Piece, numbers: &[u64], sink: &mut K) -> Result<(), WriteFault>
     requires { length piece.old.items < 64 }
-    ensures all { OnOk result (Gathers (K.written sink.old) (K.written sink.new) piece.old.items piece.new.items (spaced_all numbers.now)) }
-    ensures prefix { OnErr result (AppendsProperPrefix (K.written sink.old) (K.written sink.new) (piece.old.items ++ spaced_all numbers.now)) }
-    ensures kept { K.faults sink.old ≤ K.faults sink.new }
-    ensures failed { OnErr result (Rose (K.faults sink.old) (K.faults sink.new)) }
-    ensures succeeded { OnOk result (K.faults sink.new ≡ K.faults sink.old) }
+    ensures gathered { OnOk result (Gathers (K.told sink.old) (K.told sink.new) piece.old.items piece.new.items (spaced_all numbers.now)) }
+    ensures cut_off { OnErr result (CutOffInPieces (K.told sink.old) (K.told sink.new) (piece.old.items ++ spaced_all numbers.now)) }
 {
     for number in numbers {
         put_number(piece, *number, sink)?;
@@ -123,11 +110,8 @@ fn put_numbers<K: Sink>(piece: &mut Piece, numbers: &[u64], sink: &mut K) -> Res
 /// Identifiers with their distances.
 fn put_pairs<K: Sink>(piece: &mut Piece, found: &[Found], sink: &mut K) -> Result<(), WriteFault>
     requires { length piece.old.items < 64 }
-    ensures all { OnOk result (Gathers (K.written sink.old) (K.written sink.new) piece.old.items piece.new.items (flat_map found_text found.now)) }
-    ensures prefix { OnErr result (AppendsProperPrefix (K.written sink.old) (K.written sink.new) (piece.old.items ++ flat_map found_text found.now)) }
-    ensures kept { K.faults sink.old ≤ K.faults sink.new }
-    ensures failed { OnErr result (Rose (K.faults sink.old) (K.faults sink.new)) }
-    ensures succeeded { OnOk result (K.faults sink.new ≡ K.faults sink.old) }
+    ensures gathered { OnOk result (Gathers (K.told sink.old) (K.told sink.new) piece.old.items piece.new.items (flat_map found_text found.now)) }
+    ensures cut_off { OnErr result (CutOffInPieces (K.told sink.old) (K.told sink.new) (piece.old.items ++ flat_map found_text found.now)) }
 {
     for point in found {
         put_numbers(piece, &[point.id, point.dist], sink)?;
@@ -136,6 +120,7 @@ fn put_pairs<K: Sink>(piece: &mut Piece, found: &[Found], sink: &mut K) -> Resul
 }
 
 /// With the ledger, what the reply cost.
+#[tactic(auto, using(crate::proofs::Pieces::gathers_none))]
 fn put_tail<K: Sink>(
     piece: &mut Piece,
     reply: &Reply,
@@ -143,11 +128,8 @@ fn put_tail<K: Sink>(
     sink: &mut K,
 ) -> Result<(), WriteFault>
     requires { length piece.old.items < 64 }
-    ensures all { OnOk result (Gathers (K.written sink.old) (K.written sink.new) piece.old.items piece.new.items (tail_text ledger reply.now)) }
-    ensures prefix { OnErr result (AppendsProperPrefix (K.written sink.old) (K.written sink.new) (piece.old.items ++ tail_text ledger reply.now)) }
-    ensures kept { K.faults sink.old ≤ K.faults sink.new }
-    ensures failed { OnErr result (Rose (K.faults sink.old) (K.faults sink.new)) }
-    ensures succeeded { OnOk result (K.faults sink.new ≡ K.faults sink.old) }
+    ensures gathered { OnOk result (Gathers (K.told sink.old) (K.told sink.new) piece.old.items piece.new.items (tail_text ledger reply.now)) }
+    ensures cut_off { OnErr result (CutOffInPieces (K.told sink.old) (K.told sink.new) (piece.old.items ++ tail_text ledger reply.now)) }
 {
     if !ledger {
         return Ok(());
@@ -173,11 +155,8 @@ fn put_tail<K: Sink>(
 
 fn put_spent<K: Sink>(piece: &mut Piece, spent: Spent, sink: &mut K) -> Result<(), WriteFault>
     requires { length piece.old.items < 64 }
-    ensures all { OnOk result (Gathers (K.written sink.old) (K.written sink.new) piece.old.items piece.new.items (costs.cost_text (costs.Updating (spent_of spent)))) }
-    ensures prefix { OnErr result (AppendsProperPrefix (K.written sink.old) (K.written sink.new) (piece.old.items ++ costs.cost_text (costs.Updating (spent_of spent)))) }
-    ensures kept { K.faults sink.old ≤ K.faults sink.new }
-    ensures failed { OnErr result (Rose (K.faults sink.old) (K.faults sink.new)) }
-    ensures succeeded { OnOk result (K.faults sink.new ≡ K.faults sink.old) }
+    ensures gathered { OnOk result (Gathers (K.told sink.old) (K.told sink.new) piece.old.items piece.new.items (costs.cost_text (costs.Updating (spent_of spent)))) }
+    ensures cut_off { OnErr result (CutOffInPieces (K.told sink.old) (K.told sink.new) (piece.old.items ++ costs.cost_text (costs.Updating (spent_of spent)))) }
 {
     put_out_of(piece, b" turns", spent.turns, spent.turn_bound, sink)?;
     put_out_of(piece, b" marks", spent.marks, spent.mark_bound, sink)
@@ -185,11 +164,8 @@ fn put_spent<K: Sink>(piece: &mut Piece, spent: Spent, sink: &mut K) -> Result<(
 
 fn put_asked<K: Sink>(piece: &mut Piece, asked: Asked, sink: &mut K) -> Result<(), WriteFault>
     requires { length piece.old.items < 64 }
-    ensures all { OnOk result (Gathers (K.written sink.old) (K.written sink.new) piece.old.items piece.new.items (costs.cost_text (costs.Asking (asked_of asked)))) }
-    ensures prefix { OnErr result (AppendsProperPrefix (K.written sink.old) (K.written sink.new) (piece.old.items ++ costs.cost_text (costs.Asking (asked_of asked)))) }
-    ensures kept { K.faults sink.old ≤ K.faults sink.new }
-    ensures failed { OnErr result (Rose (K.faults sink.old) (K.faults sink.new)) }
-    ensures succeeded { OnOk result (K.faults sink.new ≡ K.faults sink.old) }
+    ensures gathered { OnOk result (Gathers (K.told sink.old) (K.told sink.new) piece.old.items piece.new.items (costs.cost_text (costs.Asking (asked_of asked)))) }
+    ensures cut_off { OnErr result (CutOffInPieces (K.told sink.old) (K.told sink.new) (piece.old.items ++ costs.cost_text (costs.Asking (asked_of asked)))) }
 {
     put_out_of(
         piece,
@@ -204,11 +180,8 @@ fn put_asked<K: Sink>(piece: &mut Piece, asked: Asked, sink: &mut K) -> Result<(
 /// A space and a number.
 fn put_number<K: Sink>(piece: &mut Piece, n: u64, sink: &mut K) -> Result<(), WriteFault>
     requires some_room { length piece.old.items < 64 }
-    ensures all { OnOk result (Gathers (K.written sink.old) (K.written sink.new) piece.old.items piece.new.items (spaced n)) }
-    ensures prefix { OnErr result (AppendsProperPrefix (K.written sink.old) (K.written sink.new) (piece.old.items ++ (spaced n))) }
-    ensures kept { K.faults sink.old ≤ K.faults sink.new }
-    ensures failed { OnErr result (Rose (K.faults sink.old) (K.faults sink.new)) }
-    ensures succeeded { OnOk result (K.faults sink.new ≡ K.faults sink.old) }
+    ensures gathered { OnOk result (Gathers (K.told sink.old) (K.told sink.new) piece.old.items piece.new.items (spaced n)) }
+    ensures cut_off { OnErr result (CutOffInPieces (K.told sink.old) (K.told sink.new) (piece.old.items ++ (spaced n))) }
 {
     put(piece, spaced(n).as_slice(), sink)
 }
@@ -223,11 +196,8 @@ fn put_out_of<K: Sink>(
 ) -> Result<(), WriteFault>
     requires some_room { length piece.old.items < 64 }
     requires short { length label.now ≤ 8 }
-    ensures all { OnOk result (Gathers (K.written sink.old) (K.written sink.new) piece.old.items piece.new.items (label.now ++ costs.out_of a b)) }
-    ensures prefix { OnErr result (AppendsProperPrefix (K.written sink.old) (K.written sink.new) (piece.old.items ++ (label.now ++ costs.out_of a b))) }
-    ensures kept { K.faults sink.old ≤ K.faults sink.new }
-    ensures failed { OnErr result (Rose (K.faults sink.old) (K.faults sink.new)) }
-    ensures succeeded { OnOk result (K.faults sink.new ≡ K.faults sink.old) }
+    ensures gathered { OnOk result (Gathers (K.told sink.old) (K.told sink.new) piece.old.items piece.new.items (label.now ++ costs.out_of a b)) }
+    ensures cut_off { OnErr result (CutOffInPieces (K.told sink.old) (K.told sink.new) (piece.old.items ++ (label.now ++ costs.out_of a b))) }
 {
     put(piece, out_of(label, a, b).as_slice(), sink)
 }
@@ -241,11 +211,8 @@ fn put_labelled<K: Sink>(
 ) -> Result<(), WriteFault>
     requires some_room { length piece.old.items < 64 }
     requires short { length label.now ≤ 16 }
-    ensures all { OnOk result (Gathers (K.written sink.old) (K.written sink.new) piece.old.items piece.new.items (label.now ++ decimal n)) }
-    ensures prefix { OnErr result (AppendsProperPrefix (K.written sink.old) (K.written sink.new) (piece.old.items ++ (label.now ++ decimal n))) }
-    ensures kept { K.faults sink.old ≤ K.faults sink.new }
-    ensures failed { OnErr result (Rose (K.faults sink.old) (K.faults sink.new)) }
-    ensures succeeded { OnOk result (K.faults sink.new ≡ K.faults sink.old) }
+    ensures gathered { OnOk result (Gathers (K.told sink.old) (K.told sink.new) piece.old.items piece.new.items (label.now ++ decimal n)) }
+    ensures cut_off { OnErr result (CutOffInPieces (K.told sink.old) (K.told sink.new) (piece.old.items ++ (label.now ++ decimal n))) }
 {
     put(piece, labelled(label, n).as_slice(), sink)
 }

@@ -1,7 +1,7 @@
 -- What a run takes in, answers and writes.
 use Rattle.std.specs.Prelude.{◌≡◌, ◌≢◌, ℕ, ◌+◌, ◌<◌, ◌≤◌, ◌⊎◌, List, [], ◌∷◌, ◌++◌, length, take, Option, codes}
-use Rattle.std.specs.Io.KnownBytes.{Appends, Consumes, IsAtEnd}
-use Rattle.map_io.specs.ProperPrefix.{AppendsProperPrefix}
+use Rattle.std.specs.Io.KnownBytes.{Consumes, IsAtEnd}
+use Rattle.map_io.specs.SinkTold.{SinkTold, Delivers, CutOff}
 use Rattle.map_model.specs.Text.{lines, whole_lines}
 use Rattle.map_session.specs.Answering.{Moment, IsAnswered, IsStopped}
 use Rattle.live_map.specs.declared.intake.Ending.{Ending}
@@ -43,14 +43,14 @@ IsIdle start now = (now.session ≡ start.session) × (now.counts ≡ start.coun
 abbrev pub HasRun : {W : Type 0} → List W → Option (List ℕ) → Option (List ℕ) → Moment → Status → Moment → Type 0
 HasRun words rest rest' start Clean now = (words ≡ []) × AnswersAll rest rest' start now × (now.session.refused ≡ 0)
 HasRun words rest rest' start Refusals now = (words ≡ []) × AnswersAll rest rest' start now × (0 < now.session.refused)
-HasRun words rest rest' start Usage now = (words ≢ []) × Takes 0 rest rest' (λ _. IsIdle start now × Appends start.written now.written usage_line)
+HasRun words rest rest' start Usage now = (words ≢ []) × Takes 0 rest rest' (λ _. IsIdle start now × Delivers start.told now.told usage_line 1)
 HasRun words rest rest' start ReadFault now = (words ≡ []) × Takes script_limit rest rest' (λ taken. IsAnswered start (whole_lines taken) now)
 HasRun words rest rest' start WriteFault now =
     ((words ≡ []) × Takes (script_limit + 1) rest rest' (λ taken. IsStopped start (lines taken) now))
-    ⊎ ((words ≢ []) × Takes 0 rest rest' (λ _. IsIdle start now × AppendsProperPrefix start.written now.written usage_line))
+    ⊎ ((words ≢ []) × Takes 0 rest rest' (λ _. IsIdle start now × CutOff start.told now.told usage_line 0))
 HasRun words rest rest' start TooLong now = (words ≡ [])
     × Takes (script_limit + 1) rest rest' (λ taken. (length taken ≡ script_limit + 1) × IsAnswered start (whole_lines (take script_limit taken)) now)
-HasRun words rest rest' start NoMemory now = (words ≡ []) × Takes script_limit rest rest' (λ _. IsIdle start now × Appends start.written now.written [])
+HasRun words rest rest' start NoMemory now = (words ≡ []) × Takes script_limit rest rest' (λ _. IsIdle start now × Delivers start.told now.told [] 0)
 
 -- ---- taking in
 
@@ -83,11 +83,11 @@ AnswersText ending text start TooLong now = (ending ≡ endings.TooLong) × IsAn
 AnswersText ending text start NoMemory now = ⊥
 
 -- the usage line was written, or a proper prefix of it
-abbrev pub WritesUsage : Option (List ℕ) → Option (List ℕ) → Status → Type 0
-WritesUsage written written' Clean = ⊥
-WritesUsage written written' Refusals = ⊥
-WritesUsage written written' Usage = Appends written written' usage_line
-WritesUsage written written' ReadFault = ⊥
-WritesUsage written written' WriteFault = AppendsProperPrefix written written' usage_line
-WritesUsage written written' TooLong = ⊥
-WritesUsage written written' NoMemory = ⊥
+abbrev pub WritesUsage : SinkTold → SinkTold → Status → Type 0
+WritesUsage told told' Clean = ⊥
+WritesUsage told told' Refusals = ⊥
+WritesUsage told told' Usage = Delivers told told' usage_line 1
+WritesUsage told told' ReadFault = ⊥
+WritesUsage told told' WriteFault = CutOff told told' usage_line 0
+WritesUsage told told' TooLong = ⊥
+WritesUsage told told' NoMemory = ⊥

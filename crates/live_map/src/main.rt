@@ -53,7 +53,7 @@ fn run_once<S: Source, K: Sink, L: Ledger>(
     requires parts { blank.parts ≡ L.parts }
     requires shares { blank.parts ≡ SHARES }
     ensures { (counts : Counts) × HasRun words.now (S.rest source.old) (S.rest source.new)
-        (moment (new_session false) (K.written sink.old) nothing_counted) result.status (moment result.session (K.written sink.new) counts) }
+        (moment (new_session false) (K.told sink.old) nothing_counted) result.status (moment result.session (K.told sink.new) counts) }
 {
     let mut steps = Steps::<L>::new(blank);
     run(alloc, words, source, sink, &mut steps)

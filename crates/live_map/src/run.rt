@@ -73,22 +73,22 @@ pub fn run<S: Source, K: Sink, L: Ledger>(
 ) -> Ended
     // What was taken, answered, counted and written.
     ensures ended { HasRun words.now (S.rest source.old) (S.rest source.new)
-        (moment (new_session false) (K.written sink.old) steps.old) result.status (moment result.session (K.written sink.new) steps.new) }
+        (moment (new_session false) (K.told sink.old) steps.old) result.status (moment result.session (K.told sink.new) steps.new) }
 
     // A fault comes only from the outside.
     ensures read_fault_cause { result.status ≡ Status.ReadFault → Rose (S.faults source.old) (S.faults source.new) }
-    ensures write_fault_cause { result.status ≡ Status.WriteFault → Rose (K.faults sink.old) (K.faults sink.new) }
+    ensures write_fault_cause { result.status ≡ Status.WriteFault → Rose (K.told sink.old).faults (K.told sink.new).faults }
 
     // No call is tried again: where the run doesn't end at a fault, none came.
     ensures no_read_fault { result.status ≢ Status.ReadFault → result.status ≢ Status.WriteFault → S.faults source.new ≡ S.faults source.old }
-    ensures no_write_fault { result.status ≢ Status.WriteFault → K.faults sink.new ≡ K.faults sink.old }
+    ensures no_write_fault { result.status ≢ Status.WriteFault → (K.told sink.new).faults ≡ (K.told sink.old).faults }
 
     // Where nothing failed, a script within the limit is answered whole, and no longer one is, but for want of memory.
     ensures complete { (left : List ℕ) → S.rest source.old ≡ Some left → length left ≤ script_limit → words.now ≡ [] →
-        (Rose (S.faults source.old) (S.faults source.new) → ⊥) → (Rose (K.faults sink.old) (K.faults sink.new) → ⊥) →
+        (Rose (S.faults source.old) (S.faults source.new) → ⊥) → (Rose (K.told sink.old).faults (K.told sink.new).faults → ⊥) →
         (result.status ≡ Status.Clean) ⊎ ((result.status ≡ Status.Refusals) ⊎ (result.status ≡ Status.NoMemory)) }
     ensures limit { (left : List ℕ) → S.rest source.old ≡ Some left → script_limit < length left → words.now ≡ [] →
-        (Rose (S.faults source.old) (S.faults source.new) → ⊥) → (Rose (K.faults sink.old) (K.faults sink.new) → ⊥) →
+        (Rose (S.faults source.old) (S.faults source.new) → ⊥) → (Rose (K.told sink.old).faults (K.told sink.new).faults → ⊥) →
         (result.status ≡ Status.TooLong) ⊎ (result.status ≡ Status.NoMemory) }
 {
     let mut session = Session::new(alloc, false);
@@ -111,9 +111,9 @@ pub fn run<S: Source, K: Sink, L: Ledger>(
 
 /// Writes the usage line.
 fn refuse_words<K: Sink>(sink: &mut K) -> Status
-    ensures written { WritesUsage (K.written sink.old) (K.written sink.new) result }
-    ensures cause { result ≡ Status.WriteFault → Rose (K.faults sink.old) (K.faults sink.new) }
-    ensures succeeded { result ≢ Status.WriteFault → K.faults sink.new ≡ K.faults sink.old }
+    ensures written { WritesUsage (K.told sink.old) (K.told sink.new) result }
+    ensures cause { result ≡ Status.WriteFault → Rose (K.told sink.old).faults (K.told sink.new).faults }
+    ensures succeeded { result ≢ Status.WriteFault → (K.told sink.new).faults ≡ (K.told sink.old).faults }
 {
     match write_all(sink, USAGE) {
         Ok(()) => Status::Usage,
@@ -130,9 +130,9 @@ fn answer<K: Sink, L: Ledger>(
     steps: &mut Steps<L>,
 ) -> Status
     requires { session.old.lines + length text.now < 2 ^ 40 }
-    ensures answered { AnswersText ending text.now (moment session.old (K.written sink.old) steps.old) result (moment session.new (K.written sink.new) steps.new) }
-    ensures cause { result ≡ Status.WriteFault → Rose (K.faults sink.old) (K.faults sink.new) }
-    ensures succeeded { result ≢ Status.WriteFault → K.faults sink.new ≡ K.faults sink.old }
+    ensures answered { AnswersText ending text.now (moment session.old (K.told sink.old) steps.old) result (moment session.new (K.told sink.new) steps.new) }
+    ensures cause { result ≡ Status.WriteFault → Rose (K.told sink.old).faults (K.told sink.new).faults }
+    ensures succeeded { result ≢ Status.WriteFault → (K.told sink.new).faults ≡ (K.told sink.old).faults }
 {
     match ending {
         Ending::End => match answer_lines(session, text, sink, steps) {

@@ -3,3 +3,4 @@ pub mod Faults
 pub mod MemSink
 pub mod MemSource
 pub mod ProperPrefix
+pub mod SinkTold

@@ -1,9 +1,8 @@
 // A sink over memory.
-ghost use Rattle.std.specs.Prelude.{◌≡◌, ◌↔◌, ◌⊎◌, ℕ, ◌+◌, ◌-◌, ◌^◌, ◌<◌, ◌≤◌, List, [], min, take, length, vec_len, All, Contains, Some, IfOk, IsErr, OnOk, OnErr};
+ghost use Rattle.std.specs.Prelude.{◌≡◌, ◌↔◌, ◌⊎◌, ◌+◌, ◌-◌, ◌^◌, ◌<◌, ◌≤◌, [], min, length, vec_len, All, Contains, IfOk, IsErr, OnErr};
 ghost use Rattle.std.specs.List.Sorted.{IsStrictlyIncreasing};
-ghost use Rattle.std.specs.Io.KnownBytes.{WriteAppends};
-ghost use Rattle.map_io.specs.Faults.{Rose};
-ghost use Rattle.map_io.specs.MemSink.{sink_after_failing, sink_after_taking};
+ghost use Rattle.map_io.specs.SinkTold.{TakesFront, TakesNone};
+ghost use Rattle.map_io.specs.MemSink.{sink_after_failing, sink_after_taking, told_in};
 
 use super::plan::Plan;
 use super::sink::Sink;
@@ -13,12 +12,14 @@ use std::marker::Model;
 /// A sink over memory that it is given, for tests: it takes pieces, and fails where it is told to
 /// or has no place left.
 ///
-/// Contracts see it as a `MemSinkState`: the bytes taken, the places left, the piece, the numbers of the
-/// failing calls that are still to come, the calls so far and the failed calls so far.
+/// Contracts see it as a `MemSinkState`: the bytes taken, how many calls took all that they were
+/// handed, the places left, the piece, the numbers of the failing calls that are still to come, the calls so far and the
+/// failed calls so far.
 #[derive(Drop)]
 pub struct MemSink {
     space: Vec<u8>,
     filled: usize,
+    pieces: usize,
     piece: usize,
     plan: Plan,
     faults: u64,
@@ -32,6 +33,7 @@ impl Model for MemSink {
 
     ghost view = { λ s. record {
       written = take s.filled s.space.items;
+      pieces = s.pieces;
       room = vec_len s.space - s.filled;
       piece = s.piece;
       failing = s.plan.failing;
@@ -39,7 +41,7 @@ impl Model for MemSink {
       faults = s.faults;
     } };
 
-    ghost invariant = { λ s. (s.filled ≤ vec_len s.space) × (1 ≤ s.piece) };
+    ghost invariant = { λ s. (s.filled ≤ vec_len s.space) × (s.pieces ≤ s.filled) × (1 ≤ s.piece) };
 }
 
 impl MemSink {
@@ -53,6 +55,7 @@ impl MemSink {
         requires numbered { All (λ n. 0 < n) failing.items }
         ensures { result ≡ record {
           written = [];
+          pieces = 0;
           room = vec_len space;
           piece = piece;
           failing = failing.items;
@@ -63,6 +66,7 @@ impl MemSink {
         MemSink {
             space,
             filled: 0,
+            pieces: 0,
             piece,
             plan: Plan::new(failing),
             faults: 0,
@@ -78,24 +82,20 @@ impl MemSink {
 }
 
 impl Sink for MemSink {
-    ghost written = { λ s. Some s.written };
-
-    ghost faults = { λ s. s.faults };
+    ghost told = { told_in };
 
     /// Copies the bytes that it takes; the rest of the call takes a fixed number of steps.
     fn write(&mut self, piece: &[u8]) -> Result<usize, Failed>
         requires { 0 < length piece.now }
         ensures bound { IfOk result (λ n. (1 ≤ n) × (n ≤ length piece.now)) }
-        ensures appended { WriteAppends (Some self.old.written) (Some self.new.written) result piece.now }
-        ensures kept { self.old.faults ≤ self.new.faults }
+        ensures taken { IfOk result (TakesFront (told_in self.old) (told_in self.new) piece.now) }
+        ensures failed { OnErr result (TakesNone (told_in self.old) (told_in self.new)) }
         ensures bounded { self.new.faults ≤ 2 ^ 64 - 1 }
-        ensures failed { OnErr result (Rose self.old.faults self.new.faults) }
-        ensures succeeded { OnOk result (self.new.faults ≡ self.old.faults) }
 
         ensures fails { IsErr result ↔ (Contains self.old.failing (self.old.calls + 1) ⊎ (self.old.room ≡ 0)) }
         ensures refused { OnErr result (self.new ≡ sink_after_failing self.old) }
 
-        ensures given { IfOk result (λ n. self.new ≡ sink_after_taking (take n piece.now) self.old) }
+        ensures given { IfOk result (λ n. self.new ≡ sink_after_taking n piece.now self.old) }
         ensures count { IfOk result (λ n. n ≡ min (length piece.now) (min self.old.piece self.old.room)) }
     {
         let fails = self.plan.count();
@@ -107,6 +107,7 @@ impl Sink for MemSink {
         let end = self.filled + taken;
         self.space[self.filled..end].copy_from_slice(&piece[..taken]);
         self.filled = end;
+        self.pieces += usize::from(taken == piece.len());
         Ok(taken)
     }
 }

@@ -1,8 +1,6 @@
 // What takes bytes.
-ghost use Rattle.std.specs.Prelude.{◌≡◌, ℕ, Option, ◌-◌, ◌^◌, ◌<◌, ◌≤◌, List, length, IfOk, OnOk, OnErr};
-ghost use Rattle.std.specs.Io.KnownBytes.{Appends, WriteAppends};
-ghost use Rattle.map_io.specs.Faults.{Rose};
-ghost use Rattle.map_io.specs.ProperPrefix.{AppendsProperPrefix};
+ghost use Rattle.std.specs.Prelude.{◌≡◌, ◌-◌, ◌^◌, ◌<◌, ◌≤◌, length, min, IfOk, OnOk, OnErr};
+ghost use Rattle.map_io.specs.SinkTold.{SinkTold, TakesFront, TakesNone, Delivers, CutOff};
 
 use super::source::Failed;
 use thiserror::Error;
@@ -14,11 +12,9 @@ pub struct WriteFault;
 
 /// A writer that counts how often the outside failed.
 pub trait Sink {
-    /// The bytes taken so far, where the sink tells them.
-    ghost written: { Self → Option (List ℕ) };
-
-    /// How often the outside has failed; it never falls, and stays at 2^64 - 1 once it is there.
-    ghost faults: { Self → ℕ };
+    /// The bytes taken so far and how many calls took all that they were handed, where the sink tells these, and how often
+    /// the outside has failed. The last never falls, and stays at 2^64 - 1 once it is there.
+    ghost told: { Self → SinkTold };
 
     /// Takes bytes from the front of `piece`, at least one, and says how many.
     ///
@@ -26,26 +22,19 @@ pub trait Sink {
     fn write(&mut self, piece: &[u8]) -> Result<usize, Failed>
         requires { 0 < length piece.now }
         ensures bound { IfOk result (λ n. (1 ≤ n) × (n ≤ length piece.now)) }
-        ensures appended { WriteAppends (written self.old) (written self.new) result piece.now }
-
-        ensures kept { faults self.old ≤ faults self.new }
-        ensures bounded { faults self.new ≤ 2 ^ 64 - 1 }
-        ensures failed { OnErr result (Rose (faults self.old) (faults self.new)) }
-        ensures succeeded { OnOk result (faults self.new ≡ faults self.old) };
+        ensures taken { IfOk result (TakesFront (told self.old) (told self.new) piece.now) }
+        ensures failed { OnErr result (TakesNone (told self.old) (told self.new)) }
+        ensures bounded { (told self.new).faults ≤ 2 ^ 64 - 1 };
 }
 
-/// Hands all bytes to the sink, in as many calls as it asks for.
+/// Hands all bytes to the sink, in as many calls as it asks for: each is handed all that is left.
 ///
 /// It stops at the first call that fails, and no call is tried again. No bytes take no call. After `WriteFault` a sink that
 /// tells its bytes has a proper prefix of them; one that doesn't may have taken them all.
 pub fn write_all<K: Sink>(sink: &mut K, bytes: &[u8]) -> Result<(), WriteFault>
-    ensures all { OnOk result (Appends (K.written sink.old) (K.written sink.new) bytes.now) }
-
-    ensures prefix { OnErr result (AppendsProperPrefix (K.written sink.old) (K.written sink.new) bytes.now) }
-
-    ensures kept { K.faults sink.old ≤ K.faults sink.new }
-    ensures failed { OnErr result (Rose (K.faults sink.old) (K.faults sink.new)) }
-    ensures succeeded { OnOk result (K.faults sink.new ≡ K.faults sink.old) }
+    // At most one call takes all that it was handed, and none does of no bytes.
+    ensures delivered { OnOk result (Delivers (K.told sink.old) (K.told sink.new) bytes.now (min 1 (length bytes.now))) }
+    ensures cut_off { OnErr result (CutOff (K.told sink.old) (K.told sink.new) bytes.now 0) }
 {
     let mut done = 0;
     while done < bytes.len() {

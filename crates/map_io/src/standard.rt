@@ -1,8 +1,9 @@
 // A reader and a writer of std as a source and a sink.
 ghost use Rattle.std.specs.Prelude.{◌≡◌, ℕ, ◌-◌, ◌^◌, ◌<◌, ◌≤◌, List, length, None, IfOk, IfSome, OnOk, OnErr};
-ghost use Rattle.std.specs.Io.KnownBytes.{ReadConsumes, WriteAppends};
+ghost use Rattle.std.specs.Io.KnownBytes.{ReadConsumes};
 ghost use Rattle.map_io.specs.Faults.{Rose};
 ghost use Rattle.map_io.specs.Calls.{counted};
+ghost use Rattle.map_io.specs.SinkTold.{TakesFront, TakesNone, told_by_faults};
 
 use super::sink::Sink;
 use super::source::{Failed, Source, count_fault};
@@ -94,9 +95,7 @@ impl<W: Write> StdSink<W> {
 }
 
 impl<W: Write> Sink for StdSink<W> {
-    ghost written = { λ _. None };
-
-    ghost faults = { λ s. s };
+    ghost told = { told_by_faults };
 
     /// Makes one call of the writer's `write`, and a flush.
     ///
@@ -104,12 +103,10 @@ impl<W: Write> Sink for StdSink<W> {
     fn write(&mut self, piece: &[u8]) -> Result<usize, Failed>
         requires { 0 < length piece.now }
         ensures bound { IfOk result (λ n. (1 ≤ n) × (n ≤ length piece.now)) }
-        ensures appended { WriteAppends None None result piece.now }
-        ensures kept { self.old ≤ self.new }
+        ensures taken { IfOk result (TakesFront (told_by_faults self.old) (told_by_faults self.new) piece.now) }
+        ensures failed { OnErr result (TakesNone (told_by_faults self.old) (told_by_faults self.new)) }
         ensures bounded { self.new ≤ 2 ^ 64 - 1 }
-        ensures failed { OnErr result (Rose self.old self.new) }
 
-        ensures succeeded { OnOk result (self.new ≡ self.old) }
         ensures refused { OnErr result (self.new ≡ counted self.old) }
     {
         match write_and_flush(&mut self.writer, piece) {

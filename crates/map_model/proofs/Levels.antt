@@ -1,7 +1,7 @@
 -- The greatest level of a layer is a binary logarithm.
-use Rattle.std.proofs.Common.{ℕ, zero, suc, ◌*◌, ◌/◌, ◌^◌, ◌<◌, ◌≤◌, arith, inl, inr, pow-suc}
+use Rattle.std.proofs.Common.{ℕ, zero, suc, ◌+◌, ◌*◌, ◌/◌, ◌^◌, ◌<◌, ◌≤◌, arith, inl, inr, pow-suc}
 use Rattle.std.proofs.lemmas.Bool.{cases_lt, lt-ltb, le-ltb}
-use Rattle.map_model.specs.Cost.{halvings}
+use Rattle.map_model.specs.Cost.{halvings, greatest_level}
 
 -- h is the greatest power of two at most m
 abbrev pub IsLog : ℕ → ℕ → Type 0
@@ -16,3 +16,14 @@ IsLog-halvings (suc k) m some small = elim (cases_lt m 2) [
   | inl one ↦ rw (lt-ltb m 2 one) (omega arith, omega arith)
   | inr more ↦ rw (le-ltb m 2 more) (IsLog-halved m (halvings k (m / 2)) (IsLog-halvings k (m / 2) (omega arith) (omega (arith, pow-suc 2 (suc k)))))
 ]
+
+halvings-le : (k m : ℕ) → halvings k m ≤ k
+halvings-le zero m = omega arith
+halvings-le (suc k) m = elim (cases_lt m 2) [
+  | inl one ↦ rw (lt-ltb m 2 one) (omega arith)
+  | inr more ↦ rw (le-ltb m 2 more) (omega (arith, halvings-le k (m / 2)))
+]
+
+pub greatest_level-le : (n : ℕ) → greatest_level n ≤ 63
+unfolding greatest_level
+greatest_level-le n = halvings-le 63 (2 * n + 10)

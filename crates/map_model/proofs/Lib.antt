@@ -7,3 +7,4 @@ pub mod Levels
 pub mod WordLists
 pub mod RoundTrip
 pub mod LawfulCommands
+pub mod CostsFixed

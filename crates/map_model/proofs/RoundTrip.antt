@@ -20,12 +20,12 @@ use Rattle.map_model.specs.Grammar.{without_return, is_printable, is_digits, is_
 use Rattle.map_model.specs.Line.{kind_word, index_words, word_if, rect_words, spaced_words, command_line, IsCoordinate, IsAmount, IsRect, IsQuestion, IsCommand}
 use Rattle.map_model.proofs.WordLists.{is_plain, name_plain, digit_plain, list_all-weaker, IsPlainWord, ArePlainWords, words-spaced, spaced_printable, length-spaced, last_of_spaced}
 
-own : IsNumeralModel (λ ds. all_ascii_digits ds ≡ true) (digits_value 10)
+pub own : IsNumeralModel (λ ds. all_ascii_digits ds ≡ true) (digits_value 10)
 own = numerals_by_value (λ ds. all_ascii_digits ds ≡ true) tells_all_ascii_digits
 
 -- ---- numbers and names as words
 
-abbrev Is64 : ℕ → Type 0
+abbrev pub Is64 : ℕ → Type 0
 Is64 n = n < 2 ^ 64
 
 value : (n : ℕ) → Is64 n → digits_value 10 (decimal n) ≡ n

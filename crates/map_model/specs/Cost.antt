@@ -1,5 +1,5 @@
 -- What a command cost, as its reply may tell: turns and marks of an update, parts and touches of a question.
-use Rattle.std.specs.Prelude.{◌≡◌, ℕ, zero, suc, ◌+◌, ◌*◌, ◌/◌, ◌<◌, ◌≤◌, Bool, true, List, [], ◌∷◌, ◌++◌, codes, decimal, nat_lt, if◌then◌else◌}
+use Rattle.std.specs.Prelude.{◌≡◌, ℕ, zero, suc, ◌+◌, ◌*◌, ◌/◌, ◌^◌, ◌<◌, ◌≤◌, ⊤, Bool, true, List, [], ◌∷◌, ◌++◌, codes, decimal, nat_lt, if◌then◌else◌}
 use Rattle.map_model.specs.Index.{index_count}
 use Rattle.map_model.specs.State.{Layer, live_count}
 
@@ -30,6 +30,12 @@ abbrev pub cost_text : Cost → List ℕ
 cost_text Untold = []
 cost_text (Updating s) = (codes " turns" ++ out_of s.turns s.turn_bound) ++ (codes " marks" ++ out_of s.marks s.mark_bound)
 cost_text (Asking a) = (codes " parts" ++ out_of a.parts a.part_bound) ++ (codes " touches " ++ decimal a.touches)
+
+-- each number that is told has at most 64 bits
+abbrev pub Fits64 : Cost → Type 0
+Fits64 Untold = ⊤
+Fits64 (Updating s) = (s.turns < 2 ^ 64) × (s.turn_bound < 2 ^ 64) × (s.marks < 2 ^ 64) × (s.mark_bound < 2 ^ 64)
+Fits64 (Asking a) = (a.parts < 2 ^ 64) × (a.part_bound < 2 ^ 64) × (a.touches < 2 ^ 64)
 
 -- ---- the bounds, for a layer of n live items
 

@@ -8,9 +8,9 @@
 ghost use Rattle.std.specs.Prelude.{◌≡◌, ℕ, ◌+◌, ◌*◌, ◌^◌, ◌<◌, ◌≤◌, Bool, true, false, List, [], ◌∷◌, ◌++◌, Ok, Some, None, Contains, codes, IsTrue, nat_eq, replicate};
 ghost use Rattle.std.specs.List.{starts_with};
 ghost use Rattle.map_model.specs.Text.{lines, whole_lines, one_line, refusals};
-ghost use Rattle.map_model.specs.State.{State, HasDistinctKeys, empty_map};
+ghost use Rattle.map_model.specs.State.{Layer, State, HasDistinctKeys, empty_map};
 ghost use Rattle.map_model.specs.Machine.{step};
-ghost use Rattle.map_model.specs.Cost.{Cost, greatest_level, bounds_at};
+ghost use Rattle.map_model.specs.Cost.{Cost, Spent, Asked, Updating, Asking, Fits64, IsSpent, IsAsked, greatest_level, bounds_at};
 ghost use Rattle.map_model.specs.Reply.{Reply, reply_text, reply_line, is_refusal};
 ghost use Rattle.map_model.specs.Command.{Command};
 ghost use Rattle.map_model.specs.Grammar.{parse};
@@ -73,6 +73,15 @@ pub fn replies_are_lines()
     ensures one_line { (ledger : Bool) (reply : Reply) (cost : Cost) →
         (text : List ℕ) × (reply_line ledger reply cost ≡ text ++ 10 ∷ []) × (one_line text ≡ true) }
     ensures refusals { (reply : Reply) (rest : List ℕ) → starts_with nat_eq (reply_text reply ++ rest) (codes "no ") ≡ is_refusal reply }
+{}
+
+/// With the ledger a reply's line tells what the reply cost: two costs that make the same line of it are the same. An update's
+/// numbers always have few enough bits for it, and so have a question's, but for its touches.
+pub fn costs_are_fixed()
+    ensures fixed { (reply : Reply) (first second : Cost) → Fits64 first → Fits64 second →
+        reply_line true reply first ≡ reply_line true reply second → first ≡ second }
+    ensures updates { (layer : Layer) (adds : Bool) (spent : Spent) → IsSpent layer adds spent → Fits64 (Updating spent) }
+    ensures questions { (layer : Layer) (asked : Asked) → IsAsked layer asked → asked.touches < 2 ^ 64 → Fits64 (Asking asked) }
 {}
 
 /// A command is read from its own line, whatever its numbers within their limits. Made scripts stand on it.

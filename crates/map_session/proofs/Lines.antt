@@ -5,14 +5,17 @@ use Rattle.std.proofs.lemmas.List.{drop_more, take_rest, get_or-take, map-append
 use Rattle.std.proofs.lemmas.List.Sums.{sum_by-append, sum_by-cons}
 use Rattle.std.proofs.lemmas.Bool.{eqb-true, and_from, not_from_false, false_from_ne_true}
 use Rattle.std.specs.Io.KnownBytes.{Appends}
-use Rattle.std.proofs.KnownBytes.{Appends-nil, Appends-trans}
-use Rattle.map_io.specs.ProperPrefix.{AppendsProperPrefix}
+use Rattle.std.proofs.KnownBytes.{Appends-trans}
+use Rattle.map_io.specs.Faults.{Rose}
+use Rattle.map_io.proofs.SinkLaws.{Delivers-nil}
 use Rattle.map_model.specs.State.{State}
 use Rattle.map_model.specs.Text.{lines, whole_lines, one_line}
 use Rattle.map_model.specs.Grammar.{parse}
 use Rattle.map_model.specs.Output.{Given, Answers, Output, Interrupted, written_for}
 use Rattle.map_model.proofs.TextLemmas.{lines-line, whole_lines-line, lines-rest, whole_lines-rest, lines_begin_whole}
 use Rattle.map_model.proofs.Outputs.{refusals-push}
+use Rattle.answer_text.specs.Pieces.{DeliversLines, CutOffInPieces}
+use Rattle.answer_text.proofs.Pieces.{lines_both}
 use Rattle.map_session.specs.Built.{as_built}
 use Rattle.map_session.specs.Work.{no_work, both, work_said}
 use Rattle.map_session.specs.Session.{map_in, ExecutesLine}
@@ -45,7 +48,7 @@ no_lines start = record {
   bytes = [];
   work = no_work;
   output = (refl, refl, refl);
-  appended = Appends-nil start.written;
+  delivered = Delivers-nil start.told;
   turns = omega arith;
   marks = omega arith;
   ledger = refl;
@@ -56,7 +59,7 @@ no_lines start = record {
 
 -- one line more
 pub one_more : (start now new : Moment) (script : List (List ℕ)) (line : List ℕ) (given : Given) → IsAnswered start script now → ExecutesLine now.session now.counts line given new.session new.counts
-    → Appends now.written new.written (written_for now.session.ledger given.told) → IsAnswered start (script ++ line ∷ []) new
+    → DeliversLines now.told new.told (written_for now.session.ledger given.told) 1 → IsAnswered start (script ++ line ∷ []) new
 one_more start now new script line given p e a =
     let ledger = start.session.ledger in
     let told = written_for ledger given.told in
@@ -70,7 +73,8 @@ one_more start now new script line given p e a =
       output = subst (λ (ls : List (List ℕ)). OutputWithin ledger (map_in start.session) ls (p.bytes ++ told) (map_in new.session) (both p.work (work_said (map_in now.session) (parse (as_built line)))))
           (sym (map-append as_built script (line ∷ [])))
           (subst (λ (s : State). OutputWithin ledger (map_in start.session) (built ++ as_built line ∷ []) (p.bytes ++ told) s (both p.work (work_said (map_in now.session) (parse (as_built line))))) (sym e.map) pushed);
-      appended = Appends-trans start.written now.written new.written p.bytes told p.appended (subst (λ (b : Bool). Appends now.written new.written (written_for b given.told)) p.ledger a);
+      delivered = subst (DeliversLines start.told new.told (p.bytes ++ told)) (sym (length-append script (line ∷ [])))
+          (lines_both start.told now.told new.told p.bytes told (length script) 1 p.delivered (subst (λ (b : Bool). DeliversLines now.told new.told (written_for b given.told) 1) p.ledger a));
       turns = omega (arith, p.turns, e.counted.few_turns);
       marks = omega (arith, p.marks, e.counted.few_marks);
       ledger = e.ledger ∙ p.ledger;
@@ -91,7 +95,7 @@ pub no_progress : (start : Moment) (text : List ℕ) → Progress start text tex
 no_progress start text = record { answered = []; all = refl; whole = refl; answers = no_lines start; fewer = omega arith }
 
 pub more_progress : (start now new : Moment) (text rest line after : List ℕ) (given : Given) → Progress start text rest now → rest ≡ line ++ 10 ∷ after → one_line line ≡ true
-    → ExecutesLine now.session now.counts line given new.session new.counts → Appends now.written new.written (written_for now.session.ledger given.told) → Progress start text after new
+    → ExecutesLine now.session now.counts line given new.session new.counts → DeliversLines now.told new.told (written_for now.session.ledger given.told) 1 → Progress start text after new
 more_progress start now new text rest line after given p split ended e a = record {
   answered = p.answered ++ line ∷ [];
   all = p.all ∙ ap (λ (ls : List (List ℕ)). p.answered ++ ls) (ap lines split ∙ lines-line line after ended) ∙ sym (append_assoc p.answered (line ∷ []) (lines after));
@@ -113,7 +117,7 @@ one_last [] unended some = absurd (omega arith)
 one_last (byte ∷ rest) unended some = lines-rest byte rest unended
 
 pub last_answered : (start now new : Moment) (text rest : List ℕ) (given : Given) → Progress start text rest now → one_line rest ≡ true → 0 < length rest
-    → ExecutesLine now.session now.counts rest given new.session new.counts → Appends now.written new.written (written_for now.session.ledger given.told) → IsAnswered start (lines text) new
+    → ExecutesLine now.session now.counts rest given new.session new.counts → DeliversLines now.told new.told (written_for now.session.ledger given.told) 1 → IsAnswered start (lines text) new
 last_answered start now new text rest given p unended some e a =
     subst (λ (ls : List (List ℕ)). IsAnswered start ls new) (sym (p.all ∙ ap (λ (ls : List (List ℕ)). p.answered ++ ls) (one_last rest unended some)))
     (one_more start now new p.answered rest given p.answers e a)
@@ -121,7 +125,7 @@ last_answered start now new text rest given p unended some e a =
 -- ---- a fault
 
 stopped : (start now new : Moment) (answered more script : List (List ℕ)) (line : List ℕ) (given : Given) → script ≡ answered ++ line ∷ more → IsAnswered start answered now
-    → ExecutesLine now.session now.counts line given new.session new.counts → AppendsProperPrefix now.written new.written (written_for now.session.ledger given.told) → IsStopped start script new
+    → ExecutesLine now.session now.counts line given new.session new.counts → CutOffInPieces now.told new.told (written_for now.session.ledger given.told) → IsStopped start script new
 stopped start now new answered more script line given split p e prefix = record {
   answered = length answered;
   has_next = subst (λ (ls : List (List ℕ)). length answered < length ls) (sym split) (omega (arith, length-append answered (line ∷ more)));
@@ -130,19 +134,19 @@ stopped start now new answered more script line given split p e prefix = record 
   given = given;
   executed = subst (λ (l : List ℕ). ExecutesLine now.session now.counts l given new.session new.counts)
       (sym (ap (λ (ls : List (List ℕ)). get_or ls (length answered) []) split ∙ get_or_at answered line more [] (length answered) refl)) e;
-  prefix = prefix;
+  cut_off = prefix;
 }
 
 -- writing stopped in a line that a line feed ends
 pub stopped_whole : (start now new : Moment) (text rest line after : List ℕ) (given : Given) → Progress start text rest now → rest ≡ line ++ 10 ∷ after → one_line line ≡ true
-    → ExecutesLine now.session now.counts line given new.session new.counts → AppendsProperPrefix now.written new.written (written_for now.session.ledger given.told) → IsStopped start (whole_lines text) new
+    → ExecutesLine now.session now.counts line given new.session new.counts → CutOffInPieces now.told new.told (written_for now.session.ledger given.told) → IsStopped start (whole_lines text) new
 stopped_whole start now new text rest line after given p split ended e prefix =
     stopped start now new p.answered (whole_lines after) (whole_lines text) line given
     (p.whole ∙ ap (λ (ls : List (List ℕ)). p.answered ++ ls) (ap whole_lines split ∙ whole_lines-line line after ended)) p.answers e prefix
 
 -- writing stopped in the last line, which no line feed ends
 pub stopped_last : (start now new : Moment) (text rest : List ℕ) (given : Given) → Progress start text rest now → one_line rest ≡ true → 0 < length rest
-    → ExecutesLine now.session now.counts rest given new.session new.counts → AppendsProperPrefix now.written new.written (written_for now.session.ledger given.told) → IsStopped start (lines text) new
+    → ExecutesLine now.session now.counts rest given new.session new.counts → CutOffInPieces now.told new.told (written_for now.session.ledger given.told) → IsStopped start (lines text) new
 stopped_last start now new text rest given p unended some e prefix =
     stopped start now new p.answered [] (lines text) rest given
     (p.all ∙ ap (λ (ls : List (List ℕ)). p.answered ++ ls) (one_last rest unended some)) p.answers e prefix
@@ -156,7 +160,7 @@ IsStopped-append start now script more s = record {
   answers_before = subst (λ (ls : List (List ℕ)). IsAnswered start ls s.before) (sym (take-append-le s.answered script more (le_of_lt s.has_next))) s.answers_before;
   given = s.given;
   executed = subst (λ (l : List ℕ). ExecutesLine s.before.session s.before.counts l s.given now.session now.counts) (sym (get_or_append_left script more [] s.answered s.has_next)) s.executed;
-  prefix = s.prefix;
+  cut_off = s.cut_off;
 }
 
 -- more text after the whole lines that writing stopped in
@@ -168,19 +172,24 @@ stopped_in_more start now text more s =
 pub stopped_in_text : (start now : Moment) (text : List ℕ) → IsStopped start (whole_lines text) now → IsStopped start (lines text) now
 stopped_in_text start now text s = subst (λ (t : List ℕ). IsStopped start (lines t) now) (append-nil text) (stopped_in_more start now text [] s)
 
+-- a call failed after the lines that were answered
+pub stopped_rose : (start now : Moment) (script : List (List ℕ)) → IsStopped start script now → Rose start.told.faults now.told.faults
+stopped_rose start now script s = λ low. omega (arith, s.answers_before.delivered.faults, s.cut_off.failed low)
+
 -- ---- in the words of the definitions
 
 -- what was written by a session that was stopped
 pub stopped_is_interrupted : (start now : Moment) (script : List (List ℕ)) → IsStopped start script now
-    → (bytes : List ℕ) × Appends start.written now.written bytes × Interrupted start.session.ledger (map_in start.session) (map as_built script) bytes (map_in now.session)
+    → (bytes : List ℕ) × Appends start.told.written now.told.written bytes × Interrupted start.session.ledger (map_in start.session) (map as_built script) bytes (map_in now.session)
 stopped_is_interrupted start now script s =
     let p = s.answers_before in
     let built = map as_built script in
     let line = get_or script s.answered [] in
     let told = written_for start.session.ledger s.given.told in
-    let prefix : AppendsProperPrefix s.before.written now.written told = subst (λ (b : Bool). AppendsProperPrefix s.before.written now.written (written_for b s.given.told)) p.ledger s.prefix in (
+    let cut : CutOffInPieces s.before.told now.told told = subst (λ (b : Bool). CutOffInPieces s.before.told now.told (written_for b s.given.told)) p.ledger s.cut_off in
+    let prefix = cut.written in (
       p.bytes ++ take prefix.0 told,
-      Appends-trans start.written s.before.written now.written p.bytes (take prefix.0 told) p.appended prefix.2,
+      Appends-trans start.told.written s.before.told.written now.told.written p.bytes (take prefix.0 told) p.delivered.written prefix.2,
       record {
         answered = s.answered;
         has_next = omega (arith, s.has_next, length-map script as_built);

@@ -1,12 +1,12 @@
 -- Lines of a text that a session answered.
-use Rattle.std.specs.Prelude.{◌≡◌, ℕ, ◌+◌, ◌<◌, ◌≤◌, ◌++◌, Bool, List, [], ◌∷◌, length, take, map, Option, count_by, slice_index_or}
-use Rattle.std.specs.Io.KnownBytes.{Appends}
+use Rattle.std.specs.Prelude.{◌≡◌, ℕ, ◌+◌, ◌<◌, ◌≤◌, ◌++◌, Bool, List, [], ◌∷◌, length, take, map, count_by, slice_index_or}
 use Rattle.query_laws.specs.StepLedger.{Counts}
-use Rattle.map_io.specs.ProperPrefix.{AppendsProperPrefix}
+use Rattle.map_io.specs.SinkTold.{SinkTold}
 use Rattle.map_model.specs.Text.{lines, whole_lines, refusals}
 use Rattle.map_model.specs.State.{State}
 use Rattle.map_model.specs.Grammar.{parse}
 use Rattle.map_model.specs.Output.{Given, Answers, written_for}
+use Rattle.answer_text.specs.Pieces.{DeliversLines, CutOffInPieces}
 use Rattle.map_session.specs.Built.{as_built}
 use Rattle.map_session.specs.Work.{Work, no_work, both, work_said, is_update_said}
 use Rattle.map_session.specs.Session.{SessionState, map_in, ExecutesLine}
@@ -18,14 +18,14 @@ OutputWithin ledger start (line ∷ lines) written end work =
     (given : Given) × Answers start line given × (rest : List ℕ) × (later : Work) × (written ≡ written_for ledger given.told ++ rest)
     × (work ≡ both (work_said start (parse line)) later) × OutputWithin ledger given.state lines rest end later
 
--- a session, what was written, where that is told, and what was counted
+-- a session, what the sink tells, and what was counted
 pub record Moment : Type 0 where
   pub session : SessionState
-  pub written : Option (List ℕ)
+  pub told : SinkTold
   pub counts : Counts
 
-abbrev pub moment : SessionState → Option (List ℕ) → Counts → Moment
-moment session written counts = record { session = session; written = written; counts = counts }
+abbrev pub moment : SessionState → SinkTold → Counts → Moment
+moment session told counts = record { session = session; told = told; counts = counts }
 
 abbrev pub is_update_line : List ℕ → Bool
 is_update_line line = is_update_said (parse (as_built line))
@@ -35,7 +35,7 @@ pub record IsAnswered (start : Moment) (script : List (List ℕ)) (now : Moment)
   pub bytes : List ℕ
   pub work : Work
   pub output : OutputWithin start.session.ledger (map_in start.session) (map as_built script) bytes (map_in now.session) work
-  pub appended : Appends start.written now.written bytes
+  pub delivered : DeliversLines start.told now.told bytes (length script)
   pub turns : now.counts.turns ≤ start.counts.turns + work.turns
   pub marks : now.counts.marks ≤ start.counts.marks + work.marks
   pub ledger : now.session.ledger ≡ start.session.ledger
@@ -52,7 +52,7 @@ pub record IsStopped (start : Moment) (script : List (List ℕ)) (now : Moment) 
   pub answers_before : IsAnswered start (take answered script) before
   pub given : Given
   pub executed : ExecutesLine before.session before.counts (slice_index_or script answered []) given now.session now.counts
-  pub prefix : AppendsProperPrefix before.written now.written (written_for before.session.ledger given.told)
+  pub cut_off : CutOffInPieces before.told now.told (written_for before.session.ledger given.told)
 
 -- Lines at the front of a text were answered, and the rest of the text is left.
 pub record Progress (start : Moment) (text rest : List ℕ) (now : Moment) : Type 0 where

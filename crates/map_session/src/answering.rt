@@ -1,6 +1,5 @@
 // Answering a text, line by line.
-ghost use Rattle.std.specs.Prelude.{◌≡◌, ◌+◌, ◌<◌, ◌≤◌, ◌^◌, ◌++◌, ◌∷◌, true, length, MatchOption, MatchResult, OnOk, OnErr, IfOk};
-ghost use Rattle.map_io.specs.Faults.{Rose};
+ghost use Rattle.std.specs.Prelude.{◌≡◌, ◌+◌, ◌<◌, ◌^◌, ◌++◌, ◌∷◌, true, length, MatchOption, OnOk, OnErr, IfOk};
 ghost use Rattle.map_model.specs.Text.{lines, whole_lines, one_line};
 ghost use Rattle.map_session.specs.Answering.{moment, Progress, IsAnswered, IsStopped};
 
@@ -18,11 +17,8 @@ pub fn answer_lines<K: Sink, L: Ledger>(
     steps: &mut Steps<L>,
 ) -> Result<(), WriteFault>
     requires { session.old.lines + length text.now < 2 ^ 40 }
-    ensures answered { OnOk result (IsAnswered (moment session.old (K.written sink.old) steps.old) (lines text.now) (moment session.new (K.written sink.new) steps.new)) }
-    ensures stopped { OnErr result (IsStopped (moment session.old (K.written sink.old) steps.old) (lines text.now) (moment session.new (K.written sink.new) steps.new)) }
-    ensures kept { K.faults sink.old ≤ K.faults sink.new }
-    ensures failed { OnErr result (Rose (K.faults sink.old) (K.faults sink.new)) }
-    ensures succeeded { OnOk result (K.faults sink.new ≡ K.faults sink.old) }
+    ensures answered { OnOk result (IsAnswered (moment session.old (K.told sink.old) steps.old) (lines text.now) (moment session.new (K.told sink.new) steps.new)) }
+    ensures stopped { OnErr result (IsStopped (moment session.old (K.told sink.old) steps.old) (lines text.now) (moment session.new (K.told sink.new) steps.new)) }
 {
     let rest = answer_ended_lines(session, text, sink, steps)?;
     if !rest.is_empty() {
@@ -39,11 +35,8 @@ pub fn answer_whole_lines<K: Sink, L: Ledger>(
     steps: &mut Steps<L>,
 ) -> Result<(), WriteFault>
     requires { session.old.lines + length text.now < 2 ^ 40 }
-    ensures answered { OnOk result (IsAnswered (moment session.old (K.written sink.old) steps.old) (whole_lines text.now) (moment session.new (K.written sink.new) steps.new)) }
-    ensures stopped { OnErr result (IsStopped (moment session.old (K.written sink.old) steps.old) (whole_lines text.now) (moment session.new (K.written sink.new) steps.new)) }
-    ensures kept { K.faults sink.old ≤ K.faults sink.new }
-    ensures failed { OnErr result (Rose (K.faults sink.old) (K.faults sink.new)) }
-    ensures succeeded { OnOk result (K.faults sink.new ≡ K.faults sink.old) }
+    ensures answered { OnOk result (IsAnswered (moment session.old (K.told sink.old) steps.old) (whole_lines text.now) (moment session.new (K.told sink.new) steps.new)) }
+    ensures stopped { OnErr result (IsStopped (moment session.old (K.told sink.old) steps.old) (whole_lines text.now) (moment session.new (K.told sink.new) steps.new)) }
 {
     answer_ended_lines(session, text, sink, steps)?;
     Ok(())
@@ -57,12 +50,9 @@ fn answer_ended_lines<'a, K: Sink, L: Ledger>(
     steps: &mut Steps<L>,
 ) -> Result<&'a [u8], WriteFault>
     requires { session.old.lines + length text.now < 2 ^ 40 }
-    ensures progress { IfOk result (λ rest. Progress (moment session.old (K.written sink.old) steps.old) text.now rest.now (moment session.new (K.written sink.new) steps.new)) }
+    ensures progress { IfOk result (λ rest. Progress (moment session.old (K.told sink.old) steps.old) text.now rest.now (moment session.new (K.told sink.new) steps.new)) }
     ensures unended { IfOk result (λ rest. one_line rest.now ≡ true) }
-    ensures stopped { OnErr result (IsStopped (moment session.old (K.written sink.old) steps.old) (whole_lines text.now) (moment session.new (K.written sink.new) steps.new)) }
-    ensures kept { K.faults sink.old ≤ K.faults sink.new }
-    ensures failed { OnErr result (Rose (K.faults sink.old) (K.faults sink.new)) }
-    ensures succeeded { OnOk result (K.faults sink.new ≡ K.faults sink.old) }
+    ensures stopped { OnErr result (IsStopped (moment session.old (K.told sink.old) steps.old) (whole_lines text.now) (moment session.new (K.told sink.new) steps.new)) }
 {
     let mut rest = text;
     while let Some((line, after)) = split_line(rest) {

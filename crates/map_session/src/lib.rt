@@ -23,9 +23,9 @@ pub use session::{Done, Session};
 /// What a session answers is an output of the definitions, and where writing stopped a part of one. A line whose command isn't
 /// built says as little as one without a command word.
 pub fn answers_are_outputs()
-    ensures answered { (start now : Moment) (script : List (List ℕ)) → IsAnswered start script now → (bytes : List ℕ) × Appends start.written now.written bytes
+    ensures answered { (start now : Moment) (script : List (List ℕ)) → IsAnswered start script now → (bytes : List ℕ) × Appends start.told.written now.told.written bytes
         × Output start.session.ledger (map_in start.session) (map as_built script) bytes (map_in now.session) }
-    ensures stopped { (start now : Moment) (script : List (List ℕ)) → IsStopped start script now → (bytes : List ℕ) × Appends start.written now.written bytes
+    ensures stopped { (start now : Moment) (script : List (List ℕ)) → IsStopped start script now → (bytes : List ℕ) × Appends start.told.written now.told.written bytes
         × Interrupted start.session.ledger (map_in start.session) (map as_built script) bytes (map_in now.session) }
     ensures unbuilt { (line : List ℕ) → parse (as_built line) ≡ built (parse line) }
 {}

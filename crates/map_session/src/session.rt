@@ -44,10 +44,7 @@ impl Model for Session {
 }
 
 impl Session {
-    ghost use Rattle.std.specs.Prelude.{◌≡◌, ◌↔◌, ◌+◌, ◌<◌, ◌≤◌, ◌^◌, IfOk, OnOk, OnErr, Ok, None, Some};
-    ghost use Rattle.std.specs.Io.KnownBytes.{Appends};
-    ghost use Rattle.map_io.specs.Faults.{Rose};
-    ghost use Rattle.map_io.specs.ProperPrefix.{AppendsProperPrefix};
+    ghost use Rattle.std.specs.Prelude.{◌≡◌, ◌↔◌, ◌+◌, ◌<◌, ◌^◌, IfOk, OnErr, Ok, None, Some};
     ghost use Rattle.map_model.specs.Index.{one_if};
     ghost use Rattle.map_model.specs.Line.{IsCommand};
     ghost use Rattle.map_model.specs.Grammar.{parse};
@@ -55,6 +52,7 @@ impl Session {
     ghost use Rattle.map_model.specs.Output.{Given, AnswersTo, written_for, refusal_count};
     ghost use Rattle.script_lang.specs.Command.{command_of};
     ghost use Rattle.answer_text.specs.Reply.{reply_of, cost_of};
+    ghost use Rattle.answer_text.specs.Pieces.{DeliversLines, CutOffInPieces};
     ghost use Rattle.map_session.specs.Built.{built, as_built};
     ghost use Rattle.map_session.specs.Work.{work_said, is_update_said, IsCounted};
     ghost use Rattle.map_session.specs.Session.{new_session, map_in, given_by, Executes, ExecutesLine, done_of};
@@ -126,18 +124,14 @@ impl Session {
         requires { self.old.lines < 2 ^ 40 }
 
         ensures done { IfOk result (λ done. (given : Given) × ExecutesLine self.old steps.old line.now given self.new steps.new
-            × (done ≡ done_of given.told) × Appends (K.written sink.old) (K.written sink.new) (written_for self.old.ledger given.told)) }
+            × (done ≡ done_of given.told) × DeliversLines (K.told sink.old) (K.told sink.new) (written_for self.old.ledger given.told) 1) }
         ensures fault { OnErr result ((given : Given) × ExecutesLine self.old steps.old line.now given self.new steps.new
-            × AppendsProperPrefix (K.written sink.old) (K.written sink.new) (written_for self.old.ledger given.told)) }
+            × CutOffInPieces (K.told sink.old) (K.told sink.new) (written_for self.old.ledger given.told)) }
 
         ensures counted { self.new.lines ≡ self.old.lines + 1 }
 
         // A line that says nothing is silent, and no other one is.
         ensures silent { (result ≡ Ok Done.Silent) ↔ (parse line.now ≡ Ok None) }
-
-        ensures kept { K.faults sink.old ≤ K.faults sink.new }
-        ensures failed { OnErr result (Rose (K.faults sink.old) (K.faults sink.new)) }
-        ensures succeeded { OnOk result (K.faults sink.new ≡ K.faults sink.old) }
     {
         let Some(reply) = self.answer(line, steps) else {
             return Ok(Done::Silent);

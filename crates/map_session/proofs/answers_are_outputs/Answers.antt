@@ -10,7 +10,7 @@ pub returns : goal.returns
 returns c = record {
   answered = λ start now script p. (
     p.bytes,
-    p.appended,
+    p.delivered.written,
     within_is_output start.session.ledger (map_in start.session) (map_in now.session) (map as_built script) p.bytes p.work p.output,
   );
   stopped = stopped_is_interrupted;

@@ -1,5 +1,5 @@
 //! Times of a script's commands.
-ghost use Rattle.std.specs.Prelude.{None};
+ghost use Rattle.map_io.specs.SinkTold.{told_by_faults};
 
 use map_io::{Failed, Sink};
 use map_session::{Done, Session};
@@ -51,9 +51,7 @@ impl Told {
 struct NullSink;
 
 impl Sink for NullSink {
-    ghost written = { λ _. None };
-
-    ghost faults = { λ _. 0 };
+    ghost told = { λ _. told_by_faults 0 };
 
     fn write(&mut self, piece: &[u8]) -> Result<usize, Failed> {
         Ok(piece.len())

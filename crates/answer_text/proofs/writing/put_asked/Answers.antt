@@ -1,7 +1,6 @@
 use Rattle.std.proofs.Common.{◌≡◌, ℕ, List, ◌++◌, codes, decimal, subst}
 use Rattle.map_model.specs.Cost.{out_of}
-use Rattle.map_io.specs.ProperPrefix.{AppendsProperPrefix}
-use Rattle.answer_text.specs.Pieces.{Gathers}
+use Rattle.answer_text.specs.Pieces.{CutOffInPieces, Gathers}
 use Rattle.answer_text.proofs.Pieces.{gathers_both, prefix_first, prefix_second, ok_weaker, err_weaker, err_any}
 use Rattle.answer_text.proofs.writing.put_asked.Goals as goal
 
@@ -12,23 +11,23 @@ parts_text parts bound = codes " parts" ++ out_of parts bound
 touches_text : ℕ → List ℕ
 touches_text touches = codes " touches " ++ decimal touches
 
-pub returns-in_err-put_out_of-clause-prefix : goal.returns-in_err-put_out_of-clause-prefix
+pub returns-in_err-put_out_of-clause-cut_off : goal.returns-in_err-put_out_of-clause-cut_off
 unfolding parts_text touches_text
-returns-in_err-put_out_of-clause-prefix g c =
+returns-in_err-put_out_of-clause-cut_off g c =
     let told : parts_text c.from.result c.from-2.result ++ touches_text c.args.asked.touches ≡ parts_text c.args.asked.parts c.args.asked.part_bound ++ touches_text c.args.asked.touches = λ i. parts_text (c.from.ensures i) (c.from-2.ensures i) ++ touches_text c.args.asked.touches in
-    err_any c.from_residual.result _ (subst (λ (t : List ℕ). AppendsProperPrefix (g.K.Sink.written c.args.sink.now) (g.K.Sink.written c.put_out_of.new.sink) (c.args.piece.now.items ++ t)) told
-    (prefix_first _ _ c.args.piece.now.items (parts_text c.from.result c.from-2.result) (touches_text c.args.asked.touches) c.in_err-put_out_of.ensures.prefix))
+    err_any c.from_residual.result _ (subst (λ (t : List ℕ). CutOffInPieces (g.K.Sink.told c.args.sink.now) (g.K.Sink.told c.put_out_of.new.sink) (c.args.piece.now.items ++ t)) told
+    (prefix_first _ _ c.args.piece.now.items (parts_text c.from.result c.from-2.result) (touches_text c.args.asked.touches) c.in_err-put_out_of.ensures.cut_off))
 
-pub returns-clause-all : goal.returns-clause-all
+pub returns-clause-gathered : goal.returns-clause-gathered
 unfolding parts_text touches_text
-returns-clause-all g c =
+returns-clause-gathered g c =
     let told : parts_text c.from.result c.from-2.result ++ touches_text c.args.asked.touches ≡ parts_text c.args.asked.parts c.args.asked.part_bound ++ touches_text c.args.asked.touches = λ i. parts_text (c.from.ensures i) (c.from-2.ensures i) ++ touches_text c.args.asked.touches in
-    ok_weaker c.put_labelled.result _ _ (λ more. subst (Gathers (g.K.Sink.written c.args.sink.now) (g.K.Sink.written c.put_labelled.new.sink) c.args.piece.now.items c.put_labelled.new.piece.items) told
-    (gathers_both _ _ _ _ _ _ (parts_text c.from.result c.from-2.result) (touches_text c.args.asked.touches) c.in_ok-put_out_of.ensures.all more)) c.put_labelled.ensures.all
+    ok_weaker c.put_labelled.result _ _ (λ more. subst (Gathers (g.K.Sink.told c.args.sink.now) (g.K.Sink.told c.put_labelled.new.sink) c.args.piece.now.items c.put_labelled.new.piece.items) told
+    (gathers_both _ _ _ _ _ _ (parts_text c.from.result c.from-2.result) (touches_text c.args.asked.touches) c.in_ok-put_out_of.ensures.gathered more)) c.put_labelled.ensures.gathered
 
-pub returns-clause-prefix : goal.returns-clause-prefix
+pub returns-clause-cut_off : goal.returns-clause-cut_off
 unfolding parts_text touches_text
-returns-clause-prefix g c =
+returns-clause-cut_off g c =
     let told : parts_text c.from.result c.from-2.result ++ touches_text c.args.asked.touches ≡ parts_text c.args.asked.parts c.args.asked.part_bound ++ touches_text c.args.asked.touches = λ i. parts_text (c.from.ensures i) (c.from-2.ensures i) ++ touches_text c.args.asked.touches in
-    err_weaker c.put_labelled.result _ _ (λ more. subst (λ (t : List ℕ). AppendsProperPrefix (g.K.Sink.written c.args.sink.now) (g.K.Sink.written c.put_labelled.new.sink) (c.args.piece.now.items ++ t)) told
-    (prefix_second _ _ _ _ _ (parts_text c.from.result c.from-2.result) (touches_text c.args.asked.touches) c.in_ok-put_out_of.ensures.all more)) c.put_labelled.ensures.prefix
+    err_weaker c.put_labelled.result _ _ (λ more. subst (λ (t : List ℕ). CutOffInPieces (g.K.Sink.told c.args.sink.now) (g.K.Sink.told c.put_labelled.new.sink) (c.args.piece.now.items ++ t)) told
+    (prefix_second _ _ _ _ _ (parts_text c.from.result c.from-2.result) (touches_text c.args.asked.touches) c.in_ok-put_out_of.ensures.gathered more)) c.put_labelled.ensures.cut_off

@@ -4,42 +4,42 @@ use Rattle.answer_text.proofs.Pieces.{gathers_both, gathers_end, prefix_first, p
 use Rattle.answer_text.proofs.ReplyTexts.{line_appended, line_cut}
 use Rattle.answer_text.proofs.writing.write_reply.Goals as goal
 
-pub returns-in_err-put-clause-prefix : goal.returns-in_err-put-clause-prefix
-returns-in_err-put-clause-prefix g c =
+pub returns-in_err-put-clause-cut_off : goal.returns-in_err-put-clause-cut_off
+returns-in_err-put-clause-cut_off g c =
     let r = c.args.reply.now in
-    err_any c.from_residual.result _ (line_cut c.args.ledger r _ _ _ _ (listed_ids r) (none_text r) (tail_text c.args.ledger r) (before_five _ _ _ _ (reply_numbers r) (spaced_all (listed_ids r)) (none_text r) (tail_text c.args.ledger r) (10 ∷ []) c.in_err-put.ensures.prefix) c.new-piece.ensures c.reply_word.ensures.word refl refl refl)
+    err_any c.from_residual.result _ (line_cut c.args.ledger r _ _ _ _ (listed_ids r) (none_text r) (tail_text c.args.ledger r) (before_five _ _ _ _ (reply_numbers r) (spaced_all (listed_ids r)) (none_text r) (tail_text c.args.ledger r) (10 ∷ []) c.in_err-put.ensures.cut_off) c.new-piece.ensures c.reply_word.ensures.word refl refl refl)
 
-pub returns-in_err-put_reply_numbers-clause-prefix : goal.returns-in_err-put_reply_numbers-clause-prefix
-returns-in_err-put_reply_numbers-clause-prefix g c =
+pub returns-in_err-put_reply_numbers-clause-cut_off : goal.returns-in_err-put_reply_numbers-clause-cut_off
+returns-in_err-put_reply_numbers-clause-cut_off g c =
     let r = c.args.reply.now in
-    err_any c.from_residual-in_err-put_reply_numbers.result _ (line_cut c.args.ledger r _ _ _ _ (listed_ids r) (none_text r) (tail_text c.args.ledger r) (before_four _ _ _ _ (spaced_all (listed_ids r)) (none_text r) (tail_text c.args.ledger r) (10 ∷ []) (prefix_second _ _ _ _ _ _ _ c.in_ok-put.ensures.all c.in_err-put_reply_numbers.ensures.prefix)) c.new-piece.ensures c.reply_word.ensures.word refl refl refl)
+    err_any c.from_residual-in_err-put_reply_numbers.result _ (line_cut c.args.ledger r _ _ _ _ (listed_ids r) (none_text r) (tail_text c.args.ledger r) (before_four _ _ _ _ (spaced_all (listed_ids r)) (none_text r) (tail_text c.args.ledger r) (10 ∷ []) (prefix_second _ _ _ _ _ _ _ c.in_ok-put.ensures.gathered c.in_err-put_reply_numbers.ensures.cut_off)) c.new-piece.ensures c.reply_word.ensures.word refl refl refl)
 
-pub returns-in_err-put_numbers-clause-prefix : goal.returns-in_err-put_numbers-clause-prefix
-returns-in_err-put_numbers-clause-prefix g c =
+pub returns-in_err-put_numbers-clause-cut_off : goal.returns-in_err-put_numbers-clause-cut_off
+returns-in_err-put_numbers-clause-cut_off g c =
     let r = c.args.reply.now in
-    err_any c.from_residual-in_err-put_numbers.result _ (line_cut c.args.ledger r _ _ _ _ _ (none_text r) (tail_text c.args.ledger r) (before_three _ _ _ _ (none_text r) (tail_text c.args.ledger r) (10 ∷ []) (prefix_second _ _ _ _ _ _ _ (gathers_both _ _ _ _ _ _ _ _ c.in_ok-put.ensures.all c.in_ok-put_reply_numbers.ensures.all) c.in_err-put_numbers.ensures.prefix)) c.new-piece.ensures c.reply_word.ensures.word (search rules) refl refl)
+    err_any c.from_residual-in_err-put_numbers.result _ (line_cut c.args.ledger r _ _ _ _ _ (none_text r) (tail_text c.args.ledger r) (before_three _ _ _ _ (none_text r) (tail_text c.args.ledger r) (10 ∷ []) (prefix_second _ _ _ _ _ _ _ (gathers_both _ _ _ _ _ _ _ _ c.in_ok-put.ensures.gathered c.in_ok-put_reply_numbers.ensures.gathered) c.in_err-put_numbers.ensures.cut_off)) c.new-piece.ensures c.reply_word.ensures.word (search rules) refl refl)
 
-pub returns-in_err-put-2-clause-prefix : goal.returns-in_err-put-2-clause-prefix
-returns-in_err-put-2-clause-prefix g c =
+pub returns-in_err-put-2-clause-cut_off : goal.returns-in_err-put-2-clause-cut_off
+returns-in_err-put-2-clause-cut_off g c =
     let r = c.args.reply.now in
-    err_any c.from_residual-in_err-put-2.result _ (line_cut c.args.ledger r _ _ _ _ _ _ (tail_text c.args.ledger r) (before_two _ _ _ _ (tail_text c.args.ledger r) (10 ∷ []) (prefix_second _ _ _ _ _ _ _ (gathers_both _ _ _ _ _ _ _ _ (gathers_both _ _ _ _ _ _ _ _ c.in_ok-put.ensures.all c.in_ok-put_reply_numbers.ensures.all) c.in_ok-put_numbers.ensures.all) c.in_err-put-2.ensures.prefix)) c.new-piece.ensures c.reply_word.ensures.word (search rules) (search rules) refl)
+    err_any c.from_residual-in_err-put-2.result _ (line_cut c.args.ledger r _ _ _ _ _ _ (tail_text c.args.ledger r) (before_two _ _ _ _ (tail_text c.args.ledger r) (10 ∷ []) (prefix_second _ _ _ _ _ _ _ (gathers_both _ _ _ _ _ _ _ _ (gathers_both _ _ _ _ _ _ _ _ c.in_ok-put.ensures.gathered c.in_ok-put_reply_numbers.ensures.gathered) c.in_ok-put_numbers.ensures.gathered) c.in_err-put-2.ensures.cut_off)) c.new-piece.ensures c.reply_word.ensures.word (search rules) (search rules) refl)
 
-pub returns-in_err-put_tail-clause-prefix : goal.returns-in_err-put_tail-clause-prefix
-returns-in_err-put_tail-clause-prefix g c =
+pub returns-in_err-put_tail-clause-cut_off : goal.returns-in_err-put_tail-clause-cut_off
+returns-in_err-put_tail-clause-cut_off g c =
     let r = c.args.reply.now in
-    err_any c.from_residual-in_err-put_tail.result _ (line_cut c.args.ledger r _ _ _ _ _ _ (tail_text c.args.ledger r) (before_last _ _ _ ((((c.reply_word.result.now ++ reply_numbers r) ++ spaced_all _) ++ _)) (tail_text c.args.ledger r) (10 ∷ []) (prefix_second _ _ _ _ _ _ _ (gathers_both _ _ _ _ _ _ _ _ (gathers_both _ _ _ _ _ _ _ _ (gathers_both _ _ _ _ _ _ _ _ c.in_ok-put.ensures.all c.in_ok-put_reply_numbers.ensures.all) c.in_ok-put_numbers.ensures.all) c.in_ok-put-2.ensures.all) c.in_err-put_tail.ensures.prefix)) c.new-piece.ensures c.reply_word.ensures.word (search rules) (search rules) refl)
+    err_any c.from_residual-in_err-put_tail.result _ (line_cut c.args.ledger r _ _ _ _ _ _ (tail_text c.args.ledger r) (before_last _ _ _ ((((c.reply_word.result.now ++ reply_numbers r) ++ spaced_all _) ++ _)) (tail_text c.args.ledger r) (10 ∷ []) (prefix_second _ _ _ _ _ _ _ (gathers_both _ _ _ _ _ _ _ _ (gathers_both _ _ _ _ _ _ _ _ (gathers_both _ _ _ _ _ _ _ _ c.in_ok-put.ensures.gathered c.in_ok-put_reply_numbers.ensures.gathered) c.in_ok-put_numbers.ensures.gathered) c.in_ok-put-2.ensures.gathered) c.in_err-put_tail.ensures.cut_off)) c.new-piece.ensures c.reply_word.ensures.word (search rules) (search rules) refl)
 
-pub returns-in_err-put-3-clause-prefix : goal.returns-in_err-put-3-clause-prefix
-returns-in_err-put-3-clause-prefix g c =
+pub returns-in_err-put-3-clause-cut_off : goal.returns-in_err-put-3-clause-cut_off
+returns-in_err-put-3-clause-cut_off g c =
     let r = c.args.reply.now in
-    err_any c.from_residual-in_err-put-3.result _ (line_cut c.args.ledger r _ _ _ _ _ _ _ (prefix_second _ _ _ _ _ _ _ (gathers_both _ _ _ _ _ _ _ _ (gathers_both _ _ _ _ _ _ _ _ (gathers_both _ _ _ _ _ _ _ _ (gathers_both _ _ _ _ _ _ _ _ c.in_ok-put.ensures.all c.in_ok-put_reply_numbers.ensures.all) c.in_ok-put_numbers.ensures.all) c.in_ok-put-2.ensures.all) c.in_ok-put_tail.ensures.all) c.in_err-put-3.ensures.prefix) c.new-piece.ensures c.reply_word.ensures.word (search rules) (search rules) (search rules))
+    err_any c.from_residual-in_err-put-3.result _ (line_cut c.args.ledger r _ _ _ _ _ _ _ (prefix_second _ _ _ _ _ _ _ (gathers_both _ _ _ _ _ _ _ _ (gathers_both _ _ _ _ _ _ _ _ (gathers_both _ _ _ _ _ _ _ _ (gathers_both _ _ _ _ _ _ _ _ c.in_ok-put.ensures.gathered c.in_ok-put_reply_numbers.ensures.gathered) c.in_ok-put_numbers.ensures.gathered) c.in_ok-put-2.ensures.gathered) c.in_ok-put_tail.ensures.gathered) c.in_err-put-3.ensures.cut_off) c.new-piece.ensures c.reply_word.ensures.word (search rules) (search rules) (search rules))
 
-pub returns-clause-all : goal.returns-clause-all
-returns-clause-all g c =
-    let all = (gathers_both _ _ _ _ _ _ _ _ (gathers_both _ _ _ _ _ _ _ _ (gathers_both _ _ _ _ _ _ _ _ (gathers_both _ _ _ _ _ _ _ _ (gathers_both _ _ _ _ _ _ _ _ c.in_ok-put.ensures.all c.in_ok-put_reply_numbers.ensures.all) c.in_ok-put_numbers.ensures.all) c.in_ok-put-2.ensures.all) c.in_ok-put_tail.ensures.all) c.in_ok-put-3.ensures.all) in
-    ok_weaker c.finish.result _ _ (λ end. line_appended c.args.ledger c.args.reply.now _ _ _ _ _ _ _ (gathers_end _ _ _ _ _ _ all end) c.new-piece.ensures c.reply_word.ensures.word (search rules) (search rules) (search rules)) c.finish.ensures.all
+pub returns-clause-delivered : goal.returns-clause-delivered
+returns-clause-delivered g c =
+    let all = (gathers_both _ _ _ _ _ _ _ _ (gathers_both _ _ _ _ _ _ _ _ (gathers_both _ _ _ _ _ _ _ _ (gathers_both _ _ _ _ _ _ _ _ (gathers_both _ _ _ _ _ _ _ _ c.in_ok-put.ensures.gathered c.in_ok-put_reply_numbers.ensures.gathered) c.in_ok-put_numbers.ensures.gathered) c.in_ok-put-2.ensures.gathered) c.in_ok-put_tail.ensures.gathered) c.in_ok-put-3.ensures.gathered) in
+    ok_weaker c.finish.result _ _ (λ end. line_appended c.args.ledger c.args.reply.now _ _ _ _ _ _ _ (gathers_end _ _ _ _ _ _ all end) c.new-piece.ensures c.reply_word.ensures.word (search rules) (search rules) (search rules)) c.finish.ensures.delivered
 
-pub returns-clause-prefix : goal.returns-clause-prefix
-returns-clause-prefix g c =
-    let all = (gathers_both _ _ _ _ _ _ _ _ (gathers_both _ _ _ _ _ _ _ _ (gathers_both _ _ _ _ _ _ _ _ (gathers_both _ _ _ _ _ _ _ _ (gathers_both _ _ _ _ _ _ _ _ c.in_ok-put.ensures.all c.in_ok-put_reply_numbers.ensures.all) c.in_ok-put_numbers.ensures.all) c.in_ok-put-2.ensures.all) c.in_ok-put_tail.ensures.all) c.in_ok-put-3.ensures.all) in
-    err_weaker c.finish.result _ _ (λ end. line_cut c.args.ledger c.args.reply.now _ _ _ _ _ _ _ (prefix_end _ _ _ _ _ _ all end) c.new-piece.ensures c.reply_word.ensures.word (search rules) (search rules) (search rules)) c.finish.ensures.prefix
+pub returns-clause-cut_off : goal.returns-clause-cut_off
+returns-clause-cut_off g c =
+    let all = (gathers_both _ _ _ _ _ _ _ _ (gathers_both _ _ _ _ _ _ _ _ (gathers_both _ _ _ _ _ _ _ _ (gathers_both _ _ _ _ _ _ _ _ (gathers_both _ _ _ _ _ _ _ _ c.in_ok-put.ensures.gathered c.in_ok-put_reply_numbers.ensures.gathered) c.in_ok-put_numbers.ensures.gathered) c.in_ok-put-2.ensures.gathered) c.in_ok-put_tail.ensures.gathered) c.in_ok-put-3.ensures.gathered) in
+    err_weaker c.finish.result _ _ (λ end. line_cut c.args.ledger c.args.reply.now _ _ _ _ _ _ _ (prefix_end _ _ _ _ _ _ all end) c.new-piece.ensures c.reply_word.ensures.word (search rules) (search rules) (search rules)) c.finish.ensures.cut_off

@@ -16,7 +16,7 @@ returns-in_err-line-clause-stopped g c =
     let rest = c.in_ok-rest.rest.now in
     let some : 0 < length rest = pos_of_ne-zero (eqb-false (length rest) 0 (sym c.is_empty.ensures ∙ c.if-not-is_empty.true)) in
     let fault = c.in_err-line.ensures.fault in
-    let new : Moment = moment c.line.new.self (g.K.Sink.written c.line.new.sink) c.line.new.steps in
+    let new : Moment = moment c.line.new.self (g.K.Sink.told c.line.new.sink) c.line.new.steps in
     rw p.1 (stopped_last _ _ new c.args.text.now rest fault.0 c.in_ok-rest.ensures.progress c.in_ok-rest.ensures.unended some fault.1 fault.2)
 
 pub returns-in_ok-line-clause-answered : goal.returns-in_ok-line-clause-answered
@@ -24,5 +24,5 @@ returns-in_ok-line-clause-answered g c =
     let rest = c.in_ok-rest.rest.now in
     let some : 0 < length rest = pos_of_ne-zero (eqb-false (length rest) 0 (sym c.is_empty.ensures ∙ c.if-not-is_empty.true)) in
     let done = c.in_ok-line.ensures.done in
-    let new : Moment = moment c.line.new.self (g.K.Sink.written c.line.new.sink) c.line.new.steps in
+    let new : Moment = moment c.line.new.self (g.K.Sink.told c.line.new.sink) c.line.new.steps in
     last_answered _ _ new c.args.text.now rest done.0 c.in_ok-rest.ensures.progress c.in_ok-rest.ensures.unended some done.1 done.3
