@@ -1,5 +1,5 @@
 //! A question put to several parts, and its sealed answer.
-ghost use Rattle.std.specs.Prelude.{◌≡◌, ◌+◌, ◌<◌, ◌^◌, false, true, IsTrue, IfOk, IsErr, OnErr};
+ghost use Rattle.std.specs.Prelude.{◌≡◌, ◌+◌, ◌<◌, ◌^◌, false, true, length, IsTrue, IfOk, IsErr, OnErr};
 ghost use Rattle.query_laws.specs.StepLedger.{Spends};
 
 use crate::part::{Answers, Part};
@@ -11,17 +11,20 @@ use std::sync::ledger::Ledger;
 
 /// A question that is put to one part after another, with the answer so far.
 ///
+/// It counts the parts that answered and their live items, so that a caller who knows both numbers sees that none was left out.
 /// Once memory was refused it is given up, and can be neither put to a part nor finished.
 #[derive(Drop)]
 pub struct Asking<P: Answers<Q>, Q: Question<Item = P::Item>> {
     question: Q,
     tally: Q::Tally,
     consulted: u32,
+    live: u128,
     given_up: bool,
     parts: PhantomData<P>,
 }
 
 impl<P: Answers<Q>, Q: Question<Item = P::Item>> Model for Asking<P, Q> {
+    ghost use Rattle.std.specs.Prelude.{◌*◌, ◌^◌, ◌≤◌};
     ghost use Rattle.builder_trait.specs.Asking.{OpenQuestion};
 
     ghost Value = { OpenQuestion Q Q.Answer };
@@ -30,11 +33,13 @@ impl<P: Answers<Q>, Q: Question<Item = P::Item>> Model for Asking<P, Q> {
       question = a.question;
       so_far = Q.Tally.so_far a.tally;
       parts = a.consulted;
+      live = a.live;
       refusable = Q.Tally.can_refuse a.tally;
       is_given_up = a.given_up;
     } };
 
-    ghost invariant = { λ a. Q.owns a.question a.tally };
+    // A u128 holds the live items of 2^32 parts.
+    ghost invariant = { λ a. Q.owns a.question a.tally × (a.live ≤ a.consulted * 2 ^ 64) };
 }
 
 impl<P: Answers<Q>, Q: Question<Item = P::Item>> Asking<P, Q> {
@@ -44,6 +49,7 @@ impl<P: Answers<Q>, Q: Question<Item = P::Item>> Asking<P, Q> {
           question = question.now;
           so_far = Q.unit question.now;
           parts = 0;
+          live = 0;
           refusable = Q.refusable;
           is_given_up = false;
         } }
@@ -52,6 +58,7 @@ impl<P: Answers<Q>, Q: Question<Item = P::Item>> Asking<P, Q> {
             question: *question,
             tally: question.tally(alloc),
             consulted: 0,
+            live: 0,
             given_up: false,
             parts: PhantomData,
         }
@@ -66,6 +73,7 @@ impl<P: Answers<Q>, Q: Question<Item = P::Item>> Asking<P, Q> {
         ensures joined { IfOk result (λ _. self.new ≡ record self.old {
           so_far = Q.join self.old.question self.old.so_far (Q.value self.old.question (P.Part.live_items part.now));
           parts = self.old.parts + 1;
+          live = self.old.live + length (P.Part.live_items part.now);
         }) }
         ensures given_up { OnErr result (self.new ≡ record self.old { so_far = self.new.so_far; is_given_up = true }) }
         ensures refused { IsErr result → IsTrue self.old.refusable }
@@ -75,6 +83,7 @@ impl<P: Answers<Q>, Q: Question<Item = P::Item>> Asking<P, Q> {
         match part.ask(&self.question, &mut self.tally, steps) {
             Ok(()) => {
                 self.consulted += 1;
+                self.live += part.live() as u128;
                 Ok(())
             }
             Err(refusal) => {
@@ -98,7 +107,7 @@ impl<P: Answers<Q>, Q: Question<Item = P::Item>> Asking<P, Q> {
     pub fn finish(self) -> Result<Given<P, Q>, NoMemory>
         requires { self.is_given_up ≡ false }
         ensures given { IfOk result (λ given. given
-            ≡ record { question = self.question; answer = self.so_far; parts = self.parts }) }
+            ≡ record { question = self.question; answer = self.so_far; parts = self.parts; live = self.live }) }
         ensures refused { IsErr result → IsTrue self.refusable }
         ensures lawful { Q.lawful self.question self.so_far }
     {
@@ -107,6 +116,7 @@ impl<P: Answers<Q>, Q: Question<Item = P::Item>> Asking<P, Q> {
             question: self.question,
             answer,
             consulted: self.consulted,
+            live: self.live,
             parts: PhantomData,
         })
     }
@@ -118,6 +128,7 @@ pub struct Given<P: Answers<Q>, Q: Question<Item = P::Item>> {
     question: Q,
     answer: Q::Answer,
     consulted: u32,
+    live: u128,
     parts: PhantomData<P>,
 }
 
@@ -126,7 +137,7 @@ impl<P: Answers<Q>, Q: Question<Item = P::Item>> Model for Given<P, Q> {
 
     ghost Value = { SealedAnswer Q Q.Answer };
 
-    ghost view = { λ g. record { question = g.question; answer = g.answer; parts = g.consulted } };
+    ghost view = { λ g. record { question = g.question; answer = g.answer; parts = g.consulted; live = g.live } };
 }
 
 impl<P: Answers<Q>, Q: Question<Item = P::Item>> Given<P, Q> {
@@ -142,6 +153,13 @@ impl<P: Answers<Q>, Q: Question<Item = P::Item>> Given<P, Q> {
         ensures { result ≡ self.now.parts }
     {
         self.consulted
+    }
+
+    /// How many live items the parts had that were consulted.
+    pub fn live(&self) -> u128
+        ensures { result ≡ self.now.live }
+    {
+        self.live
     }
 
     /// The answer.

@@ -177,9 +177,10 @@ impl<B: Builder> Index<B> {
             → IfOk result (λ _. asking.new ≡ record asking.old {
               so_far = Q.join asking.old.question asking.old.so_far (Q.value asking.old.question (map (λ e. e.item) es));
               parts = asking.old.parts + parts_of self.now.main.levels;
+              live = asking.old.live + length es;
             }) }
         ensures given_up { OnErr result (asking.new
-            ≡ record asking.old { so_far = asking.new.so_far; parts = asking.new.parts; is_given_up = true }) }
+            ≡ record asking.old { so_far = asking.new.so_far; parts = asking.new.parts; live = asking.new.live; is_given_up = true }) }
         ensures refused { IsErr result → IsTrue asking.old.refusable }
         ensures cost { Spends steps.old steps.new 0 0 (touches_of (B.Part.ask_touches asking.old.question) self.now.main.levels) }
     {

@@ -123,8 +123,8 @@ fn sum_of_three<L: Ledger>(
     asking.finish()
 }
 
-/// Three parts of one point each, of which the second is marked: the sum of `x`, the parts consulted, and the turns.
-fn sum_seen<L: Ledger>(alloc: Global, blank: Blank) -> Result<[u64; 3], NoMemory>
+/// Three parts of one point each, of which the second is marked: the sum of `x`, the parts consulted, their live items, and the turns.
+fn sum_seen<L: Ledger>(alloc: Global, blank: Blank) -> Result<[u64; 4], NoMemory>
     requires name { blank.name ≡ L.name }
     requires parts { blank.parts ≡ L.parts }
     requires shares { blank.parts ≡ SHARES }
@@ -154,12 +154,18 @@ fn sum_seen<L: Ledger>(alloc: Global, blank: Blank) -> Result<[u64; 3], NoMemory
     ];
     let given = sum_of_three(alloc, &parts, &mut steps)?;
     let consulted = given.consulted();
-    Ok([given.into_answer(), consulted as u64, steps.lap_turns()])
+    let live = given.live();
+    Ok([
+        given.into_answer(),
+        consulted as u64,
+        live as u64,
+        steps.lap_turns(),
+    ])
 }
 
 #[test]
 fn sums_over_parts(rt: HostRuntime) -> Result<(), Fail> {
     let seen = sum_seen::<Brand>(rt.alloc(), blank())?;
-    assert_eq!(rt; seen, [57, 3, 9]);
+    assert_eq!(rt; seen, [57, 3, 2, 9]);
     Ok(())
 }

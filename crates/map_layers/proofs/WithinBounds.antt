@@ -2,7 +2,7 @@
 use Rattle.std.proofs.Common.{◌≡◌, ℕ, zero, suc, ◌+◌, ◌-◌, ◌*◌, ◌^◌, ◌<◌, ◌≤◌, ◌∙◌, Bool, true, false, Option, if◌then◌else◌, length, refl, sym, ap, subst, arith, pow-suc, sum_by}
 use Rattle.std.specs.List.{range_with_len}
 use Rattle.std.specs.Option.{is_some}
-use Rattle.query_laws.specs.StepLedger.{Counts, lap_begun, lap_of}
+use Rattle.query_laws.specs.StepLedger.{Counts, AtLapStart, lap_of}
 use Rattle.stack_levels.specs.Cost.{IsWithin, quotas}
 use Rattle.stack_levels.proofs.Spending.{IsWithin-more, IsWithin-then, quotas-first, quotas-fewer}
 use Rattle.partial_build.specs.Quota.{quota}
@@ -125,7 +125,7 @@ IsInBounds-of l {old} {new} few within =
     (if_more (is_some l.range) _ _ (quotas-closed g)) (if_more (is_some l.range) _ _ (omega arith)) (omega arith))
 
 -- the lap is what was spent, since it began there
-pub IsTold-of : (layer : Layer) (adds : Bool) (turns marks : ℕ) {spent : Spent} {old new : Counts} → IsInBounds layer old new → old ≡ lap_begun old
+pub IsTold-of : (layer : Layer) (adds : Bool) (turns marks : ℕ) {spent : Spent} {old new : Counts} → IsInBounds layer old new → AtLapStart old
     → turns ≡ turn_bound layer → marks ≡ mark_bound layer → turns < 2 ^ 32 → marks < 2 ^ 32
     → (adds ≡ true → old.turns + 3 * index_count layer.indexes ≤ new.turns)
     → spent ≡ record {
@@ -135,8 +135,8 @@ pub IsTold-of : (layer : Layer) (adds : Bool) (turns marks : ℕ) {spent : Spent
       mark_bound = marks;
     } → IsTold layer adds spent old new
 IsTold-of layer adds turns marks {spent} {old} {new} h lap turns_are marks_are few_turns few_marks some told =
-    let from_turns : new.lap_start.turns ≡ old.turns = ap (λ l. l.turns) h.spent.same_lap ∙ ap (λ (s : Counts). s.lap_start.turns) lap in
-    let from_marks : new.lap_start.marks ≡ old.marks = ap (λ l. l.marks) h.spent.same_lap ∙ ap (λ (s : Counts). s.lap_start.marks) lap in
+    let from_turns : new.lap_start.turns ≡ old.turns = ap (λ l. l.turns) h.spent.same_lap ∙ lap.no_turns in
+    let from_marks : new.lap_start.marks ≡ old.marks = ap (λ l. l.marks) h.spent.same_lap ∙ lap.no_marks in
     let risen : old.turns ≤ new.turns = omega (arith, h.spent.turns_spent) in
     let marked : old.marks ≤ new.marks = omega (arith, h.spent.marks_spent) in
     let spent_turns : spent.turns ≡ new.turns - old.turns =

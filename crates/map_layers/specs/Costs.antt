@@ -1,5 +1,5 @@
 -- What a call on a layer costs.
-use Rattle.std.specs.Prelude.{◌≡◌, ℕ, ◌+◌, ◌*◌, ◌≤◌, Bool, Option, None, Some, Result, Ok, Err}
+use Rattle.std.specs.Prelude.{◌≡◌, ℕ, ◌+◌, ◌*◌, ◌≤◌, Bool, Option, None, Some, Result, Ok, Err, length}
 use Rattle.query_laws.specs.StepLedger.{Counts}
 use Rattle.stack_levels.specs.Cost.{IsWithin}
 use Rattle.stack_levels.specs.Levels.{parts_of}
@@ -49,6 +49,13 @@ pub record IsAsking (layer : Layer) (most : ℕ) (asked : Asked) (old new : Coun
   pub turns : new.turns ≡ old.turns
   pub marks : new.marks ≡ old.marks
 
+-- A question, answered or refused, counts no turn and no mark, takes no touch back, and stays in the lap.
+pub record IsReading (old new : Counts) : Type 0 where
+  pub turns : new.turns ≡ old.turns
+  pub marks : new.marks ≡ old.marks
+  pub touches : old.touches ≤ new.touches
+  pub same_lap : new.lap_start ≡ old.lap_start
+
 -- so many as the index has complete parts
 abbrev pub IsEveryPart : {P Item : Type 0} → Option (Indexed P Item) → ℕ → Type 0
 IsEveryPart None parts = ⊥
@@ -56,9 +63,10 @@ IsEveryPart (Some index) parts = parts ≡ parts_of index.main.levels
 
 -- ---- the same for the layer of a name, where there is one
 
-abbrev pub IsEveryPartIn : Option Layered → ℕ → Type 0
-IsEveryPartIn None parts = ⊥
-IsEveryPartIn (Some layer) parts = IsEveryPart layer.range parts
+-- every complete part, with as many live items as the layer has
+abbrev pub IsEveryPartIn : Option Layered → ℕ → ℕ → Type 0
+IsEveryPartIn None parts live = ⊥
+IsEveryPartIn (Some layer) parts live = IsEveryPart layer.range parts × (live ≡ length layer.entries)
 
 abbrev pub IsCostIn : {T : Type 0} → Option Layer → Result T UpdateFault → Counts → Counts → Type 0
 IsCostIn None result old new = new ≡ old

@@ -1,7 +1,7 @@
 //! A layer of points.
 ghost use Rattle.std.specs.Prelude.{◌≡◌, ℕ, ◌+◌, ◌*◌, ◌<◌, ◌≤◌, ◌^◌, true, false, [], IfOk, OnOk, IfSome, bytes_eq, length, map};
 ghost use Rattle.std.specs.Option.{is_some, option_map};
-ghost use Rattle.query_laws.specs.StepLedger.{Spends, lap_begun};
+ghost use Rattle.query_laws.specs.StepLedger.{Spends, AtLapStart};
 ghost use Rattle.stack_levels.specs.Levels.{parts_of, touches_of};
 ghost use Rattle.level_slots.specs.Height.{HaveAtMost};
 ghost use Rattle.map_model.specs.Index.{index_count};
@@ -10,7 +10,7 @@ ghost use Rattle.map_model.specs.State as state;
 ghost use Rattle.map_model.specs.Cost.{bounds_at, turn_bound, mark_bound, part_bound};
 ghost use Rattle.map_shapes.specs.Shape.{model_shape};
 ghost use Rattle.map_layers.specs.Indexing.{IsOf};
-ghost use Rattle.map_layers.specs.Costs.{IsCost, IsTold};
+ghost use Rattle.map_layers.specs.Costs.{IsCost, IsTold, IsReading};
 ghost use Rattle.map_shapes.specs.Point.{item_of};
 ghost use Rattle.map_layers.specs.Layer.{items_of, indexes_of, layer_of, stamp_of, IsAdd, IsRemoval, IsAskRefusal};
 
@@ -130,7 +130,7 @@ impl PointLayer {
         requires y_in_range { y < 2 ^ 31 }
         requires w_in_range { w < 2 ^ 31 }
         requires few { self.old.adds < 2 ^ 62 }
-        requires lap { steps.old ≡ lap_begun steps.old }
+        requires lap { AtLapStart steps.old }
         ensures added { IsAdd (items_of self.old.entries) (record { id = id; shape = model.Point x y w }) (items_of self.new.entries) result }
         ensures name { self.new.name ≡ self.old.name }
         ensures adds { self.new.adds ≤ self.old.adds + 1 }
@@ -158,7 +158,7 @@ impl PointLayer {
 
     /// Takes the point with an identifier out, and says what it cost. All memory is taken before anything is changed.
     pub fn remove<L: Ledger>(&mut self, id: u64, steps: &mut Steps<L>) -> Result<Spent, UpdateFault>
-        requires lap { steps.old ≡ lap_begun steps.old }
+        requires lap { AtLapStart steps.old }
         ensures removed { IsRemoval (items_of self.old.entries) id (items_of self.new.entries) result }
         ensures name { self.new.name ≡ self.old.name }
         ensures adds { self.new.adds ≡ self.old.adds }
@@ -191,13 +191,14 @@ impl PointLayer {
         ensures value { IfOk result (λ given. given.answer ≡ Q.value question.now (map (λ e. e.item) self.now.entries)) }
         ensures refused { IsAskRefusal self.now.range Q.refusable result }
         ensures parts { IfOk result (λ given. IfSome self.now.range (λ i. given.parts ≡ parts_of i.main.levels)) }
+        ensures live { IfOk result (λ given. given.live ≡ length self.now.entries) }
         ensures few_parts { IfOk result (λ given. given.parts ≤ part_bound (layer_of self.now)) }
         ensures some_part { IfOk result (λ given. 0 < length self.now.entries → 1 ≤ given.parts) }
         ensures few { length self.now.entries ≤ 2 ^ 16 }
         ensures of { IsOf (λ part. part) stamp_of self.now.range self.now.entries }
         ensures sizes { IfOk result (λ _. IfSome self.now.range (λ i. HaveAtMost (λ part. part) (2 ^ (bounds_at (length self.now.entries)).level) i.main.levels)) }
         ensures spent { IfSome self.now.range (λ i. Spends steps.old steps.new 0 0 (touches_of (bound-7.ask_touches question.now) i.main.levels)) }
-        ensures reads { (steps.new.turns ≡ steps.old.turns) × (steps.new.marks ≡ steps.old.marks) × (steps.new.lap_start ≡ steps.old.lap_start) }
+        ensures reads { IsReading steps.old steps.new }
     {
         let Some(index) = &self.range else {
             return Err(AskFault::NoIndex);

@@ -1,26 +1,57 @@
 -- What contracts see of the ledger of steps, and of a counted row.
-use Rattle.std.specs.Prelude.{◌≡◌, ℕ, ◌+◌, ◌-◌, ◌^◌, ◌≤◌, List, min}
+use Rattle.std.specs.Prelude.{◌≡◌, ℕ, ◌+◌, ◌-◌, ◌^◌, ◌≤◌, List, min, max}
 
--- three whole numbers without limit: units of building work, marks of items as dead, row entries read or written
-pub record Totals : Type 0 where
+-- what stood as the lap began: the three counts, how often a lap was begun (this one too), and the most turns and the most marks
+-- of one earlier lap; the last three are cut at the greatest u64
+pub record LapStart : Type 0 where
   pub turns : ℕ
   pub marks : ℕ
   pub touches : ℕ
+  pub laps : ℕ
+  pub most_turns : ℕ
+  pub most_marks : ℕ
 
--- what was counted so far, and what stood there as the lap began
+-- what was counted so far, whole numbers without limit: units of building work, marks of items as dead, row entries read or
+-- written; and where the lap began
 pub record Counts : Type 0 where
   pub turns : ℕ
   pub marks : ℕ
   pub touches : ℕ
-  pub lap_start : Totals
+  pub lap_start : LapStart
 
--- nothing is counted
+-- nothing is counted, and no lap was begun
 abbrev pub nothing_counted : Counts
-nothing_counted = record { turns = 0; marks = 0; touches = 0; lap_start = record { turns = 0; marks = 0; touches = 0 } }
+nothing_counted = record { turns = 0; marks = 0; touches = 0; lap_start = record { turns = 0; marks = 0; touches = 0; laps = 0; most_turns = 0; most_marks = 0 } }
 
--- the same counts, with a lap that begins at them
+-- how far a count stands above where the lap began, cut at the greatest u64
+abbrev pub lap_of : ℕ → ℕ → ℕ
+lap_of start now = min (now - start) (2 ^ 64 - 1)
+
+-- the most turns, and the most marks, of one lap so far, the running one too
+abbrev pub most_lap_turns : Counts → ℕ
+most_lap_turns steps = max steps.lap_start.most_turns (lap_of steps.lap_start.turns steps.turns)
+
+abbrev pub most_lap_marks : Counts → ℕ
+most_lap_marks steps = max steps.lap_start.most_marks (lap_of steps.lap_start.marks steps.marks)
+
+-- the same counts, with one more lap, which begins at them
 abbrev pub lap_begun : Counts → Counts
-lap_begun steps = record steps { lap_start = record { turns = steps.turns; marks = steps.marks; touches = steps.touches } }
+lap_begun steps = record steps {
+  lap_start = record {
+    turns = steps.turns;
+    marks = steps.marks;
+    touches = steps.touches;
+    laps = min (steps.lap_start.laps + 1) (2 ^ 64 - 1);
+    most_turns = most_lap_turns steps;
+    most_marks = most_lap_marks steps;
+  };
+}
+
+-- nothing was counted in the lap
+pub record AtLapStart (steps : Counts) : Type 0 where
+  pub no_turns : steps.lap_start.turns ≡ steps.turns
+  pub no_marks : steps.lap_start.marks ≡ steps.marks
+  pub no_touches : steps.lap_start.touches ≡ steps.touches
 
 -- one more turn, mark or touch, and nothing else changes
 abbrev pub one_turn : Counts → Counts
@@ -31,10 +62,6 @@ one_mark steps = record steps { marks = steps.marks + 1 }
 
 abbrev pub one_touch : Counts → Counts
 one_touch steps = record steps { touches = steps.touches + 1 }
-
--- how far a count stands above where the lap began, cut at the greatest u64
-abbrev pub lap_of : ℕ → ℕ → ℕ
-lap_of start now = min (now - start) (2 ^ 64 - 1)
 
 -- from the steps `old` to the steps `new`: exactly so many turns and marks, at most so many touches, and the same lap
 pub record Spends (old new : Counts) (turns marks touches : ℕ) : Type 0 where

@@ -5,7 +5,7 @@
 //!
 //! Time, bytes, the copying and freeing of vectors, the work of std's maps, and reads of anything but a `Row` are not.
 ghost use Rattle.std.specs.Prelude.{◌≡◌, ℕ};
-ghost use Rattle.query_laws.specs.StepLedger.{nothing_counted, lap_begun, one_turn, one_mark, one_touch, lap_of};
+ghost use Rattle.query_laws.specs.StepLedger.{nothing_counted, lap_begun, one_turn, one_mark, one_touch, lap_of, most_lap_turns, most_lap_marks};
 
 mod meter;
 mod rows;
@@ -63,16 +63,19 @@ pub fn blank() -> Blank
     Blank::new(SHARES)
 }
 
-/// What was counted so far, and in the lap.
+/// What was counted so far, and in the lap, with how often a lap was begun and the most turns and marks of one of them.
 ///
 /// Contracts see the three counts as whole numbers without limit, and what they were as the lap began. At run time there
-/// are only three u64, one for the lap of each count, which stay at their greatest value.
+/// are only u64, which stay at their greatest value: the lap of each count, and three that change only as a lap begins.
 #[derive(Drop)]
 pub struct Steps<L: Ledger> {
     book: Book<L>,
     turns: Meter<L>,
     marks: Meter<L>,
     touches: Meter<L>,
+    laps: u64,
+    most_turns: u64,
+    most_marks: u64,
 }
 
 impl<L: Ledger> Model for Steps<L> {
@@ -85,7 +88,14 @@ impl<L: Ledger> Model for Steps<L> {
       turns = s.turns.0 + s.turns.1;
       marks = s.marks.0 + s.marks.1;
       touches = s.touches.0 + s.touches.1;
-      lap_start = record { turns = s.turns.0; marks = s.marks.0; touches = s.touches.0 };
+      lap_start = record {
+        turns = s.turns.0;
+        marks = s.marks.0;
+        touches = s.touches.0;
+        laps = s.laps;
+        most_turns = s.most_turns;
+        most_marks = s.most_marks;
+      };
     } };
 }
 
@@ -106,6 +116,9 @@ impl<L: Ledger> Steps<L> {
             turns,
             marks,
             touches,
+            laps: 0,
+            most_turns: 0,
+            most_marks: 0,
         }
     }
 
@@ -138,6 +151,9 @@ impl<L: Ledger> Steps<L> {
     pub fn start_lap(&mut self)
         ensures { self.new ≡ lap_begun self.old }
     {
+        self.laps = self.laps.saturating_add(1);
+        self.most_turns = self.most_lap_turns();
+        self.most_marks = self.most_lap_marks();
         self.turns.start_lap();
         self.marks.start_lap();
         self.touches.start_lap();
@@ -165,5 +181,29 @@ impl<L: Ledger> Steps<L> {
         ensures { result ≡ lap_of self.now.lap_start.touches self.now.touches }
     {
         self.touches.lap()
+    }
+
+    /// How often a lap was begun, or 2^64 - 1 where it was more often.
+    #[inline]
+    pub fn laps(&self) -> u64
+        ensures { result ≡ self.now.lap_start.laps }
+    {
+        self.laps
+    }
+
+    /// The most turns of one lap so far, the running one too, or 2^64 - 1 where there were more.
+    #[inline]
+    pub fn most_lap_turns(&self) -> u64
+        ensures { result ≡ most_lap_turns self.now }
+    {
+        self.most_turns.max(self.turns.lap())
+    }
+
+    /// The most marks of one lap so far, the running one too, or 2^64 - 1 where there were more.
+    #[inline]
+    pub fn most_lap_marks(&self) -> u64
+        ensures { result ≡ most_lap_marks self.now }
+    {
+        self.most_marks.max(self.marks.lap())
     }
 }

@@ -60,6 +60,43 @@ fn counts_rows_and_laps(rt: HostRuntime) -> Result<(), Fail> {
     Ok(())
 }
 
+/// How often a lap was begun and the most turns and marks of one, before any, after laps of 2, 1 and 0 turns and 0, 3 and 1
+/// marks, and in a fourth of 3 turns.
+fn greatest_laps<L: Ledger>(blank: Blank) -> [[u64; 3]; 3]
+    requires name { blank.name ≡ L.name }
+    requires parts { blank.parts ≡ L.parts }
+    requires shares { blank.parts ≡ SHARES }
+{
+    let mut steps = Steps::<L>::new(blank);
+    let before = [steps.laps(), steps.most_lap_turns(), steps.most_lap_marks()];
+    for (turns, marks) in [(2, 0), (1, 3), (0, 1)] {
+        count(turns, marks, &mut steps);
+        steps.start_lap();
+    }
+    let after = [steps.laps(), steps.most_lap_turns(), steps.most_lap_marks()];
+    count(3, 0, &mut steps);
+    let running = [steps.laps(), steps.most_lap_turns(), steps.most_lap_marks()];
+    [before, after, running]
+}
+
+/// Counts so many turns and marks.
+fn count<L: Ledger>(turns: usize, marks: usize, steps: &mut Steps<L>) {
+    for _ in 0..turns {
+        steps.turn();
+    }
+    for _ in 0..marks {
+        steps.mark();
+    }
+}
+
+#[test]
+fn keeps_the_greatest_laps(rt: HostRuntime) {
+    assert_eq!(rt;
+        greatest_laps::<Brand>(blank()),
+        [[0, 0, 0], [3, 2, 3], [3, 3, 3]]
+    );
+}
+
 /// A pile of tags with these keys and weights, stamped in their order.
 fn pile<L: Ledger>(
     alloc: Global,

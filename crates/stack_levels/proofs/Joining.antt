@@ -1,6 +1,7 @@
 -- Questions put to one list of parts after another.
 use Rattle.std.proofs.Common.{◌≡◌, ℕ, ◌+◌, ◌<◌, List, [], ◌++◌, ◌∙◌, length, take, get_or, ap, arith}
 use Rattle.std.proofs.lemmas.Grind.{common_steps}
+use Rattle.std.proofs.lemmas.List.{length-append}
 use Rattle.std.specs.List.{flat_map}
 use Rattle.query_laws.specs.Decomposable.{IsDecomposable}
 use Rattle.query_laws.proofs.Values.{join-values}
@@ -19,24 +20,25 @@ module _ {Q I A : Type 0} {value : Q → List I → A} {join : Q → A → A →
   asked_over asking xs n = record asking {
     so_far = join asking.question asking.so_far (value asking.question xs);
     parts = asking.parts + n;
+    live = asking.live + length xs;
   }
 
   -- no part
   pub asked_over-nothing : (asking : OpenQuestion Q A) → lawful asking.question asking.so_far → asked_over asking [] 0 ≡ asking
   asked_over-nothing asking h =
       let q = asking.question in
-      let sum : asking.parts + 0 ≡ asking.parts = omega arith in
+      let none : (n : ℕ) → n + 0 ≡ n = λ n. omega arith in
       let so_far : join q asking.so_far (value q []) ≡ asking.so_far = ap (join q asking.so_far) (laws q).of_nothing ∙ (laws q).neutral asking.so_far h in
-      ap (λ a. record asking { so_far = a; parts = asking.parts + 0 }) so_far ∙ ap (λ k. record asking { parts = k }) sum
+      λ i. record asking { so_far = so_far i; parts = none asking.parts i; live = none asking.live i }
 
   -- some parts, and then others
   asked_over-both : (asking : OpenQuestion Q A) (xs ys : List I) (m n : ℕ) → lawful asking.question asking.so_far
       → asked_over (asked_over asking xs m) ys n ≡ asked_over asking (xs ++ ys) (m + n)
   asked_over-both asking xs ys m n h =
-      let sum : asking.parts + m + n ≡ asking.parts + (m + n) = omega arith in
+      let parts : asking.parts + m + n ≡ asking.parts + (m + n) = omega arith in
+      let live : asking.live + length xs + length ys ≡ asking.live + length (xs ++ ys) = omega (arith, length-append xs ys) in
       let so_far = join-values (laws asking.question) asking.so_far xs ys h in
-      ap (λ a. record asking { so_far = a; parts = asking.parts + m + n }) so_far
-      ∙ ap (λ k. record asking { so_far = join asking.question asking.so_far (value asking.question (xs ++ ys)); parts = k }) sum
+      λ i. record asking { so_far = so_far i; parts = parts i; live = live i }
 
   pub asked_over-then : (asking mid new : OpenQuestion Q A) (xs ys : List I) (m n : ℕ) {all : List I} {count : ℕ}
       → lawful asking.question asking.so_far → mid ≡ asked_over asking xs m → new ≡ asked_over mid ys n

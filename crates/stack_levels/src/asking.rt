@@ -25,9 +25,10 @@ where
       so_far = Q.join asking.old.question asking.old.so_far
           (Q.value asking.old.question (live_items B.Part.Part.contents levels.now));
       parts = asking.old.parts + parts_of levels.now;
+      live = asking.old.live + length (live_items B.Part.Part.contents levels.now);
     }) }
     ensures given_up { OnErr result (asking.new
-        ≡ record asking.old { so_far = asking.new.so_far; parts = asking.new.parts; is_given_up = true }) }
+        ≡ record asking.old { so_far = asking.new.so_far; parts = asking.new.parts; live = asking.new.live; is_given_up = true }) }
     ensures refused { IsErr result → IsTrue asking.old.refusable }
     ensures lawful { Q.lawful asking.old.question asking.new.so_far }
     ensures cost { Spends steps.old steps.new 0 0 (touches_of (B.Part.ask_touches asking.old.question) levels.now) }

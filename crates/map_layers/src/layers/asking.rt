@@ -7,7 +7,7 @@ ghost use Rattle.map_model.specs.Command.{Ask};
 ghost use Rattle.map_model.specs.Reply.{Answered};
 ghost use Rattle.map_shapes.specs.Rect.{rect_of};
 ghost use Rattle.map_layers.specs.Layers.{map_of, named};
-ghost use Rattle.map_layers.specs.Costs.{IsAskingIn, IsEveryPartIn, rows_of, touches_in_part};
+ghost use Rattle.map_layers.specs.Costs.{IsAskingIn, IsEveryPartIn, IsReading, rows_of, touches_in_part};
 ghost use Rattle.map_layers.specs.Replies.{asked, IsAnswered};
 
 use super::layer_of;
@@ -31,10 +31,10 @@ impl Layers {
             (asked (λ given. Answered (answers.Counted given.0.answer)) result) }
         ensures question { IfOk result (λ given. given.0.question.0 ≡ rect.now) }
         ensures consulted { IfOk result (λ given. given.1.parts ≡ given.0.parts) }
-        ensures every_part { IfOk result (λ given. IsEveryPartIn (named name.now self.now.layers) given.1.parts) }
+        ensures every_part { IfOk result (λ given. IsEveryPartIn (named name.now self.now.layers) given.1.parts given.0.live) }
         ensures cost { IfOk result (λ given. IsAskingIn (layer_named name.now (map_of self.now)) (λ layer. given.1.parts * touches_in_part layer)
             given.1 (lap_begun steps.old) steps.new) }
-        ensures reads { (steps.new.turns ≡ steps.old.turns) × (steps.new.marks ≡ steps.old.marks) }
+        ensures reads { IsReading (lap_begun steps.old) steps.new }
     {
         self.ask(name, &CountIn(*rect), steps)
     }
@@ -50,10 +50,10 @@ impl Layers {
             (asked (λ given. Answered (answers.Summed given.0.answer)) result) }
         ensures question { IfOk result (λ given. given.0.question.0 ≡ rect.now) }
         ensures consulted { IfOk result (λ given. given.1.parts ≡ given.0.parts) }
-        ensures every_part { IfOk result (λ given. IsEveryPartIn (named name.now self.now.layers) given.1.parts) }
+        ensures every_part { IfOk result (λ given. IsEveryPartIn (named name.now self.now.layers) given.1.parts given.0.live) }
         ensures cost { IfOk result (λ given. IsAskingIn (layer_named name.now (map_of self.now)) (λ layer. given.1.parts * touches_in_part layer)
             given.1 (lap_begun steps.old) steps.new) }
-        ensures reads { (steps.new.turns ≡ steps.old.turns) × (steps.new.marks ≡ steps.old.marks) }
+        ensures reads { IsReading (lap_begun steps.old) steps.new }
     {
         self.ask(name, &SumIn(*rect), steps)
     }
@@ -69,10 +69,10 @@ impl Layers {
             (asked (λ given. Answered (answers.Listed given.0.answer)) result) }
         ensures question { IfOk result (λ given. given.0.question.0 ≡ rect.now) }
         ensures consulted { IfOk result (λ given. given.1.parts ≡ given.0.parts) }
-        ensures every_part { IfOk result (λ given. IsEveryPartIn (named name.now self.now.layers) given.1.parts) }
+        ensures every_part { IfOk result (λ given. IsEveryPartIn (named name.now self.now.layers) given.1.parts given.0.live) }
         ensures cost { IfOk result (λ given. IsAskingIn (layer_named name.now (map_of self.now))
             (λ layer. given.1.parts * touches_in_part layer + 8 * rows_of layer * length given.0.answer) given.1 (lap_begun steps.old) steps.new) }
-        ensures reads { (steps.new.turns ≡ steps.old.turns) × (steps.new.marks ≡ steps.old.marks) }
+        ensures reads { IsReading (lap_begun steps.old) steps.new }
     {
         self.ask(name, &ListIn(*rect), steps)
     }
@@ -90,10 +90,10 @@ impl Layers {
             (asked (λ given. Answered (Q.tells given.0.answer)) result) }
         ensures question { IfOk result (λ given. given.0.question ≡ question.now) }
         ensures consulted { IfOk result (λ given. given.1.parts ≡ given.0.parts) }
-        ensures every_part { IfOk result (λ given. IsEveryPartIn (named name.now self.now.layers) given.1.parts) }
+        ensures every_part { IfOk result (λ given. IsEveryPartIn (named name.now self.now.layers) given.1.parts given.0.live) }
         ensures cost { IfOk result (λ given. IsAskingIn (layer_named name.now (map_of self.now)) (λ layer. Q.most_touches layer given.1.parts given.0.answer)
             given.1 (lap_begun steps.old) steps.new) }
-        ensures reads { (steps.new.turns ≡ steps.old.turns) × (steps.new.marks ≡ steps.old.marks) }
+        ensures reads { IsReading (lap_begun steps.old) steps.new }
     {
         steps.start_lap();
         let Some(layer) = layer_of(self.layers.as_slice(), name) else {

@@ -1,6 +1,6 @@
 //! Updates of the layer of a name.
 ghost use Rattle.std.specs.Prelude.{◌≡◌, ◌+◌, ◌<◌, ◌≤◌, ◌^◌, true, false, IfOk, IfSome, length, map};
-ghost use Rattle.query_laws.specs.StepLedger.{lap_begun};
+ghost use Rattle.query_laws.specs.StepLedger.{AtLapStart};
 ghost use Rattle.map_model.specs.State.{layer_named};
 ghost use Rattle.map_model.specs.Shape as model;
 ghost use Rattle.map_model.specs.Command as commands;
@@ -33,7 +33,7 @@ pub(super) fn add_in<L: Ledger>(
     requires w_in_range { w < 2 ^ 31 }
     requires differ { AllDiffer (names_of layers.old.items) }
     requires few { adds_of layers.old.items < 2 ^ 62 }
-    requires lap { steps.old ≡ lap_begun steps.old }
+    requires lap { AtLapStart steps.old }
     ensures answered { IsAnswered (map layer_of layers.old.items) (commands.Add name.now id (model.Point x y w)) (map layer_of layers.new.items) (updated result) }
     ensures differ { AllDiffer (names_of layers.new.items) }
     ensures adds { adds_of layers.new.items ≤ adds_of layers.old.items + 1 }
@@ -54,7 +54,7 @@ pub(super) fn remove_in<L: Ledger>(
     steps: &mut Steps<L>,
 ) -> Result<Spent, UpdateFault>
     requires differ { AllDiffer (names_of layers.old.items) }
-    requires lap { steps.old ≡ lap_begun steps.old }
+    requires lap { AtLapStart steps.old }
     ensures answered { IsAnswered (map layer_of layers.old.items) (commands.Drop name.now id) (map layer_of layers.new.items) (updated result) }
     ensures differ { AllDiffer (names_of layers.new.items) }
     ensures adds { adds_of layers.new.items ≡ adds_of layers.old.items }

@@ -27,9 +27,10 @@ impl<B: Builder> Level<B> {
           so_far = Q.join asking.old.question asking.old.so_far
               (Q.value asking.old.question (live_in B.Part.Part.contents self.now));
           parts = asking.old.parts + length self.now.parts;
+          live = asking.old.live + length (live_in B.Part.Part.contents self.now);
         }) }
         ensures given_up { OnErr result (asking.new
-            ≡ record asking.old { so_far = asking.new.so_far; parts = asking.new.parts; is_given_up = true }) }
+            ≡ record asking.old { so_far = asking.new.so_far; parts = asking.new.parts; live = asking.new.live; is_given_up = true }) }
         ensures refused { IsErr result → IsTrue asking.old.refusable }
         ensures lawful { Q.lawful asking.old.question asking.new.so_far }
         ensures cost { Spends steps.old steps.new 0 0 (sum_by (B.Part.ask_touches asking.old.question) self.now.parts) }

@@ -50,7 +50,8 @@ returns-clause-every_part g c =
     let found : named c.args.name.now c.args.self.now.layers ≡ Some l = search rules in
     let parts : IfSome l.range (λ i. c.consulted.result ≡ parts_of i.main.levels) =
     subst (λ n. IfSome l.range (λ i. n ≡ parts_of i.main.levels)) (sym c.consulted.ensures) c.in_ok-given.ensures.parts in
-    subst (λ o. IsEveryPartIn o c.consulted.result) (sym found) (every_part l.range c.consulted.result c.in_ok-given.ensures.refused parts)
+    subst (λ o. IsEveryPartIn o c.consulted.result c.in_ok-given.given.live) (sym found)
+    (every_part l.range c.consulted.result c.in_ok-given.ensures.refused parts, c.in_ok-given.ensures.live)
 
 pub returns-clause-cost : goal.returns-clause-cost
 returns-clause-cost g c =

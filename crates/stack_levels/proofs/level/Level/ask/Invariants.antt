@@ -1,4 +1,4 @@
-use Rattle.std.proofs.Common.{◌≡◌, ◌+◌, sum_by, take}
+use Rattle.std.proofs.Common.{◌≡◌, ◌+◌, length, sum_by, take}
 use Rattle.std.specs.List.{flat_map}
 use Rattle.query_laws.specs.StepLedger.{Spends}
 use Rattle.partial_build.specs.Construction.{live_of}
@@ -10,6 +10,7 @@ invariant-loop-part g l = record {
     so_far = g.Q.Question.join l.initial.asking.question l.initial.asking.so_far
         (g.Q.Question.value l.initial.asking.question (flat_map (λ p. live_of (g.B.Part.Part.contents p)) (take l.part-index l.self.parts)));
     parts = l.initial.asking.parts + l.part-index;
+    live = l.initial.asking.live + length (flat_map (λ p. live_of (g.B.Part.Part.contents p)) (take l.part-index l.self.parts));
   };
   lawful : g.Q.Question.lawful l.initial.asking.question l.asking.so_far;
   spent : Spends l.initial.steps l.steps 0 0 (sum_by (g.B.Part.Answers.ask_touches l.initial.asking.question) (take l.part-index l.self.parts));
