@@ -5,7 +5,7 @@ use Rattle.stack_levels.specs.Levels.{live_items, parts_of}
 use Rattle.global_rebuild.proofs.index.Index.ask.Goals as goal
 
 pub returns-clause-joined : goal.returns-clause-joined
-returns-clause-joined g c es h =
+returns-clause-joined g c es stamps h =
     let asking = c.args.asking.now in
     let q = asking.question in
     let same = value-Permuted (g.met.Q.Question.decomposable q) h.live in
