@@ -15,12 +15,12 @@ use Rattle.global_rebuild.proofs.Walking.{Permuted-appended, below-appended, sta
 use Rattle.global_rebuild.proofs.Weights.{IsSoundOf, ended_all}
 
 module _ {P Item : Type 0} (contents : P → Contents Item) (stamp : Item → ℕ) (i : Indexed P Item) (front : List (Entry Item)) (e : Entry Item)
-    (h : IsIndexOf contents stamp i front) (v : IsIndex contents stamp i) (p : IsPrepared contents i) (later : i.stamps ≤ stamp e.item) where
+    (h : IsIndexOf contents stamp i front (stamp e.item)) (v : IsIndex contents i) (p : IsPrepared contents i) where
   -- some items are left to walk by, so the cursor is at one of them
   shadow-appended : (r : Shadow P Item) → i.shadow ≡ Some r → IsShadowOf contents stamp r (front ++ e ∷ []) (stamp e.item + 1)
   shadow-appended r is = at r.cursor refl
     where
-      own : IsShadowOf contents stamp r front i.stamps
+      own : IsShadowOf contents stamp r front (stamp e.item)
       own = h.shadow r is
 
       at : (cursor : Option ℕ) → r.cursor ≡ cursor → IsShadowOf contents stamp r (front ++ e ∷ []) (stamp e.item + 1)
@@ -29,7 +29,7 @@ module _ {P Item : Type 0} (contents : P → Contents Item) (stamp : Item → �
           let linked = subst (λ c. IsCursor c front) stands own.cursor in
           let there = item_at-linked handle front linked in
           let kept = others-append handle front e linked in
-          let here = stamp_at-item stamp r.cursor handle there.0 front i.stamps stands there.1 in
+          let here = stamp_at-item stamp r.cursor handle there.0 front (stamp e.item) stands there.1 in
           let now = stamp_at-item stamp r.cursor handle there.0 (front ++ e ∷ []) (stamp e.item + 1) stands (kept.1 ∙ there.1) in
           record {
             cursor = subst (λ c. IsCursor c (front ++ e ∷ [])) (sym stands) kept.0;
@@ -40,12 +40,10 @@ module _ {P Item : Type 0} (contents : P → Contents Item) (stamp : Item → �
   pub appended : (main : Stacked P Item) → Permuted (live_items contents main.levels) (e.item ∷ live_items contents i.main.levels)
       → IsPartOf (all_items contents main.levels) (e.item ∷ all_items contents i.main.levels) → weight_of main.levels ≡ weight_of i.main.levels + 1
       → HandlesDiffer (front ++ e ∷ []) → length (front ++ e ∷ []) < 2 ^ 29
-      → IsSoundOf contents stamp (record { main = main; shadow = i.shadow; retired = i.retired; stamps = stamp e.item + 1 }) (front ++ e ∷ [])
+      → IsSoundOf contents stamp (record { main = main; shadow = i.shadow; retired = i.retired }) (front ++ e ∷ []) (stamp e.item + 1)
   appended main live items weight differ few =
       let more = Permuted-length live in (
         record {
-          below = below-appended stamp (all_items contents main.levels) (all_items contents i.main.levels) e.item i.stamps (stamp e.item + 1) items later
-              (omega arith) v.below;
           quiet = λ none. omega (arith, v.quiet none, more, weight);
           in_time = λ r is.
               let t = v.in_time r is in
@@ -58,8 +56,10 @@ module _ {P Item : Type 0} (contents : P → Contents Item) (stamp : Item → �
         },
         record {
           live = Permuted-appended front e live h.live;
+          below = below-appended stamp (all_items contents main.levels) (all_items contents i.main.levels) e.item (stamp e.item) (stamp e.item + 1) items
+              (omega arith) (omega arith) h.below;
           shadow = shadow-appended;
-          rise = StampsRise-append stamp 0 front i.stamps e later h.rise;
+          rise = StampsRise-append stamp 0 front (stamp e.item) e (omega arith) h.rise;
           differ = differ;
           few = few;
         },

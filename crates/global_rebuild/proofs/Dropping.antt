@@ -37,22 +37,22 @@ module _ {Item : Type 0} (handle : ℕ) (item : Item) (es : List (Entry Item)) (
       (subst (λ l. StampsRise stamp 0 l stamps) (split_at handle item es is) rise)
 
 -- a prepared index of a chain with an item, what is seen of it, and its main stack without the item
-pub record IsDropped {P Item : Type 0} (contents : P → Contents Item) (stamp : Item → ℕ) (i now : Indexed P Item) (es : List (Entry Item)) (handle : ℕ) (item : Item)
-    (main : Stacked P Item) : Type 0 where
+pub record IsDropped {P Item : Type 0} (contents : P → Contents Item) (stamp : Item → ℕ) (i now : Indexed P Item) (es : List (Entry Item)) (stamps handle : ℕ)
+    (item : Item) (main : Stacked P Item) : Type 0 where
   pub view : i ≡ now
-  pub valid : IsIndex contents stamp i
+  pub valid : IsIndex contents i
   pub prepared : IsPrepared contents now
-  pub chain : IsIndexOf contents stamp now es
+  pub chain : IsIndexOf contents stamp now es stamps
   pub linked : is_linked handle es ≡ true
   pub is : item_at handle es ≡ Some item
   pub live : Permuted (live_items contents main.levels) (without stamp (stamp item) (live_items contents i.main.levels))
   pub items : IsPartOf (all_items contents main.levels) (all_items contents i.main.levels)
   pub weight : weight_of main.levels ≡ weight_of i.main.levels
 
-module _ {P Item : Type 0} {contents : P → Contents Item} {stamp : Item → ℕ} {i now : Indexed P Item} {es : List (Entry Item)} {handle : ℕ} {item : Item}
-    {main : Stacked P Item} (f : IsDropped contents stamp i now es handle item main) where
-  h : IsIndexOf contents stamp i es
-  h = subst (λ j. IsIndexOf contents stamp j es) (sym f.view) f.chain
+module _ {P Item : Type 0} {contents : P → Contents Item} {stamp : Item → ℕ} {i now : Indexed P Item} {es : List (Entry Item)} {stamps handle : ℕ} {item : Item}
+    {main : Stacked P Item} (f : IsDropped contents stamp i now es stamps handle item main) where
+  h : IsIndexOf contents stamp i es stamps
+  h = subst (λ j. IsIndexOf contents stamp j es stamps) (sym f.view) f.chain
 
   p : IsPrepared contents i
   p = subst (IsPrepared contents) (sym f.view) f.prepared
@@ -62,7 +62,7 @@ module _ {P Item : Type 0} {contents : P → Contents Item} {stamp : Item → �
 
   others_left : Permuted (live_items contents main.levels) (map item_of others)
   others_left =
-      subst (Permuted (live_items contents main.levels)) (items_without stamp handle 0 item es i.stamps h.rise f.is)
+      subst (Permuted (live_items contents main.levels)) (items_without stamp handle 0 item es stamps h.rise f.is)
       (composed f.live (Permuted-filter (λ x. not (stamp x == stamp item)) h.live))
 
   pub one_dropped : live_in contents main + 1 ≡ live_in contents i.main
@@ -74,20 +74,20 @@ module _ {P Item : Type 0} {contents : P → Contents Item} {stamp : Item → �
 
   -- with the main stack without the item, and this shadow, it is an index of the others
   abbrev IsSoundWith : Option (Shadow P Item) → Type 0
-  IsSoundWith shadow = IsSoundOf contents stamp (record i { main = main; shadow = shadow }) others
+  IsSoundWith shadow = IsSoundOf contents stamp (record i { main = main; shadow = shadow }) others stamps
 
   sound : (shadow : Option (Shadow P Item)) → (shadow ≡ None → IsQuiet contents main)
-      → ((r : Shadow P Item) → shadow ≡ Some r → IsInTime contents 0 main r × IsShadowOf contents stamp r others i.stamps) → IsSoundWith shadow
+      → ((r : Shadow P Item) → shadow ≡ Some r → IsInTime contents 0 main r × IsShadowOf contents stamp r others stamps) → IsSoundWith shadow
   sound shadow quiet some = (
     record {
-      below = All-part (λ x. stamp x < i.stamps) (all_items contents main.levels) (all_items contents i.main.levels) f.items f.valid.below;
       quiet = quiet;
       in_time = λ r there. (some r there).0;
     },
     record {
       live = others_left;
+      below = All-part (λ x. stamp x < stamps) (all_items contents main.levels) (all_items contents i.main.levels) f.items h.below;
       shadow = λ r there. (some r there).1;
-      rise = rise_without handle item es f.is stamp i.stamps h.rise;
+      rise = rise_without handle item es f.is stamp stamps h.rise;
       differ = HandlesDiffer-without handle item es f.is h.differ;
       few = omega (arith, length-without_handle handle es f.linked, h.few);
     },
@@ -97,10 +97,10 @@ module _ {P Item : Type 0} {contents : P → Contents Item} {stamp : Item → �
   pub stays_quiet : i.shadow ≡ None → IsQuiet contents main → IsSoundWith i.shadow
   stays_quiet none quiet = sound i.shadow (λ no. quiet) (λ r there. let wrong : Some r ≡ None = sym there ∙ none in absurd cc)
 
-  goes_on : (r : Shadow P Item) → IsInTime contents 0 main r → IsShadowOf contents stamp r others i.stamps → IsSoundWith (Some r)
+  goes_on : (r : Shadow P Item) → IsInTime contents 0 main r → IsShadowOf contents stamp r others stamps → IsSoundWith (Some r)
   goes_on r t own =
       sound (Some r) (λ no. absurd cc)
-      (λ x there. let one : r ≡ x = cc in subst (λ s. IsInTime contents 0 main s × IsShadowOf contents stamp s others i.stamps) one (t, own))
+      (λ x there. let one : r ≡ x = cc in subst (λ s. IsInTime contents 0 main s × IsShadowOf contents stamp s others stamps) one (t, own))
 
   -- no rebuild runs, and one starts
   pub starts : i.shadow ≡ None → (cursor : Option ℕ) → IsCursor cursor others → before_cursor cursor others ≡ []
@@ -112,11 +112,11 @@ module _ {P Item : Type 0} {contents : P → Contents Item} {stamp : Item → �
       (record {
         cursor = at;
         live = subst (λ l. Permuted [] (map item_of l)) (sym first) nothing;
-        below = All-nil (λ x. stamp x < stamp_at stamp cursor others i.stamps);
+        below = All-nil (λ x. stamp x < stamp_at stamp cursor others stamps);
       })
 
   module _ (r : Shadow P Item) (there : i.shadow ≡ Some r) where
-    own : IsShadowOf contents stamp r es i.stamps
+    own : IsShadowOf contents stamp r es stamps
     own = h.shadow r there
 
     ahead : IsInTime contents 4 i.main r
@@ -130,7 +130,7 @@ module _ {P Item : Type 0} {contents : P → Contents Item} {stamp : Item → �
 
     -- an item that was handed over is live in the shadow
     pub walked_item : is_linked handle (before_cursor r.cursor es) ≡ true → Contains (live_items contents r.stack.levels) item
-    walked_item walked = walked_live contents stamp r es i.stamps handle item h.rise own f.is walked
+    walked_item walked = walked_live contents stamp r es stamps handle item h.rise own f.is walked
 
     -- it is dropped there too
     pub goes_on_without : (r' : Shadow P Item) → r'.cursor ≡ r.cursor → is_linked handle (before_cursor r.cursor es) ≡ true
@@ -138,12 +138,12 @@ module _ {P Item : Type 0} {contents : P → Contents Item} {stamp : Item → �
         → IsPartOf (all_items contents r'.stack.levels) (all_items contents r.stack.levels) → weight_of r'.stack.levels ≡ weight_of r.stack.levels
         → IsSoundWith (Some r')
     goes_on_without r' same walked live items weight =
-        let one = one_fewer contents stamp r es i.stamps handle item h.rise own f.is (live_items contents r'.stack.levels) walked live in
+        let one = one_fewer contents stamp r es stamps handle item h.rise own f.is (live_items contents r'.stack.levels) walked live in
         subst (λ k. IsSoundWith (Some (record { stack = r'.stack; cursor = k }))) (sym same) (goes_on (record r { stack = r'.stack }) (record {
           few = omega (arith, ahead.few, one, one_dropped);
           main_light = omega (arith, ahead.few, ahead.main_light, one, one_dropped, f.weight);
           shadow_light = omega (arith, ahead.few, ahead.shadow_light, one, one_dropped, weight);
-        }) (IsShadowOf-deleted contents stamp r es i.stamps handle item h.rise own f.is r'.stack walked live items))
+        }) (IsShadowOf-deleted contents stamp r es stamps handle item h.rise own f.is r'.stack walked live items))
 
     in_time_at : (cursor : Option ℕ) → IsInTime contents 0 main (record r { cursor = cursor })
     in_time_at cursor =
@@ -158,11 +158,11 @@ module _ {P Item : Type 0} {contents : P → Contents Item} {stamp : Item → �
     pub goes_on_moved : r.cursor ≡ Some handle → IsSoundWith (Some (record r { cursor = first_handle (after handle es) }))
     goes_on_moved at =
         goes_on (record r { cursor = first_handle (after handle es) }) (in_time_at (first_handle (after handle es)))
-        (IsShadowOf-moved contents stamp r es i.stamps handle item h.rise own f.is h.differ at)
+        (IsShadowOf-moved contents stamp r es stamps handle item h.rise own f.is h.differ at)
 
     -- it comes after the cursor
     pub goes_on_after : is_linked handle (before_cursor r.cursor es) ≡ false → r.cursor ≢ Some handle → IsSoundWith (Some r)
-    goes_on_after later other = goes_on r (in_time_at r.cursor) (IsShadowOf-after contents stamp r es i.stamps handle item h.rise own f.is later other)
+    goes_on_after later other = goes_on r (in_time_at r.cursor) (IsShadowOf-after contents stamp r es stamps handle item h.rise own f.is later other)
 
     -- as many are left after it is dropped, or one fewer
     module _ (old : Shadow P Item) (was : now.shadow ≡ Some old) where
@@ -174,7 +174,7 @@ module _ {P Item : Type 0} {contents : P → Contents Item} {stamp : Item → �
           → Some (live_in contents main - live_in contents stack)
           ≡ option_map (λ w. if is_linked handle (before_cursor old.cursor es) then w else w - 1) (unwalked contents now)
       left_without stack walked live =
-          let one = one_fewer contents stamp r es i.stamps handle item h.rise own f.is (live_items contents stack.levels) walked live in
+          let one = one_fewer contents stamp r es stamps handle item h.rise own f.is (live_items contents stack.levels) walked live in
           rw (was, ← same, walked) (ap Some (omega (arith, one, one_dropped, ap (λ j. live_in contents j.main) f.view)))
 
       pub left_after : is_linked handle (before_cursor r.cursor es) ≡ false

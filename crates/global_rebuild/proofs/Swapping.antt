@@ -42,8 +42,8 @@ pub record IsMade {P Item : Type 0} (contents : P → Contents Item) (old new : 
   pub ahead : (r : Shadow P Item) → new.shadow ≡ Some r → IsInTime contents 4 new.main r × (1 ≤ live_in contents new.main - live_in contents r.stack)
 
 -- the walk makes `i` of the index, the swap puts three fields in it, and then a retired part is given up and memory is taken
-module _ {P Item : Type 0} {contents : P → Contents Item} {stamp : Item → ℕ} {i : Indexed P Item} {es : List (Entry Item)} {main : Stacked P Item}
-    {shadow : Option (Shadow P Item)} {retired : Option ℕ} (old new : Indexed P Item) (h : IsIndexOf contents stamp i es) (s : IsSwapped i main shadow retired)
+module _ {P Item : Type 0} {contents : P → Contents Item} {stamp : Item → ℕ} {i : Indexed P Item} {es : List (Entry Item)} {stamps : ℕ}
+    {main : Stacked P Item} {shadow : Option (Shadow P Item)} {retired : Option ℕ} (old new : Indexed P Item) (h : IsIndexOf contents stamp i es stamps) (s : IsSwapped i main shadow retired)
     (main_is : i.main ≡ old.main) (retired_is : i.retired ≡ old.retired) (runs : is_some i.shadow ≡ is_some old.shadow)
     (taken : (x r : Shadow P Item) → old.shadow ≡ Some x → i.shadow ≡ Some r → (r.cursor ≡ None) ⊎ (live_in contents r.stack ≡ live_in contents x.stack + 4))
     (at_most : (x r : Shadow P Item) → old.shadow ≡ Some x → i.shadow ≡ Some r → live_in contents r.stack ≤ live_in contents x.stack + 4)

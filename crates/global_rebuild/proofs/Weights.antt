@@ -24,40 +24,40 @@ module _ {Item : Type 0} where
   few_before None es linked = inl (refl, refl)
   few_before (Some handle) es linked = inr ((λ none. absurd cc), length-before handle es linked)
 
-module _ {P Item : Type 0} (contents : P → Contents Item) (stamp : Item → ℕ) where
-  -- the index is in order, and that of the items of a chain
-  abbrev pub IsSoundOf : Indexed P Item → List (Entry Item) → Type 0
-  IsSoundOf i es = IsIndex contents stamp i × IsIndexOf contents stamp i es
-
-  pub IsIndex-empty : IsIndex contents stamp (record { main = record { levels = []; spare = 0; starters = 0 }; shadow = None; retired = None; stamps = 0 })
+module _ {P Item : Type 0} (contents : P → Contents Item) where
+  pub IsIndex-empty : IsIndex contents (record { main = record { levels = []; spare = 0; starters = 0 }; shadow = None; retired = None })
   IsIndex-empty = record {
-    below = All-nil (λ x. stamp x < 0);
     quiet = λ none. omega arith;
     in_time = λ r is. absurd cc;
   }
 
-  pub IsIndexOf-empty : IsIndexOf contents stamp (record { main = record { levels = []; spare = 0; starters = 0 }; shadow = None; retired = None; stamps = 0 }) []
+  -- only the shadow is another
+  pub IsIndex-shadow : (i : Indexed P Item) (r : Shadow P Item) → IsIndex contents i → IsInTime contents 0 i.main r → IsIndex contents (record i { shadow = Some r })
+  IsIndex-shadow i r v t = record {
+    quiet = λ none. absurd cc;
+    in_time = λ r' is. let one : r ≡ r' = cc in subst (IsInTime contents 0 i.main) one t;
+  }
+
+module _ {P Item : Type 0} (contents : P → Contents Item) (stamp : Item → ℕ) where
+  -- the index is in order, and that of the items of a chain
+  abbrev pub IsSoundOf : Indexed P Item → List (Entry Item) → ℕ → Type 0
+  IsSoundOf i es stamps = IsIndex contents i × IsIndexOf contents stamp i es stamps
+
+  pub IsIndexOf-empty : IsIndexOf contents stamp (record { main = record { levels = []; spare = 0; starters = 0 }; shadow = None; retired = None }) [] 0
   IsIndexOf-empty = record {
     live = nothing;
+    below = All-nil (λ x. stamp x < 0);
     shadow = λ r is. absurd cc;
     rise = omega arith;
     differ = tt;
     few = omega arith;
   }
 
-  -- only the shadow is another
-  pub IsIndex-shadow : (i : Indexed P Item) (r : Shadow P Item) → IsIndex contents stamp i → IsInTime contents 0 i.main r → IsIndex contents stamp (record i { shadow = Some r })
-  IsIndex-shadow i r v t = record {
-    below = v.below;
-    quiet = λ none. absurd cc;
-    in_time = λ r' is. let one : r ≡ r' = cc in subst (IsInTime contents 0 i.main) one t;
-  }
-
-  module _ (i : Indexed P Item) (es : List (Entry Item)) (h : IsIndexOf contents stamp i es) where
+  module _ (i : Indexed P Item) (es : List (Entry Item)) {stamps : ℕ} (h : IsIndexOf contents stamp i es stamps) where
     pub as_many : live_in contents i.main ≡ length es
     as_many = Permuted-length h.live ∙ length-map es (λ e. e.item)
 
-    module _ (r : Shadow P Item) (own : IsShadowOf contents stamp r es i.stamps) where
+    module _ (r : Shadow P Item) (own : IsShadowOf contents stamp r es stamps) where
       as_walked : live_in contents r.stack ≡ length (before_cursor r.cursor es)
       as_walked = Permuted-length own.live ∙ length-map (before_cursor r.cursor es) item_of
 
@@ -104,7 +104,7 @@ module _ {P Item : Type 0} {contents : P → Contents Item} {main : Stacked P It
       shadow_light = omega (arith, t.shadow_light, all, left, dead);
     }
 
-module _ {P Item : Type 0} {contents : P → Contents Item} {stamp : Item → ℕ} {i now : Indexed P Item} (view : i ≡ now) (v : IsIndex contents stamp i) where
+module _ {P Item : Type 0} {contents : P → Contents Item} {i now : Indexed P Item} (view : i ≡ now) (v : IsIndex contents i) where
   -- the main stack weighs at most twice its live items, and nine
   pub main_within : weight_of i.main.levels ≤ 2 * live_in contents now.main + 9
   main_within = cases i.shadow refl
@@ -116,5 +116,5 @@ module _ {P Item : Type 0} {contents : P → Contents Item} {stamp : Item → �
   pub main_few : (g : ℕ) → 2 * live_in contents now.main + 10 < 2 ^ (g + 1) → weight_of i.main.levels + 1 < 2 ^ (g + 1)
   main_few g light = omega (arith, main_within, light)
 
-  pub main_light : {es : List (Entry Item)} → IsIndexOf contents stamp now es → weight_of i.main.levels < 2 ^ 31
-  main_light {es} h = omega (arith, main_within, as_many contents stamp now es h, h.few)
+  pub main_light : {stamp : Item → ℕ} {es : List (Entry Item)} {stamps : ℕ} → IsIndexOf contents stamp now es stamps → weight_of i.main.levels < 2 ^ 31
+  main_light {stamp} {es} h = omega (arith, main_within, as_many contents stamp now es h, h.few)

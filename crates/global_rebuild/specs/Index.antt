@@ -14,13 +14,11 @@ pub record Shadow (P Item : Type 0) : Type 0 where
   pub stack : Stacked P Item
   pub cursor : Option ℕ
 
--- the stack that answers; the shadow, while a rebuild runs; how many parts of a retired stack are still in memory; and a number above
--- every stamp that was ever given
+-- the stack that answers; the shadow, while a rebuild runs; and how many parts of a retired stack are still in memory
 pub record Indexed (P Item : Type 0) : Type 0 where
   pub main : Stacked P Item
   pub shadow : Option (Shadow P Item)
   pub retired : Option ℕ
-  pub stamps : ℕ
 
 -- how many items are left after a walk by four, which ends the rebuild where none is
 abbrev pub walked_on : Option ℕ → Option ℕ
@@ -100,6 +98,11 @@ module _ {P Item : Type 0} (contents : P → Contents Item) where
     pub shadow : (r : Shadow P Item) → i.shadow ≡ Some r
         → (1 ≤ r.stack.spare) × IsInTime 4 i.main r × (1 ≤ live_in i.main - live_in r.stack)
 
+  -- What holds of an index between any two calls.
+  pub record IsIndex (i : Indexed P Item) : Type 0 where
+    pub quiet : i.shadow ≡ None → IsQuiet i.main
+    pub in_time : (r : Shadow P Item) → i.shadow ≡ Some r → IsInTime 0 i.main r
+
   module _ (stamp : Item → ℕ) where
     -- a shadow has the items of a chain before the cursor; those that are dead in it were before the cursor too
     pub record IsShadowOf (r : Shadow P Item) (es : List (Entry Item)) (stamps : ℕ) : Type 0 where
@@ -107,16 +110,11 @@ module _ {P Item : Type 0} (contents : P → Contents Item) where
       pub live : Permuted (live_items contents r.stack.levels) (map (λ e. e.item) (before_cursor r.cursor es))
       pub below : All (λ x. stamp x < stamp_at stamp r.cursor es stamps) (all_items contents r.stack.levels)
 
-    -- the index is that of the items of a chain
-    pub record IsIndexOf (i : Indexed P Item) (es : List (Entry Item)) : Type 0 where
+    -- the index is that of the items of a chain, and the stamps of all its items, dead ones included, are below a number
+    pub record IsIndexOf (i : Indexed P Item) (es : List (Entry Item)) (stamps : ℕ) : Type 0 where
       pub live : Permuted (live_items contents i.main.levels) (map (λ e. e.item) es)
-      pub shadow : (r : Shadow P Item) → i.shadow ≡ Some r → IsShadowOf r es i.stamps
-      pub rise : StampsRise stamp 0 es i.stamps
+      pub below : All (λ x. stamp x < stamps) (all_items contents i.main.levels)
+      pub shadow : (r : Shadow P Item) → i.shadow ≡ Some r → IsShadowOf r es stamps
+      pub rise : StampsRise stamp 0 es stamps
       pub differ : HandlesDiffer es
       pub few : length es < 2 ^ 29
-
-    -- What holds of an index between any two calls.
-    pub record IsIndex (i : Indexed P Item) : Type 0 where
-      pub below : All (λ x. stamp x < i.stamps) (all_items contents i.main.levels)
-      pub quiet : i.shadow ≡ None → IsQuiet i.main
-      pub in_time : (r : Shadow P Item) → i.shadow ≡ Some r → IsInTime 0 i.main r

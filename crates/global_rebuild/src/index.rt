@@ -6,7 +6,7 @@ ghost use Rattle.id_chain.specs.Chain.{Entry, HandlesDiffer, is_linked, item_at,
 ghost use Rattle.stack_levels.specs.Levels.{live_items, all_items, weight_of, parts_of, touches_of};
 ghost use Rattle.level_slots.specs.Stack.{memory_of};
 ghost use Rattle.level_slots.specs.Rooms.{rooms_of};
-ghost use Rattle.level_slots.specs.Height.{HaveAtMost};
+ghost use Rattle.level_slots.specs.Height.{HaveAtMost, size_of};
 ghost use Rattle.stack_levels.specs.Cost.{IsWithin, quotas};
 ghost use Rattle.global_rebuild.specs.Index.{Shadow as Walked, live_in, unwalked, walked_on, shadow_weight, main_weight_on, shadow_weight_on, shadow_rooms, retired_parts, retired_parts_on, is_heavy, IsForecast, IsKept, IsInTime, IsIndex, IsIndexOf, IsPrepared};
 
@@ -34,7 +34,6 @@ pub struct Index<B: Builder> {
     main: Stack<B>,
     shadow: Option<Shadow<B>>,
     retired: Option<Retired<B>>,
-    stamps: u64,
 }
 
 impl<B: Builder> Model for Index<B> {
@@ -42,23 +41,22 @@ impl<B: Builder> Model for Index<B> {
 
     ghost Value = { Indexed B.Part B.Item };
 
-    ghost view = { λ i. record { main = i.main; shadow = i.shadow; retired = i.retired; stamps = i.stamps } };
+    ghost view = { λ i. record { main = i.main; shadow = i.shadow; retired = i.retired } };
 
-    ghost invariant = { λ i. IsIndex B.Part.Part.contents B.Item.stamp (record { main = i.main; shadow = i.shadow; retired = i.retired; stamps = i.stamps }) };
+    ghost invariant = { λ i. IsIndex B.Part.Part.contents (record { main = i.main; shadow = i.shadow; retired = i.retired }) };
 }
 
 impl<B: Builder> Index<B> {
     /// An index of no items. It takes no memory; [`Index::prepare`] takes its from `alloc`.
     pub fn new(alloc: Global) -> Index<B>
-        ensures empty { result ≡ record { main = record { levels = []; spare = 0; starters = 0 }; shadow = None; retired = None; stamps = 0 } }
-        ensures chain { IsIndexOf B.Part.Part.contents B.Item.stamp result [] }
+        ensures empty { result ≡ record { main = record { levels = []; spare = 0; starters = 0 }; shadow = None; retired = None } }
+        ensures chain { IsIndexOf B.Part.Part.contents B.Item.stamp result [] 0 }
     {
         Index {
             alloc,
             main: Stack::new(alloc),
             shadow: None,
             retired: None,
-            stamps: 0,
         }
     }
 
@@ -72,9 +70,9 @@ impl<B: Builder> Index<B> {
         chain: &Chain<B::Item>,
         steps: &mut Steps<L>,
     ) -> Result<(), NoMemory>
-        requires chain { IsIndexOf B.Part.Part.contents B.Item.stamp self.old chain.now.entries }
-        ensures chain { IsIndexOf B.Part.Part.contents B.Item.stamp self.new chain.now.entries }
-        ensures stamps { self.new.stamps ≡ self.old.stamps }
+        requires chain { (stamps : ℕ) × IsIndexOf B.Part.Part.contents B.Item.stamp self.old chain.now.entries stamps }
+        ensures chain { (stamps : ℕ) → IsIndexOf B.Part.Part.contents B.Item.stamp self.old chain.now.entries stamps
+            → IsIndexOf B.Part.Part.contents B.Item.stamp self.new chain.now.entries stamps }
         ensures prepared { IfOk result (λ _. IsPrepared B.Part.Part.contents self.new) }
         ensures rooms { IfOk result (λ _. IsForecast self.new.main) }
         ensures shadow_rooms { IfOk result (λ _. (r : Walked B.Part B.Item) → self.new.shadow ≡ Some r → IsForecast r.stack) }
@@ -103,11 +101,11 @@ impl<B: Builder> Index<B> {
     )
         requires prepared { IsPrepared B.Part.Part.contents self.old }
         requires last { (front : List (Entry B.Item)) × (item : B.Item) × (chain.now.entries ≡ front ++ record { handle = handle; item = item } ∷ [])
-            × IsIndexOf B.Part.Part.contents B.Item.stamp self.old front × (self.old.stamps ≤ B.Item.stamp item) × (B.Item.stamp item < 2 ^ 63) }
+            × IsIndexOf B.Part.Part.contents B.Item.stamp self.old front (B.Item.stamp item) }
         requires differ { HandlesDiffer chain.now.entries }
         requires few { length chain.now.entries < 2 ^ 29 }
-        ensures chain { IsIndexOf B.Part.Part.contents B.Item.stamp self.new chain.now.entries }
-        ensures stamps { (item : B.Item) → item_at handle chain.now.entries ≡ Some item → self.new.stamps ≡ B.Item.stamp item + 1 }
+        ensures chain { (item : B.Item) → item_at handle chain.now.entries ≡ Some item
+            → IsIndexOf B.Part.Part.contents B.Item.stamp self.new chain.now.entries (B.Item.stamp item + 1) }
         ensures weight { weight_of self.new.main.levels ≡ weight_of self.old.main.levels + 1 }
         ensures rebuild { (self.new.shadow ≡ self.old.shadow) × (self.new.retired ≡ self.old.retired) }
         ensures some_turns { steps.old.turns + 3 ≤ steps.new.turns }
@@ -116,7 +114,6 @@ impl<B: Builder> Index<B> {
     {
         let item = chain.item(handle);
         self.main.insert(item, steps);
-        self.stamps = item.stamp() + 1;
     }
 
     /// Lets go of a linked item, which the caller unlinks next: a delete from the main stack, and one from the shadow where it was handed
@@ -128,10 +125,10 @@ impl<B: Builder> Index<B> {
         steps: &mut Steps<L>,
     )
         requires prepared { IsPrepared B.Part.Part.contents self.old }
-        requires chain { IsIndexOf B.Part.Part.contents B.Item.stamp self.old chain.now.entries }
+        requires chain { (stamps : ℕ) × IsIndexOf B.Part.Part.contents B.Item.stamp self.old chain.now.entries stamps }
         requires linked { IsTrue (is_linked handle chain.now.entries) }
-        ensures chain { IsIndexOf B.Part.Part.contents B.Item.stamp self.new (without_handle handle chain.now.entries) }
-        ensures stamps { self.new.stamps ≡ self.old.stamps }
+        ensures chain { (stamps : ℕ) → IsIndexOf B.Part.Part.contents B.Item.stamp self.old chain.now.entries stamps
+            → IsIndexOf B.Part.Part.contents B.Item.stamp self.new (without_handle handle chain.now.entries) stamps }
         ensures weight { weight_of self.new.main.levels ≡ weight_of self.old.main.levels }
         ensures shadow_weight { shadow_weight self.new ≡ shadow_weight self.old }
         ensures retired { self.new.retired ≡ self.old.retired }
@@ -173,7 +170,7 @@ impl<B: Builder> Index<B> {
         B::Part: Answers<Q>,
         requires going { asking.old.is_given_up ≡ false }
         requires room { asking.old.parts + parts_of self.now.main.levels < 2 ^ 32 }
-        ensures joined { (es : List (Entry B.Item)) → IsIndexOf B.Part.Part.contents B.Item.stamp self.now es
+        ensures joined { (es : List (Entry B.Item)) (stamps : ℕ) → IsIndexOf B.Part.Part.contents B.Item.stamp self.now es stamps
             → IfOk result (λ _. asking.new ≡ record asking.old {
               so_far = Q.join asking.old.question asking.old.so_far (Q.value asking.old.question (map (λ e. e.item) es));
               parts = asking.old.parts + parts_of self.now.main.levels;
@@ -192,7 +189,7 @@ impl<B: Builder> Index<B> {
         ensures value { result ≡ unwalked B.Part.Part.contents self.now }
 
         // Little is dead, or a rebuild is in time.
-        ensures holds { IsIndex B.Part.Part.contents B.Item.stamp self.now }
+        ensures holds { IsIndex B.Part.Part.contents self.now }
     {
         let shadow = self.shadow.as_ref()?;
         Some(self.main.live() - shadow.live())
@@ -205,17 +202,11 @@ impl<B: Builder> Index<B> {
         self.main.live()
     }
 
-    /// A number above every stamp that was ever given.
-    pub fn stamps(&self) -> u64
-        ensures { result ≡ self.now.stamps }
-    {
-        self.stamps
-    }
-
     /// The weight of the main stack: how many items were inserted since it was made.
     pub fn weight(&self) -> u64
         ensures value { result ≡ weight_of self.now.main.levels }
         ensures light { result ≤ 2 * live_in B.Part.Part.contents self.now.main + 9 }
+        ensures items { size_of B.Part.Part.contents self.now.main.levels ≤ result }
     {
         self.main.weight()
     }
@@ -272,10 +263,10 @@ impl<B: Builder> Index<B> {
         steps: &mut Steps<L>,
     ) -> Result<(), NoMemory>
         requires few { most ≤ 4 }
-        requires chain { IsIndexOf B.Part.Part.contents B.Item.stamp self.old chain.now.entries }
-        ensures chain { IsIndexOf B.Part.Part.contents B.Item.stamp self.new chain.now.entries }
-        ensures same { (self.new.main ≡ self.old.main) × (self.new.stamps ≡ self.old.stamps) × (self.new.retired ≡ self.old.retired)
-            × (is_some self.new.shadow ≡ is_some self.old.shadow) }
+        requires chain { (stamps : ℕ) × IsIndexOf B.Part.Part.contents B.Item.stamp self.old chain.now.entries stamps }
+        ensures chain { (stamps : ℕ) → IsIndexOf B.Part.Part.contents B.Item.stamp self.old chain.now.entries stamps
+            → IsIndexOf B.Part.Part.contents B.Item.stamp self.new chain.now.entries stamps }
+        ensures same { (self.new.main ≡ self.old.main) × (self.new.retired ≡ self.old.retired) × (is_some self.new.shadow ≡ is_some self.old.shadow) }
         ensures taken { IfOk result (λ _. (r r' : Walked B.Part B.Item) → self.old.shadow ≡ Some r → self.new.shadow ≡ Some r'
             → (r'.cursor ≡ None) ⊎ (live_in B.Part.Part.contents r'.stack ≡ live_in B.Part.Part.contents r.stack + most)) }
         ensures at_most { (r r' : Walked B.Part B.Item) → self.old.shadow ≡ Some r → self.new.shadow ≡ Some r'

@@ -443,6 +443,7 @@ module _ {P Item : Type 0} (contents : P → Contents Item) where
           punctual = k.punctual h.punctual;
           apart = subst (AllStampsDiffer stamp) (sym k.items) h.apart;
           light = omega (arith, h.light, k.weight);
+          small = omega (arith, h.small, k.weight, ap length k.items);
           few = k.few h.few;
           starters_few = few;
           spare_few = enough;

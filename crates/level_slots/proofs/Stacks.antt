@@ -1,11 +1,16 @@
 -- A stack after a tick.
-use Rattle.std.proofs.Common.{◌≡◌, ℕ, ◌+◌, ◌*◌, ◌^◌, ◌≤◌, [], Bool, length, All, sym, subst, arith}
+use Rattle.std.proofs.Common.{◌≡◌, ℕ, ◌+◌, ◌*◌, ◌^◌, ◌≤◌, List, [], ◌∷◌, Bool, length, All, refl, sym, subst, arith}
+use Rattle.std.proofs.lemmas.List.{length-append}
+use Rattle.std.proofs.lemmas.List.Concat.{length-flat_map}
 use Rattle.std.proofs.lemmas.List.Elements.{All-nil}
 use Rattle.query_laws.specs.Orders.{AllStampsDiffer}
 use Rattle.query_laws.specs.StepLedger.{Counts}
+use Rattle.query_laws.proofs.Permutations.{Permuted-length}
 use Rattle.builder_trait.specs.Parts.{Contents}
 use Rattle.partial_build.specs.Quota.{quota}
+use Rattle.stack_levels.specs.Slots.{Slots, IsPartOf, items_in}
 use Rattle.stack_levels.specs.Levels.{weight_of, all_items, lowest_held}
+use Rattle.level_slots.specs.Height.{size_of}
 use Rattle.level_slots.specs.Stack.{Stacked, IsStack}
 use Rattle.stack_levels.specs.Cost.{IsWithin, quotas}
 use Rattle.stack_levels.specs.Neighbours.{IsPunctual}
@@ -19,6 +24,7 @@ module _ {P Item : Type 0} {contents : P → Contents Item} {stamp : Item → �
     punctual = All-nil (IsPunctual slope base);
     apart = λ i j d below within. absurd (omega (arith, within));
     light = omega arith;
+    small = omega arith;
     few = omega arith;
     starters_few = omega arith;
     spare_few = omega arith;
@@ -32,12 +38,14 @@ module _ {P Item : Type 0} {contents : P → Contents Item} {stamp : Item → �
       → All (IsPunctual slope base) s'.levels → AllStampsDiffer stamp (all_items contents s'.levels)
       → weight_of s.levels ≤ weight_of s'.levels → weight_of s'.levels ≤ 2 ^ 31 → length s'.levels ≡ length s.levels
       → s'.spare + 1 ≡ s.spare → s'.starters ≤ 2 → s'.spare ≤ s'.starters → lowest_held s'.levels + s'.starters ≤ 5
+      → length (all_items contents s'.levels) ≤ weight_of s'.levels
       → (HaveRoomsAbove IsDueSoon s.levels → HaveRoomsAbove IsDue s'.levels) → IsStack contents stamp before slope base s'
-  IsStack-ticked h levels punctual apart heavier light as_many fewer few spare lowest rooms = record {
+  IsStack-ticked h levels punctual apart heavier light as_many fewer few spare lowest small rooms = record {
     levels = levels;
     punctual = punctual;
     apart = apart;
     light = light;
+    small = small;
     few = omega (arith, as_many, h.few);
     starters_few = few;
     spare_few = spare;
@@ -46,6 +54,16 @@ module _ {P Item : Type 0} {contents : P → Contents Item} {stamp : Item → �
     rooms = λ one still. rooms (h.rooms_ahead (omega (arith, one, fewer)) (omega (arith, heavier, still)));
     rooms_ahead = λ two still. absurd (omega (arith, two, fewer, h.spare_few, h.starters_few));
   }
+
+-- what is part of a list has no more items
+pub IsPartOf-length : {Item : Type 0} (xs ys : List Item) → IsPartOf xs ys → length xs ≤ length ys
+IsPartOf-length xs ys part = omega (arith, Permuted-length part.1, length-append xs part.0)
+
+-- the items of all complete parts
+pub size-all : {P Item : Type 0} (contents : P → Contents Item) (levels : List (Slots P Item)) → size_of contents levels ≡ length (all_items contents levels)
+size-all contents [] = refl
+size-all contents (l ∷ above) =
+    omega (arith, size-all contents above, length-append (all_items contents above) (items_in contents l), length-flat_map (λ p. (contents p).items) l.parts)
 
 -- a part of level 0 is made, and then the levels above are visited
 pub IsWithin-first : (slope base g : ℕ) {touches : ℕ} {old mid new : Counts} → IsWithin (quota slope base 0) 0 touches old mid

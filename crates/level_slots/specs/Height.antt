@@ -2,11 +2,16 @@
 use Rattle.std.specs.Prelude.{◌≡◌, ℕ, ◌+◌, ◌≤◌, List, Some, All, length, drop, slice_get}
 use Rattle.builder_trait.specs.Parts.{Contents}
 use Rattle.stack_levels.specs.Slots.{Slots, IsIdle}
+use Rattle.stack_levels.specs.Levels.{touches_of}
 
 module _ {P Item : Type 0} where
   -- no complete part has more than so many items, dead ones included
   abbrev pub HaveAtMost : (P → Contents Item) → ℕ → List (Slots P Item) → Type 0
   HaveAtMost contents n levels = All (λ l. All (λ p. length (contents p).items ≤ n) l.parts) levels
+
+  -- how many items all complete parts have together, dead ones included
+  abbrev pub size_of : (P → Contents Item) → List (Slots P Item) → ℕ
+  size_of contents levels = touches_of (λ p. length (contents p).items) levels
 
   -- the levels from a height on are idle, and the one right below it, if there is one, isn't
   pub record IsHeight (levels : List (Slots P Item)) (height : ℕ) : Type 0 where

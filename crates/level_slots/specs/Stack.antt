@@ -28,6 +28,7 @@ module _ {P Item : Type 0} where
       pub punctual : All (IsPunctual slope base) s.levels
       pub apart : AllStampsDiffer stamp (all_items contents s.levels)
       pub light : weight_of s.levels ≤ 2 ^ 31
+      pub small : length (all_items contents s.levels) ≤ weight_of s.levels
       pub few : length s.levels ≤ 32
       pub starters_few : s.starters ≤ 2
       pub spare_few : s.spare ≤ s.starters

@@ -9,7 +9,7 @@ ghost use Rattle.partial_build.specs.Quota.{quota};
 ghost use Rattle.stack_levels.specs.Slots.{IsPartOf, held_in};
 ghost use Rattle.stack_levels.specs.Levels.{live_items, all_items, weight_of, parts_of, asked, touches_of};
 ghost use Rattle.level_slots.specs.Stack.{Stacked, held_by_level, memory_of};
-ghost use Rattle.level_slots.specs.Height.{IsHeight, HaveAtMost};
+ghost use Rattle.level_slots.specs.Height.{IsHeight, HaveAtMost, size_of};
 ghost use Rattle.stack_levels.specs.Level.{IsOfLevel};
 ghost use Rattle.stack_levels.specs.Cost.{IsWithin, quotas};
 ghost use Rattle.level_slots.specs.Rooms.{rooms_of, kept_in, forecast_of};
@@ -136,7 +136,8 @@ impl<B: Builder> Stack<B> {
 
     /// The number of inserts since the stack was made: the sum of `2^i` over the complete parts of each level i.
     pub fn weight(&self) -> u64
-        ensures { result ≡ weight_of self.now.levels }
+        ensures value { result ≡ weight_of self.now.levels }
+        ensures items { size_of B.Part.Part.contents self.now.levels ≤ result }
     {
         self.weight
     }

@@ -71,7 +71,7 @@ module _ (lists : Point → Bool) where
       omega (arith, listed_levels above, listed_level l.parts, filter-append (live_items (λ part. part) above) (live_in (λ part. part) l))
 
   -- the points that are listed are those of the chain
-  listed-in_all : (stamp : Point → ℕ) (i : Indexed (Contents Point) Point) (es : List (Entry Point)) → IsIndexOf (λ part. part) stamp i es
+  listed-in_all : (stamp : Point → ℕ) (i : Indexed (Contents Point) Point) (es : List (Entry Point)) {stamps : ℕ} → IsIndexOf (λ part. part) stamp i es stamps
       → touches_of listed_in i.main.levels ≡ length (filter lists (map (λ e. e.item) es))
   listed-in_all stamp i es h = listed_levels i.main.levels ∙ Permuted-length (Permuted-filter lists h.live)
 
@@ -125,7 +125,7 @@ module _ (l : Layered) (few : length l.entries ≤ 2 ^ 16) (lists : Point → Bo
   bound = asked.parts * touches_in_part (layer_of l) + 8 * rows_of (layer_of l) * length (filter lists points)
 
   -- where the layer has an index, which is asked
-  pub IsAsking-index : (index : Option (Indexed (Contents Point) Point)) → is_some index ≡ true → IsOf (λ part. part) stamp_of index l.entries
+  pub IsAsking-index : (index : Option (Indexed (Contents Point) Point)) → is_some index ≡ true → IsOf (λ part. part) stamp_of index l.entries l.adds
       → IfSome index (λ i. asked.parts ≡ parts_of i.main.levels) → IfSome index (λ i. HaveAtMost (λ part. part) (2 ^ (bounds_at (length l.entries)).level) i.main.levels)
       → IfSome index (λ i. Spends old new 0 0 (touches_of touches i.main.levels)) → (most : ℕ) → bound ≤ most → IsAsking (layer_of l) most asked old new
   IsAsking-index None there of parts sizes spent most within = absurd cc

@@ -1,5 +1,5 @@
 -- An index that may be there, over the chain of a layer's items.
-use Rattle.std.specs.Prelude.{ℕ, ◌≤◌, List, Option, IfSome, if◌then◌else◌}
+use Rattle.std.specs.Prelude.{ℕ, List, Option, IfSome, if◌then◌else◌}
 use Rattle.std.specs.Option.{is_some}
 use Rattle.builder_trait.specs.Parts.{Contents}
 use Rattle.id_chain.specs.Chain.{Entry}
@@ -11,14 +11,10 @@ module _ {P Item : Type 0} where
   if_there index n = if is_some index then n else 0
 
   module _ (contents : P → Contents Item) where
-    -- where it is there, it is that of the entries
-    abbrev pub IsOf : (Item → ℕ) → Option (Indexed P Item) → List (Entry Item) → Type 0
-    IsOf stamp index es = IfSome index (λ i. IsIndexOf contents stamp i es)
+    -- where it is there, it is that of the entries, and every stamp in it is below a number
+    abbrev pub IsOf : (Item → ℕ) → Option (Indexed P Item) → List (Entry Item) → ℕ → Type 0
+    IsOf stamp index es stamps = IfSome index (λ i. IsIndexOf contents stamp i es stamps)
 
     -- where it is there, it is prepared
     abbrev pub IsReady : Option (Indexed P Item) → Type 0
     IsReady index = IfSome index (IsPrepared contents)
-
-  -- where it is there, every stamp that it was given is below a number
-  abbrev pub IsBelow : Option (Indexed P Item) → ℕ → Type 0
-  IsBelow index adds = IfSome index (λ i. i.stamps ≤ adds)

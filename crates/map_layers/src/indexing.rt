@@ -3,7 +3,7 @@ ghost use Rattle.std.specs.Prelude.{◌≡◌, ℕ, ◌+◌, ◌*◌, ◌^◌, �
 ghost use Rattle.std.specs.Option.{is_some};
 ghost use Rattle.id_chain.specs.Chain.{Entry, HandlesDiffer, is_linked, without_handle};
 ghost use Rattle.stack_levels.specs.Cost.{IsWithin, quotas};
-ghost use Rattle.map_layers.specs.Indexing.{if_there, IsOf, IsReady, IsBelow};
+ghost use Rattle.map_layers.specs.Indexing.{if_there, IsOf, IsReady};
 
 use builder_trait::{Builder, Part};
 use global_rebuild::Index;
@@ -16,8 +16,7 @@ use std::sync::ledger::Ledger;
 /// An index without items, where it is wanted. It takes no memory.
 pub fn new_in<B: Builder>(alloc: Global, wanted: bool) -> Option<Index<B>>
     ensures there { is_some result ≡ wanted }
-    ensures of { IsOf B.Part.Part.contents B.Item.stamp result [] }
-    ensures below { IsBelow result 0 }
+    ensures of { IsOf B.Part.Part.contents B.Item.stamp result [] 0 }
 {
     if wanted {
         Some(Index::new(alloc))
@@ -32,11 +31,10 @@ pub fn prepare_in<B: Builder, L: Ledger>(
     chain: &Chain<B::Item>,
     steps: &mut Steps<L>,
 ) -> Result<(), NoMemory>
-    requires of { IsOf B.Part.Part.contents B.Item.stamp index.old chain.now.entries }
-    ensures of { IsOf B.Part.Part.contents B.Item.stamp index.new chain.now.entries }
+    requires of { (stamps : ℕ) × IsOf B.Part.Part.contents B.Item.stamp index.old chain.now.entries stamps }
+    ensures of { (stamps : ℕ) → IsOf B.Part.Part.contents B.Item.stamp index.old chain.now.entries stamps → IsOf B.Part.Part.contents B.Item.stamp index.new chain.now.entries stamps }
     ensures there { is_some index.new ≡ is_some index.old }
     ensures ready { OnOk result (IsReady B.Part.Part.contents index.new) }
-    ensures below { (adds : ℕ) → IsBelow index.old adds → IsBelow index.new adds }
     ensures cost { (g : ℕ) → 2 * length chain.now.entries + 10 < 2 ^ (g + 1)
         → IsWithin (if_there index.old (4 * quotas B.SLOPE B.BASE 0 g)) (if_there index.old (4 * (2 * g)))
         (B.Part.Part.mark_touches g) steps.old steps.new }
@@ -56,13 +54,12 @@ pub fn insert_in<B: Builder, L: Ledger>(
 )
     requires ready { IsReady B.Part.Part.contents index.old }
     requires last { (front : List (Entry B.Item)) × (item : B.Item) × (chain.now.entries ≡ front ++ record { handle = handle; item = item } ∷ [])
-        × IsOf B.Part.Part.contents B.Item.stamp index.old front × IsBelow index.old (B.Item.stamp item) × (B.Item.stamp item < 2 ^ 63) }
+        × IsOf B.Part.Part.contents B.Item.stamp index.old front (B.Item.stamp item) }
     requires differ { HandlesDiffer chain.now.entries }
     requires few { length chain.now.entries < 2 ^ 29 }
-    ensures of { IsOf B.Part.Part.contents B.Item.stamp index.new chain.now.entries }
+    ensures of { (front : List (Entry B.Item)) (item : B.Item) → chain.now.entries ≡ front ++ record { handle = handle; item = item } ∷ []
+        → IsOf B.Part.Part.contents B.Item.stamp index.new chain.now.entries (B.Item.stamp item + 1) }
     ensures there { is_some index.new ≡ is_some index.old }
-    ensures below { (front : List (Entry B.Item)) (item : B.Item) → chain.now.entries ≡ front ++ record { handle = handle; item = item } ∷ []
-        → IsBelow index.new (B.Item.stamp item + 1) }
     ensures some_turns { steps.old.turns + if_there index.old 3 ≤ steps.new.turns }
     ensures cost { (g : ℕ) → 2 * length chain.now.entries + 8 < 2 ^ (g + 1)
         → IsWithin (if_there index.old (quotas B.SLOPE B.BASE 0 g)) (if_there index.old (2 * g))
@@ -81,11 +78,11 @@ pub fn delete_in<B: Builder, L: Ledger>(
     steps: &mut Steps<L>,
 )
     requires ready { IsReady B.Part.Part.contents index.old }
-    requires of { IsOf B.Part.Part.contents B.Item.stamp index.old chain.now.entries }
+    requires of { (stamps : ℕ) × IsOf B.Part.Part.contents B.Item.stamp index.old chain.now.entries stamps }
     requires linked { IsTrue (is_linked handle chain.now.entries) }
-    ensures of { IsOf B.Part.Part.contents B.Item.stamp index.new (without_handle handle chain.now.entries) }
+    ensures of { (stamps : ℕ) → IsOf B.Part.Part.contents B.Item.stamp index.old chain.now.entries stamps
+        → IsOf B.Part.Part.contents B.Item.stamp index.new (without_handle handle chain.now.entries) stamps }
     ensures there { is_some index.new ≡ is_some index.old }
-    ensures below { (adds : ℕ) → IsBelow index.old adds → IsBelow index.new adds }
     ensures cost { (g : ℕ) → 2 * length chain.now.entries + 10 < 2 ^ (g + 1)
         → IsWithin (if_there index.old (2 * quotas B.SLOPE B.BASE 1 g)) (if_there index.old (2 * (5 * g + 3)))
         (B.Part.Part.mark_touches g) steps.old steps.new }

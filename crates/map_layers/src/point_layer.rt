@@ -45,15 +45,15 @@ pub struct PointLayer {
 impl Model for PointLayer {
     ghost use Rattle.std.specs.Prelude.{◌≡◌, ◌≤◌, None, length};
     ghost use Rattle.map_model.specs.State.{most_items};
-    ghost use Rattle.map_layers.specs.Indexing.{IsOf, IsBelow};
+    ghost use Rattle.map_layers.specs.Indexing.{IsOf};
     ghost use Rattle.map_layers.specs.Layer.{Layered, stamp_of};
 
     ghost Value = { Layered };
 
     ghost view = { λ l. record { name = l.name; entries = l.directory.entries; adds = l.directory.adds; range = l.range } };
 
-    ghost invariant = { λ l. (l.directory.pending ≡ None) × IsOf (λ part. part) stamp_of l.range l.directory.entries
-        × IsBelow l.range l.directory.adds × (length l.directory.entries ≤ most_items) };
+    ghost invariant = { λ l. (l.directory.pending ≡ None) × IsOf (λ part. part) stamp_of l.range l.directory.entries l.directory.adds
+        × (length l.directory.entries ≤ most_items) };
 }
 
 /// What fills a place that no layer has yet.
@@ -195,7 +195,7 @@ impl PointLayer {
         ensures few_parts { IfOk result (λ given. given.parts ≤ part_bound (layer_of self.now)) }
         ensures some_part { IfOk result (λ given. 0 < length self.now.entries → 1 ≤ given.parts) }
         ensures few { length self.now.entries ≤ 2 ^ 16 }
-        ensures of { IsOf (λ part. part) stamp_of self.now.range self.now.entries }
+        ensures of { IsOf (λ part. part) stamp_of self.now.range self.now.entries self.now.adds }
         ensures sizes { IfOk result (λ _. IfSome self.now.range (λ i. HaveAtMost (λ part. part) (2 ^ (bounds_at (length self.now.entries)).level) i.main.levels)) }
         ensures spent { IfSome self.now.range (λ i. Spends steps.old steps.new 0 0 (touches_of (bound-7.ask_touches question.now) i.main.levels)) }
         ensures reads { IsReading steps.old steps.new }

@@ -204,8 +204,7 @@ impl LiveMax {
     /// Ends the puts. A turn is left for each place but the first. It counts nothing.
     pub fn seal(&mut self)
         requires { self.old.sealed ≡ false }
-        ensures sealed { self.new ≡ record self.old { sealed = true; left = self.new.left } }
-        ensures bounded { self.new.left ≤ length self.new.places }
+        ensures { self.new ≡ record self.old { sealed = true; left = length self.old.places - 1 } }
     {
         self.height = 0;
         self.left = self.places.len().saturating_sub(1);

@@ -10,6 +10,6 @@ returns-in-Some-clause-cost g c g' light =
     let contents = g.B.Part.Part.contents in
     let stamp = g.B.Item.Item.stamp in
     let es = c.args.chain.now.entries in
-    let h : IsIndexOf contents stamp c.in-Some.index es = subst (λ o. IsOf contents stamp o es) c.in-Some.is c.requires.of in
+    let h : IsIndexOf contents stamp c.in-Some.index es c.requires.of.0 = subst (λ o. IsOf contents stamp o es c.requires.of.0) c.in-Some.is c.requires.of.1 in
     IsWithin-there c.args.index.now c.in-Some.index c.in-Some.is
     (c.commit_delete.ensures.cost g' (omega (arith, light, as_many contents stamp c.in-Some.index es h)))

@@ -13,16 +13,16 @@ returns-in-Some-clause-cost g c g' light =
     let contents = g.B.Part.Part.contents in
     let stamp = g.B.Item.Item.stamp in
     let last = c.requires.last in
-    let h : IsIndexOf contents stamp c.in-Some.index last.0 = subst (λ o. IsOf contents stamp o last.0) c.in-Some.is last.3 in
+    let h : IsIndexOf contents stamp c.in-Some.index last.0 (stamp last.1) = subst (λ o. IsOf contents stamp o last.0 (stamp last.1)) c.in-Some.is last.3 in
     let e : Entry g.row.B-Item.Denot = record { handle = c.args.handle; item = last.1 } in
     let more = ap length last.2 ∙ length-append last.0 (e ∷ []) in
     IsWithin-there c.args.index.now c.in-Some.index c.in-Some.is
     (c.commit_insert.ensures.cost g' (omega (arith, light, more, as_many contents stamp c.in-Some.index last.0 h)))
 
-pub returns-in-Some-clause-below : goal.returns-in-Some-clause-below
-returns-in-Some-clause-below g c front item is =
+pub returns-in-Some-clause-of : goal.returns-in-Some-clause-of
+returns-in-Some-clause-of g c front item is =
     let e : Entry g.row.B-Item.Denot = record { handle = c.args.handle; item = item } in
     let apart = Apart-parts front (e ∷ []) (subst HandlesDiffer is c.requires.differ) in
     let at : item_at c.args.handle c.args.chain.now.entries ≡ Some item =
     ap (item_at c.args.handle) is ∙ item_at-split c.args.handle item front [] (apart.back_only c.args.handle (linked_head e [])) in
-    omega (arith, c.commit_insert.ensures.stamps item at)
+    c.commit_insert.ensures.chain item at

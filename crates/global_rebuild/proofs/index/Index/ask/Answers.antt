@@ -6,7 +6,7 @@ use Rattle.global_rebuild.proofs.Weights.{as_many}
 use Rattle.global_rebuild.proofs.index.Index.ask.Goals as goal
 
 pub returns-clause-joined : goal.returns-clause-joined
-returns-clause-joined g c es h =
+returns-clause-joined g c es stamps h =
     let asking = c.args.asking.now in
     let q = asking.question in
     let contents = g.B.Part.Part.contents in

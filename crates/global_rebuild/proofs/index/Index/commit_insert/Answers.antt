@@ -1,4 +1,4 @@
-use Rattle.std.proofs.Common.{◌≡◌, ℕ, ◌≤◌, ◌+◌, ◌^◌, ◌<◌, ◌∙◌, true, [], ◌∷◌, ◌++◌, length, ap, sym, subst, arith}
+use Rattle.std.proofs.Common.{◌≡◌, ℕ, ◌≤◌, ◌+◌, ◌^◌, ◌<◌, ◌∙◌, true, [], ◌∷◌, ◌++◌, Some, length, ap, sym, subst, arith}
 use Rattle.id_chain.specs.Chain.{Entry, HandlesDiffer, is_linked}
 use Rattle.id_chain.proofs.Cursors.{linked-append}
 use Rattle.global_rebuild.specs.Index.{Indexed}
@@ -23,39 +23,37 @@ is_last g c =
 
 pub insert-requires-clause-apart : goal.insert-requires-clause-apart
 insert-requires-clause-apart g c k d within same =
-    let low = c.self.invariant.below k d within in
+    let h = rw (← c.self.view_is) at c.requires.last.3 in
+    let low = h.below k d within in
     let one = is_last g (goal.at.insert-requires-clause-apart g c).After-item-item in
-    omega (arith, low, same, c.requires.last.4, ap (λ i. i.stamps) c.self.view_is, ap g.B.Item.Item.stamp one)
-
-pub overflow_add-self : goal.overflow_add-self
-overflow_add-self g c =
-    omega (arith, c.requires.last.5, c.stamp.ensures, ap g.B.Item.Item.stamp (is_last g (goal.at.overflow_add-self g c).After-item-item))
+    omega (arith, low, same, ap g.B.Item.Item.stamp one)
 
 -- what the fields are afterwards
-sound : (g : Over) (c : goal.After-self-1 g) → IsSoundOf g.B.Part.Part.contents g.B.Item.Item.stamp
-    (record { main = c.insert.new.self; shadow = c.self.inside.shadow; retired = c.self.inside.retired; stamps = c.stamp.result + 1 }) c.args.chain.now.entries
+sound : (g : Over) (c : goal.After-insert g) → IsSoundOf g.B.Part.Part.contents g.B.Item.Item.stamp
+    (record { main = c.insert.new.self; shadow = c.self.inside.shadow; retired = c.self.inside.retired }) c.args.chain.now.entries
+    (g.B.Item.Item.stamp c.item-item.result + 1)
 sound g c =
     let contents = g.B.Part.Part.contents in
     let stamp = g.B.Item.Item.stamp in
     let last = c.requires.last in
     let one = is_last g (goal.at.returns-clause-chain g c).After-item-item in
-    let entry : g.row.B-Item.Denot → Entry g.row.B-Item.Denot = λ x. record { handle = c.args.handle; item = x } in
-    let is : c.args.chain.now.entries ≡ last.0 ++ entry c.item-item.result ∷ [] = last.2 ∙ ap (λ x. last.0 ++ entry x ∷ []) (sym one) in
-    let h = rw (← c.self.view_is) at last.3 in
+    let e : Entry g.row.B-Item.Denot = record { handle = c.args.handle; item = c.item-item.result } in
+    let is : c.args.chain.now.entries ≡ last.0 ++ e ∷ [] =
+    last.2 ∙ ap (λ x. last.0 ++ record { handle = c.args.handle; item = x } ∷ []) (sym one) in
+    let h = rw (← c.self.view_is, ← one) at last.3 in
     let p = rw (← c.self.view_is) at c.requires.prepared in
-    let later : c.self.inside.stamps ≤ stamp c.item-item.result = omega (arith, last.4, ap (λ i. i.stamps) c.self.view_is, ap stamp one) in
-    let made : ℕ → Indexed g.row.B-Part.Denot g.row.B-Item.Denot =
-    λ n. record { main = c.insert.new.self; shadow = c.self.inside.shadow; retired = c.self.inside.retired; stamps = n + 1 } in
-    subst (λ n. IsSoundOf contents stamp (made n) c.args.chain.now.entries) (sym c.stamp.ensures)
-    (subst (IsSoundOf contents stamp (made (stamp c.item-item.result))) (sym is)
-    (appended contents stamp _ last.0 (entry c.item-item.result) h c.self.invariant p later c.insert.new.self c.insert.ensures.live c.insert.ensures.items
-    c.insert.ensures.weight (subst HandlesDiffer is c.requires.differ) (subst (λ es. length es < 2 ^ 29) is c.requires.few)))
+    subst (λ es. IsSoundOf contents stamp (record { main = c.insert.new.self; shadow = c.self.inside.shadow; retired = c.self.inside.retired }) es (stamp e.item + 1))
+    (sym is)
+    (appended contents stamp _ last.0 e h c.self.invariant p c.insert.new.self c.insert.ensures.live c.insert.ensures.items
+    c.insert.ensures.weight (subst HandlesDiffer is c.requires.differ) (subst (λ es. length es < 2 ^ 29) is c.requires.few))
 
 pub invariant_of-self : goal.invariant_of-self
 invariant_of-self g c = (sound g c).0
 
 pub returns-clause-chain : goal.returns-clause-chain
-returns-clause-chain g c = (sound g c).1
+returns-clause-chain g c item at =
+    let same : c.item-item.result ≡ item = let both : Some c.item-item.result ≡ Some item = sym c.item-item.ensures.item ∙ at in cc in
+    rw (← same) (sound g c).1
 
 pub returns-clause-cost : goal.returns-clause-cost
 returns-clause-cost g c g' light =

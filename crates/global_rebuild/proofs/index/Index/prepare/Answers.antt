@@ -26,11 +26,11 @@ is_swapped g c = elim c.if-has_walked.branch [
 ]
 
 made_of : (g : Over) (c : goal.After-take_memory g) → IsMade g.B.Part.Part.contents c.args.self.now
-    (record { main = c.take_memory.new.main; shadow = c.take_memory.new.shadow; retired = c.give_up.new.retired; stamps = c.if-has_walked.self-inside.stamps })
+    (record { main = c.take_memory.new.main; shadow = c.take_memory.new.shadow; retired = c.give_up.new.retired })
 made_of g c =
     let w = c.walk.ensures in
     let e = c.take_memory.ensures in
-    made _ _ w.chain (is_swapped g c) w.same.0 w.same.2 w.same.3 c.in_ok-walk.ensures.taken w.at_most w.no_fewer w.dead c.in_ok-walk.ensures.in_time
+    made _ _ (w.chain c.requires.chain.0 c.requires.chain.1) (is_swapped g c) w.same.0 w.same.1 w.same.2 c.in_ok-walk.ensures.taken w.at_most w.no_fewer w.dead c.in_ok-walk.ensures.in_time
     c.give_up.ensures.one (e.live ∙ c.give_up.ensures.live) (e.weight ∙ c.give_up.ensures.weight) e.none e.some
 
 pub returns-clause-prepared : goal.returns-clause-prepared

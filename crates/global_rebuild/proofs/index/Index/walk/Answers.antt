@@ -6,13 +6,13 @@ use Rattle.global_rebuild.proofs.index.Index.walk.Goals as goal
 
 pub walk-requires-clause-light : goal.walk-requires-clause-light
 walk-requires-clause-light g c =
-    let h = rw (← c.self.view_is) at c.requires.chain in
+    let h = rw (← c.self.view_is) at c.requires.chain.1 in
     let light = shadow_light (c.self.invariant.in_time c.in-Some.shadow c.in-Some.is) (omega (arith, as_many _ _ _ _ h, h.few)) in
     omega (arith, light, c.requires.few)
 
 pub walk-requires-clause-shadow : goal.walk-requires-clause-shadow
 walk-requires-clause-shadow g c =
-    let h = rw (← c.self.view_is) at c.requires.chain in (c.self.inside.stamps, h.shadow c.in-Some.shadow c.in-Some.is, h.rise)
+    let h = rw (← c.self.view_is) at c.requires.chain.1 in (c.requires.chain.0, h.shadow c.in-Some.shadow c.in-Some.is, h.rise)
 
 pub returns-clause-cost : goal.returns-clause-cost
 returns-clause-cost g c g' light =
@@ -22,8 +22,8 @@ returns-clause-cost g c g' light =
 
 pub returns-clause-in_time : goal.returns-clause-in_time
 returns-clause-in_time g c =
-    let h = rw (← c.self.view_is) at c.requires.chain in
-    let own = c.walk.ensures.shadow c.self.inside.stamps h.rise (h.shadow c.in-Some.shadow c.in-Some.is) in
+    let h = rw (← c.self.view_is) at c.requires.chain.1 in
+    let own = c.walk.ensures.shadow c.requires.chain.0 h.rise (h.shadow c.in-Some.shadow c.in-Some.is) in
     let t = c.self.invariant.in_time c.in-Some.shadow c.in-Some.is in
     when_ok c.walk.result
     (λ taken r' is' going.
@@ -35,7 +35,7 @@ returns-clause-in_time g c =
 
 pub invariant_of-self-2 : goal.invariant_of-self-2
 invariant_of-self-2 g c =
-    let h = rw (← c.self.view_is) at c.requires.chain in
-    let own = c.walk.ensures.shadow c.self.inside.stamps h.rise (h.shadow c.in-Some.shadow c.in-Some.is) in
-    IsIndex-shadow _ _ _ c.walk.new.self c.self.invariant (in_time-walked (c.self.invariant.in_time c.in-Some.shadow c.in-Some.is) c.walk.new.self
+    let h = rw (← c.self.view_is) at c.requires.chain.1 in
+    let own = c.walk.ensures.shadow c.requires.chain.0 h.rise (h.shadow c.in-Some.shadow c.in-Some.is) in
+    IsIndex-shadow _ _ c.walk.new.self c.self.invariant (in_time-walked (c.self.invariant.in_time c.in-Some.shadow c.in-Some.is) c.walk.new.self
     c.walk.ensures.dead (live-walked _ _ _ _ h c.walk.new.self own) c.walk.ensures.no_lighter)

@@ -4,7 +4,7 @@ use Rattle.query_laws.proofs.Permutations.{Permuted-length}
 use Rattle.stack_levels.specs.Levels.{lowest_held, weight_of, live_items, all_items}
 use Rattle.stack_levels.proofs.Distinct.{AllStampsDiffer-part}
 use Rattle.stack_levels.proofs.MarkedLevels.{one_fewer}
-use Rattle.level_slots.proofs.Stacks.{IsStack-ticked}
+use Rattle.level_slots.proofs.Stacks.{IsStack-ticked, IsPartOf-length}
 use Rattle.level_slots.proofs.FewParts.{asked-few, parts-few}
 use Rattle.level_slots.proofs.HeldByLevel.{AreSameHeld, same_held}
 use Rattle.level_slots.proofs.stack.Stack.delete.Given.{Over}
@@ -60,7 +60,8 @@ invariant_of-self g c =
     rw (whole g c) (
       IsStack-ticked st e.levels e.punctual (AllStampsDiffer-part stamp (all_items contents new) (all_items contents old) (rw value at e.items) st.apart)
           (omega (arith, weight)) (omega (arith, weight, light)) (e.as_many ∙ ap length value) (omega (arith, c.requires.spare, ap (λ s. s.spare) c.self.view_is))
-          st.starters_few (omega (arith, st.spare_few)) (omega (arith, st.lowest_few, e.lowest, ap lowest_held value)) (rw value at e.rooms),
+          st.starters_few (omega (arith, st.spare_few)) (omega (arith, st.lowest_few, e.lowest, ap lowest_held value))
+          (omega (arith, IsPartOf-length (all_items contents new) (all_items contents old) (rw value at e.items), st.small, weight)) (rw value at e.rooms),
       omega (arith, weight, c.self.invariant.1),
       omega (arith, live, c.self.invariant.2),
       c.self.invariant.3,

@@ -1,10 +1,10 @@
-use Rattle.std.proofs.Common.{◌≡◌, ◌+◌, ◌^◌, ◌<◌, ◌≤◌, ◌∙◌, ◌++◌, length, take, drop, ap, arith}
+use Rattle.std.proofs.Common.{◌≡◌, ◌+◌, ◌^◌, ◌<◌, ◌≤◌, ◌∙◌, ◌∷◌, ◌++◌, length, take, drop, ap, arith}
 use Rattle.std.proofs.lemmas.List.{take_at}
 use Rattle.query_laws.specs.Orders.{AllStampsDiffer}
 use Rattle.query_laws.proofs.Permutations.{Permuted-length}
 use Rattle.stack_levels.specs.Levels.{lowest_held, weight_of, all_items}
 use Rattle.stack_levels.proofs.Distinct.{AllStampsDiffer-push, AllStampsDiffer-part}
-use Rattle.level_slots.proofs.Stacks.{IsStack-ticked, IsWithin-first}
+use Rattle.level_slots.proofs.Stacks.{IsStack-ticked, IsPartOf-length, IsWithin-first}
 use Rattle.level_slots.proofs.HeldByLevel.{AreSameHeld, same_held}
 use Rattle.level_slots.proofs.stack.Stack.insert.Given.{Over}
 use Rattle.level_slots.proofs.stack.Stack.insert.Goals.{After-part_of-part}
@@ -69,13 +69,14 @@ invariant_of-self g c =
     let spare : 1 ≤ c.self.inside.spare = omega (arith, c.requires.spare, ap (λ s. s.spare) c.self.view_is) in
     let light : weight_of old < 2 ^ 31 = omega (arith, c.requires.light, ap (λ s. weight_of s.levels) c.self.view_is) in
     let live = Permuted-length (rw (value, c.part_of-part.ensures.live) at e.live) in
+    let more = IsPartOf-length (all_items contents new) (c.args.item ∷ all_items contents old) (rw (value, c.part_of-part.ensures.items) at e.items) in
     let items = apart g (goal.at.invariant_of-self g c).After-part_of-part in
     rw (whole g c) (
       IsStack-ticked st e.levels e.punctual
           (AllStampsDiffer-part stamp (all_items contents new) ((contents c.part_of-part.result).items ++ all_items contents old) (rw value at e.items) items)
           (omega (arith, weight)) (omega (arith, weight, light)) (e.as_many ∙ ap length value) (omega (arith, spare))
           (omega (arith, fewer, st.starters_few)) (omega (arith, fewer, st.spare_few, spare))
-          (omega (arith, fewer, st.lowest_few, e.lowest, ap lowest_held value)) (rw value at e.rooms),
+          (omega (arith, fewer, st.lowest_few, e.lowest, ap lowest_held value)) (omega (arith, more, st.small, weight)) (rw value at e.rooms),
       omega (arith, weight, c.self.invariant.1),
       omega (arith, live, c.self.invariant.2),
       c.part_of-part.ensures.begun,

@@ -4,7 +4,7 @@ use Rattle.std.proofs.lemmas.List.{length-append, map-append}
 use Rattle.id_directory.specs.Directory.{handle_of}
 use Rattle.map_model.specs.Shape as model
 use Rattle.map_layers.specs.declared.faults.UpdateFault.TheVariants as faults
-use Rattle.map_layers.specs.Indexing.{IsOf, IsBelow}
+use Rattle.map_layers.specs.Indexing.{IsOf}
 use Rattle.map_model.specs.Index.{index_count}
 use Rattle.map_model.specs.Cost.{greatest_level}
 use Rattle.map_layers.specs.Costs.{IsInBounds}
@@ -50,9 +50,8 @@ insert_in-requires-clause-last g c =
       old,
       c.point_of-point.result,
       all,
-      subst (λ es. IsOf (λ part. part) stamp_of c.prepare_in.new.index es) same c.prepare_in.ensures.of,
-      subst (IsBelow c.prepare_in.new.index) (sym adds) (c.prepare_in.ensures.below c.self.inside.directory.adds c.self.invariant.2),
-      omega (arith, adds, c.requires.few, ap (λ l. l.adds) c.self.view_is),
+      rw adds (subst (λ es. IsOf (λ part. part) stamp_of c.prepare_in.new.index es c.self.inside.directory.adds) same
+          (c.prepare_in.ensures.of c.self.inside.directory.adds (subst (λ es. IsOf (λ part. part) stamp_of c.self.inside.range es c.self.inside.directory.adds) (sym same) c.self.invariant.1))),
     )
 
 pub returns-clause-added : goal.returns-clause-added
@@ -70,7 +69,7 @@ returns-then-is_err-clause-cost g c =
     let l : Layered = record { name = c.self.inside.name; entries = c.self.inside.directory.entries; adds = c.self.inside.directory.adds; range = c.self.inside.range } in
     let same : c.chain-2.result.now.entries ≡ l.entries = search rules in
     subst (λ k. IsInBounds (layer_of k) c.args.steps.now c.prepare_in.new.steps) c.self.view_is
-    (IsInBounds-of l c.self.invariant.3 (λ g' light.
+    (IsInBounds-of l c.self.invariant.2 (λ g' light.
     refused-cost 4 12 g' (16 * ((g' + 2) * (g' + 2))) l.range l.range refl (c.prepare_in.ensures.cost g' (omega (arith, light, ap length same)))))
 
 pub returns-clause-cost : goal.returns-clause-cost
@@ -80,7 +79,7 @@ returns-clause-cost g c =
     let all : c.chain-3.result.now.entries ≡ l.entries ++ record { handle = c.add-handle.result; item = c.point_of-point.result } ∷ [] = search rules in
     let more : length c.chain-3.result.now.entries ≡ length l.entries + 1 = ap length all ∙ length-append l.entries (record { handle = c.add-handle.result; item = c.point_of-point.result } ∷ []) in
     subst (λ k. IsInBounds (layer_of k) c.args.steps.now c.insert_in.new.steps) c.self.view_is
-    (IsInBounds-of l c.self.invariant.3 (λ g' light.
+    (IsInBounds-of l c.self.invariant.2 (λ g' light.
     added-cost 4 12 g' (16 * ((g' + 2) * (g' + 2))) l.range c.prepare_in.new.index c.prepare_in.ensures.there
     (c.prepare_in.ensures.cost g' (omega (arith, light, ap length same)))
     (c.insert_in.ensures.cost g' (omega (arith, light, more)))))
@@ -89,7 +88,7 @@ pub returns-clause-told : goal.returns-clause-told
 returns-clause-told g c =
     let l : Layered = record { name = c.self.inside.name; entries = c.self.inside.directory.entries; adds = c.self.inside.directory.adds; range = c.self.inside.range } in
     let same : c.chain-2.result.now.entries ≡ l.entries = search rules in
-    let prepared = c.prepare_in.ensures.cost (greatest_level (length l.entries)) (omega (arith, ap length same, greatest-light (length l.entries) c.self.invariant.3)) in
+    let prepared = c.prepare_in.ensures.cost (greatest_level (length l.entries)) (omega (arith, ap length same, greatest-light (length l.entries) c.self.invariant.2)) in
     let later : c.args.steps.now.turns ≤ c.prepare_in.new.steps.turns = omega (arith, prepared.spent.turns_spent) in
     let there : is_some c.prepare_in.new.index ≡ is_some c.args.self.now.range = c.prepare_in.ensures.there ∙ ap (λ k. is_some k.range) c.self.view_is in
     let some_turns : c.args.steps.now.turns + 3 * index_count (indexes_of c.args.self.now) ≤ c.insert_in.new.steps.turns =

@@ -2,7 +2,7 @@ use Rattle.std.proofs.Common.{rules, ◌≡◌, ◌+◌, ◌*◌, ◌∙◌, tru
 use Rattle.std.specs.Option.{is_some}
 use Rattle.id_chain.specs.Chain.{without_handle}
 use Rattle.id_directory.specs.Directory.{handle_of, without, IdsDiffer}
-use Rattle.map_layers.specs.Indexing.{IsOf, IsBelow}
+use Rattle.map_layers.specs.Indexing.{IsOf}
 use Rattle.map_layers.specs.declared.faults.UpdateFault.TheVariants as faults
 use Rattle.map_layers.specs.Costs.{IsCost, IsInBounds}
 use Rattle.map_layers.specs.Layer.{Layered, items_of, stamp_of, layer_of, IsRemoval}
@@ -30,17 +30,16 @@ delete_in-requires-clause-linked g c =
 
 pub invariant_of-self-2 : goal.invariant_of-self-2
 invariant_of-self-2 g c =
+    let at = c.self.inside.directory.adds in
     let left : c.remove.new.self.entries ≡ without_handle c.in-Some.handle c.self.inside.directory.entries = search rules in
     let adds : c.remove.new.self.adds ≡ c.self.inside.directory.adds = search rules in
     let pending : c.remove.new.self.pending ≡ None = search rules in
+    let first : c.chain.result.now.entries ≡ c.self.inside.directory.entries = search rules in
     let same : c.chain-2.result.now.entries ≡ c.self.inside.directory.entries = search rules in
     let rest : c.remove.new.self.entries ≡ without (λ p. p.id) c.args.id c.self.inside.directory.entries = search rules in (
       pending,
-      subst (λ es. IsOf (λ part. part) stamp_of c.delete_in.new.index es) (sym left)
-          (subst (λ es. IsOf (λ part. part) stamp_of c.delete_in.new.index (without_handle c.in-Some.handle es)) same c.delete_in.ensures.of),
-      subst (IsBelow c.delete_in.new.index) (sym adds)
-          (c.delete_in.ensures.below c.self.inside.directory.adds (c.prepare_in.ensures.below c.self.inside.directory.adds c.self.invariant.2)),
-      omega (arith, ap length rest, fewer c.args.id c.self.inside.directory.entries, c.self.invariant.3),
+      rw (left, adds, ← same) (c.delete_in.ensures.of at (rw (same, ← first) (c.prepare_in.ensures.of at (rw first c.self.invariant.1)))),
+      omega (arith, ap length rest, fewer c.args.id c.self.inside.directory.entries, c.self.invariant.2),
     )
 
 pub returns-clause-removed : goal.returns-clause-removed
@@ -57,7 +56,7 @@ returns-in_err-prepare_in-clause-cost g c =
     let refused : c.from_residual.result ≡ Err faults.NoMemory = search rules in
     subst (λ r. IsCost (layer_of c.args.self.now) r c.args.steps.now c.prepare_in.new.steps) (sym refused)
     (subst (λ k. IsInBounds (layer_of k) c.args.steps.now c.prepare_in.new.steps) c.self.view_is
-    (IsInBounds-of l c.self.invariant.3 (λ g' light.
+    (IsInBounds-of l c.self.invariant.2 (λ g' light.
     refused-cost 4 12 g' (16 * ((g' + 2) * (g' + 2))) l.range l.range refl (c.prepare_in.ensures.cost g' (omega (arith, light, ap length same))))))
 
 pub returns-clause-cost : goal.returns-clause-cost
@@ -66,7 +65,7 @@ returns-clause-cost g c =
     let same : c.chain.result.now.entries ≡ l.entries = search rules in
     let same' : c.chain-2.result.now.entries ≡ l.entries = search rules in
     subst (λ k. IsInBounds (layer_of k) c.args.steps.now c.delete_in.new.steps) c.self.view_is
-    (IsInBounds-of l c.self.invariant.3 (λ g' light.
+    (IsInBounds-of l c.self.invariant.2 (λ g' light.
     removed-cost 4 12 g' (16 * ((g' + 2) * (g' + 2))) l.range c.prepare_in.new.index c.prepare_in.ensures.there
     (c.prepare_in.ensures.cost g' (omega (arith, light, ap length same)))
     (c.delete_in.ensures.cost g' (omega (arith, light, ap length same')))))

@@ -10,5 +10,5 @@ invariant_of-self-2 g c =
     let items : c.push_reserved.new.self.items ≡ c.self.inside.items.items ++ x ∷ [] =
     c.push_reserved.ensures.items ∙ ap (λ l. l ++ x ∷ []) c.reserve.ensures.items in
     subst (IsStackOf g.B.Part.Part.contents g.B.Item.Item.stamp c.insert.new.self.levels) (sym items)
-    (IsStackOf-insert x (c.drawn-item.ensures ∙ c.weight-stamp.ensures ∙ sym p.weight) c.insert.ensures.weight c.insert.ensures.items c.insert.ensures.live
+    (IsStackOf-insert x (c.drawn-item.ensures ∙ c.weight-stamp.ensures.value ∙ sym p.weight) c.insert.ensures.weight c.insert.ensures.items c.insert.ensures.live
     (IsStackOf-same p.weight p.items p.live c.self.invariant))
