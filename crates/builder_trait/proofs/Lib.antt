@@ -4,3 +4,4 @@ pub mod Places
 pub mod Marking
 pub mod SearchLemmas
 pub mod FlatLemmas
+pub mod RowsLemmas

@@ -4,3 +4,4 @@ pub mod Asking
 pub mod Rebuilding
 pub mod Flat
 pub mod Search
+pub mod Rows

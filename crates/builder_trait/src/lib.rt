@@ -11,10 +11,12 @@ mod at_once;
 mod builder;
 pub mod flat;
 mod part;
+mod rows;
 mod search;
 
 pub use asking::{Asking, Given};
 pub use at_once::part_of_one;
 pub use builder::Builder;
 pub use part::{Answers, Part};
+pub use rows::{AnsweringRows, Rows, RowsBuilder, RowsPart};
 pub use search::{EntryTest, partition_point};

@@ -1,6 +1,6 @@
 -- The growth as it begins.
 use Rattle.std.proofs.Common.{◌≡◌, ℕ, zero, suc, ◌-◌, ◌*◌, ◌^◌, ◌<◌, ◌≤◌, true, false, List, [], length, map, take, replicate, refl, sym, ap, ◌∙◌, arith, subst, Some, slice_get}
-use Rattle.std.proofs.Math.Nat.{mul-le-mul_right, pow-le-pow_right}
+use Rattle.std.proofs.Math.Nat.{mul-le-mul_right}
 use Rattle.weak_delete.specs.Places.{nothing_put}
 use Rattle.builder_trait.specs.Builders.{Progress, IsUnderway}
 use Rattle.map_shapes.specs.declared.point.Point.{Point}
@@ -8,6 +8,7 @@ use Rattle.range_tree.specs.declared.level.Level.{Level}
 use Rattle.row_blocks.specs.Heights.{height_of}
 use Rattle.range_tree.specs.Heights.{levels_for, levels_to, height_at}
 use Rattle.range_tree.specs.Rows.{before, IsRow, counted}
+use Rattle.range_tree.specs.GrowingLaws.{few_points}
 use Rattle.range_tree.specs.Growing.{IsPutting, IsEmptyLevel, IsCounting, IsComing, turned, IsGrown}
 use Rattle.range_tree.proofs.Begins.{IsRow-top}
 use Rattle.range_tree.proofs.HeightLemmas.{height_of-above, height_of-least, levels_for-some, levels_for-few, levels_for-small}
@@ -49,10 +50,6 @@ IsComing-begun {level} {next} height none empty =
     }
 
 -- points that a builder takes are few, and need few levels
-pub few_points : (n level : ℕ) → level < 32 → n ≤ 2 ^ level → n ≤ 2 ^ 31
-few_points n level small few =
-    let le : level ≤ 31 = omega arith in let bound : 2 ^ level ≤ 2 ^ 31 = pow-le-pow_right (omega arith) le in omega arith
-
 pub levels_for-within : (n level : ℕ) → level < 32 → n ≤ 2 ^ level → levels_for n ≤ levels_to level
 levels_for-within n level small few = levels_for-few n level (omega (arith, few_points n level small few)) few
 

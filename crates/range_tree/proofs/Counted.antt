@@ -12,9 +12,9 @@ use Rattle.map_shapes.specs.declared.point.Point.{Point}
 use Rattle.range_tree.specs.declared.entry.Entry.{Entry}
 use Rattle.range_tree.specs.declared.level.Level.{Level}
 use Rattle.range_tree.specs.declared.span.Span.{Span}
-use Rattle.range_tree.specs.declared.tree.RangeTree.{RangeTree}
+use Rattle.range_tree.specs.declared.rows.RangeRows.{RangeRows}
 use Rattle.range_tree.specs.Rows.{IsEntryOf, counted}
-use Rattle.range_tree.specs.Queries.{live_at, live_in_slice, live_in_span}
+use Rattle.range_tree.specs.Queries.{live_at, live_in_slice, live_in_span, AreOver}
 use Rattle.row_blocks.proofs.Lists.{take-split, slice_range-map}
 
 -- a live point counts for one, and weighs what it weighs
@@ -39,20 +39,20 @@ pub weight_each : (part : Contents Point) (e : Entry) → IsEntryOf part.items e
 weight_each part e known = weight_live (slice_get part.items e.place) e.y (get_or part.flags e.place false) known
 
 -- a level of the tree
-pub level_is : (tree : RangeTree) (q : ℕ) (level : Level) → q < tree.used → slice_get tree.levels.items q ≡ Some level
-    → (All (IsEntryOf tree.points.items) level.entries.items)
-    × (level.counts.places ≡ map (counted tree.points.items tree.points.flags) level.entries.items)
-    × (length level.counts.places ≡ length tree.points.items)
-level_is tree q level below at =
-    let is = tree.kept.tree.each q level below at in
-    (is.row.known, is.counts, ap length is.counts ∙ length-map level.entries.items (counted tree.points.items tree.points.flags) ∙ is.row.entry_each)
+pub level_is : (part : Contents Point) (rows : RangeRows) (over : AreOver part rows) (q : ℕ) (level : Level) → q < rows.used → slice_get rows.levels.items q ≡ Some level
+    → (All (IsEntryOf part.items) level.entries.items)
+    × (level.counts.places ≡ map (counted part.items part.flags) level.entries.items)
+    × (length level.counts.places ≡ length part.items)
+level_is part rows over q level below at =
+    let is = over.each q level below at in
+    (is.row.known, is.counts, ap length is.counts ∙ length-map level.entries.items (counted part.items part.flags) ∙ is.row.entry_each)
 
 -- the live points of a span are those of its level's entries
-pub live_in_span-is : (tree : RangeTree) (span : Span) (level : Level) → slice_get tree.levels.items span.row ≡ Some level
-    → live_in_span tree span ≡ live_in_slice tree.points level.entries.items span.from span.to
-live_in_span-is tree span level at =
-    ap (λ o. flat_map (λ (l : Level). live_in_slice tree.points l.entries.items span.from span.to) (option_to_list o)) at
-    ∙ append-nil (live_in_slice tree.points level.entries.items span.from span.to)
+pub live_in_span-is : (part : Contents Point) (rows : RangeRows) (span : Span) (level : Level) → slice_get rows.levels.items span.row ≡ Some level
+    → live_in_span part rows span ≡ live_in_slice part level.entries.items span.from span.to
+live_in_span-is part rows span level at =
+    ap (λ o. flat_map (λ (l : Level). live_in_slice part l.entries.items span.from span.to) (option_to_list o)) at
+    ∙ append-nil (live_in_slice part level.entries.items span.from span.to)
 
 -- what a measure of lists of points gives for each entry it gives for all together
 module _ (m : List Point → ℕ) (none : m [] ≡ 0) (both : (xs ys : List Point) → m (xs ++ ys) ≡ m xs + m ys) (f : Place → ℕ)
@@ -86,19 +86,19 @@ counted_between part entries from to known le =
     measured-between length refl (λ xs ys. omega (arith, length-append xs ys)) (λ p. cond (is_live p) 1 0) part (one_each part)
     entries from to known le
 
-module _ (tree : RangeTree) (span : Span) (level : Level) (below : span.row < tree.used) (at : slice_get tree.levels.items span.row ≡ Some level)
+module _ (part : Contents Point) (rows : RangeRows) (over : AreOver part rows) (span : Span) (level : Level) (below : span.row < rows.used) (at : slice_get rows.levels.items span.row ≡ Some level)
     (ordered : span.from ≤ span.to) where
   -- the places of a span
   pub counted_span : count_by is_live (take span.to level.counts.places)
-      ≡ count_by is_live (take span.from level.counts.places) + length (live_in_span tree span)
+      ≡ count_by is_live (take span.from level.counts.places) + length (live_in_span part rows span)
   counted_span =
-      let is = level_is tree span.row level below at in
-      rw (is.1, live_in_span-is tree span level at) (counted_between tree.points level.entries.items span.from span.to is.0 ordered)
+      let is = level_is part rows over span.row level below at in
+      rw (is.1, live_in_span-is part rows span level at) (counted_between part level.entries.items span.from span.to is.0 ordered)
 
   -- and they weigh as much
   pub weighed_span : sum_by live_amount (take span.to level.counts.places)
-      ≡ sum_by live_amount (take span.from level.counts.places) + sum_by (λ p. p.w) (live_in_span tree span)
+      ≡ sum_by live_amount (take span.from level.counts.places) + sum_by (λ p. p.w) (live_in_span part rows span)
   weighed_span =
-      let is = level_is tree span.row level below at in
-      rw (is.1, live_in_span-is tree span level at) (measured-between (sum_by (λ p. p.w)) refl (sum_by-append (λ p. p.w)) live_amount tree.points
-      (weight_each tree.points) level.entries.items span.from span.to is.0 ordered)
+      let is = level_is part rows over span.row level below at in
+      rw (is.1, live_in_span-is part rows span level at) (measured-between (sum_by (λ p. p.w)) refl (sum_by-append (λ p. p.w)) live_amount part
+      (weight_each part) level.entries.items span.from span.to is.0 ordered)

@@ -24,10 +24,10 @@ use Rattle.range_tree.specs.declared.level.Level.{Level}
 use Rattle.range_tree.specs.declared.span.Span.{Span}
 use Rattle.range_tree.specs.declared.cover.Cover.{Cover}
 use Rattle.range_tree.specs.declared.cover.Places.{Places}
-use Rattle.range_tree.specs.declared.tree.RangeTree.{RangeTree}
+use Rattle.range_tree.specs.declared.rows.RangeRows.{RangeRows}
 use Rattle.row_blocks.specs.Heights.{height_of}
 use Rattle.range_tree.specs.Rows.{IsLevel, IsRow, IsBlock}
-use Rattle.range_tree.specs.Queries.{live_at, live_between, live_in_slice, live_in_span, live_in_places, IsSpan, HasRow, IsCover, AreWithinAbscissas, AbscissasBelow, AbscissasAbove, IsTaken}
+use Rattle.range_tree.specs.Queries.{live_at, live_between, live_in_slice, live_in_span, live_in_places, IsSpan, AreOver, HasRow, IsCover, AreWithinAbscissas, AbscissasBelow, AbscissasAbove, IsTaken}
 use Rattle.range_tree.proofs.HeightLemmas.{height_of-above, levels_for-few, levels_for-small}
 use Rattle.range_tree.proofs.Between.{live_in-split, live_in-all, live_between-none}
 use Rattle.range_tree.proofs.Counted.{level_is, live_in_span-is}
@@ -98,15 +98,15 @@ module _ {half from to : ℕ} (first : IsMultiple from half) (last : IsMultiple 
       before_last ends =
           subst (λ n. IsMultiple n half) (let same : to - 2 ^ half ≡ high = omega arith in same) (multiple_before last (omega arith))
 
-module _ (tree : RangeTree) {height : ℕ} (within : HasRow tree height) (level : Level)
-    (there : slice_get tree.levels.items (height_at tree.used height) ≡ Some level) where
-  level_at : IsLevel tree.points.items tree.points.flags height level
+module _ (part : Contents Point) (rows : RangeRows) (over : AreOver part rows) {height : ℕ} (within : HasRow rows height) (level : Level)
+    (there : slice_get rows.levels.items (height_at rows.used height) ≡ Some level) where
+  level_at : IsLevel part.items part.flags height level
   level_at =
-      let back : height_at tree.used (height_at tree.used height) ≡ height = omega arith in
-      subst (λ h. IsLevel tree.points.items tree.points.flags h level) back (tree.kept.tree.each (height_at tree.used height) level (omega arith) there)
+      let back : height_at rows.used (height_at rows.used height) ≡ height = omega arith in
+      subst (λ h. IsLevel part.items part.flags h level) back (over.each (height_at rows.used height) level (omega arith) there)
 
   -- a whole block of it
-  pub block_at : {start end : ℕ} → IsMultiple start height → start + 2 ^ height ≡ end → end ≤ length tree.points.items
+  pub block_at : {start end : ℕ} → IsMultiple start height → start + 2 ^ height ≡ end → end ≤ length part.items
       → (end ≤ length level.entries.items) × IsBlock level.entries.items start end
   block_at {start} {end} multiple is few =
       let row = level_at.row in
@@ -114,53 +114,53 @@ module _ (tree : RangeTree) {height : ℕ} (within : HasRow tree height) (level 
       (omega (arith, row.entry_each), subst (IsBlock level.entries.items start) short (row.blocks start multiple (omega (arith, row.entry_each, pow_pos height))))
 
   -- what the search in a block has found
-  module _ (rect : Rect) {start end : ℕ} (span : Span) (row : span.row ≡ height_at (tree.used) height) (ordered : span.from ≤ span.to)
-      (inside : span.to ≤ end) (most : end ≤ length tree.points.items) (abscissas : AreWithinAbscissas tree.points start end rect)
+  module _ (rect : Rect) {start end : ℕ} (span : Span) (row : span.row ≡ height_at rows.used height) (ordered : span.from ≤ span.to)
+      (inside : span.to ≤ end) (most : end ≤ length part.items) (abscissas : AreWithinAbscissas part start end rect)
       (found : (p : Contents Point) (h : ℕ) → IsRow p.items h level.entries.items → AreWithinAbscissas p start end rect
       → Permuted (live_in_slice p level.entries.items span.from span.to) (filter (is_in rect) (live_between p start end))) where
-    here : slice_get tree.levels.items span.row ≡ Some level
-    here = ap (slice_get tree.levels.items) row ∙ there
+    here : slice_get rows.levels.items span.row ≡ Some level
+    here = ap (slice_get rows.levels.items) row ∙ there
 
-    is_span : IsSpan tree span
+    is_span : IsSpan rows span
     is_span = record {
       row = omega arith;
       ordered = ordered;
-      within = λ l at. subst (λ m. span.to ≤ length m.counts.places) (same_Some level l (sym here ∙ at)) (omega (arith, (level_is tree span.row level (omega arith) here).2));
+      within = λ l at. subst (λ m. span.to ≤ length m.counts.places) (same_Some level l (sym here ∙ at)) (omega (arith, (level_is part rows over span.row level (omega arith) here).2));
       built = λ l at. subst (λ m. IsBuilt m.counts) (same_Some level l (sym here ∙ at)) level_at.built;
     }
 
-    points : Permuted (live_in_span tree span) (filter (is_in rect) (live_between tree.points start end))
-    points = rw (live_in_span-is tree span level here) (found tree.points height level_at.row abscissas)
+    points : Permuted (live_in_span part rows span) (filter (is_in rect) (live_between part start end))
+    points = rw (live_in_span-is part rows span level here) (found part height level_at.row abscissas)
 
     -- it is pushed where it isn't empty
-    pub IsTaken-pushed : {old new : List Span} → new ≡ old ++ span ∷ [] → IsTaken tree rect (record { from = start; to = end }) old new
+    pub IsTaken-pushed : {old new : List Span} → new ≡ old ++ span ∷ [] → IsTaken part rows rect (record { from = start; to = end }) old new
     IsTaken-pushed {old} pushed = record {
-      valid = λ spans. subst (All (IsSpan tree)) (sym pushed) (All-push (IsSpan tree) old span spans is_span);
+      valid = λ spans. subst (All (IsSpan rows)) (sym pushed) (All-push (IsSpan rows) old span spans is_span);
       many = omega (arith, ap length pushed ∙ length_push old span);
-      points = subst (λ l. Permuted l (flat_map (live_in_span tree) old ++ filter (is_in rect) (live_between tree.points start end)))
-          (sym (ap (flat_map (live_in_span tree)) pushed ∙ flat_map-append (live_in_span tree) old (span ∷ [])
-          ∙ ap (λ l. flat_map (live_in_span tree) old ++ l) (append-nil (live_in_span tree span))))
-          (Permuted-append_right (flat_map (live_in_span tree) old) points);
+      points = subst (λ l. Permuted l (flat_map (live_in_span part rows) old ++ filter (is_in rect) (live_between part start end)))
+          (sym (ap (flat_map (live_in_span part rows)) pushed ∙ flat_map-append (live_in_span part rows) old (span ∷ [])
+          ∙ ap (λ l. flat_map (live_in_span part rows) old ++ l) (append-nil (live_in_span part rows span))))
+          (Permuted-append_right (flat_map (live_in_span part rows) old) points);
     }
 
-    pub IsTaken-empty : {old : List Span} → span.to ≤ span.from → IsTaken tree rect (record { from = start; to = end }) old old
+    pub IsTaken-empty : {old : List Span} → span.to ≤ span.from → IsTaken part rows rect (record { from = start; to = end }) old old
     IsTaken-empty {old} empty =
         let none : span.to - span.from ≡ 0 = omega arith in
-        let nothing : live_in_span tree span ≡ [] =
-        live_in_span-is tree span level here ∙ ap (λ n. flat_map (λ e. live_at tree.points e.place) (take n (drop span.from level.entries.items))) none in
+        let nothing : live_in_span part rows span ≡ [] =
+        live_in_span-is part rows span level here ∙ ap (λ n. flat_map (λ e. live_at part e.place) (take n (drop span.from level.entries.items))) none in
         record {
           valid = λ spans. spans;
           many = omega arith;
-          points = subst (λ l. Permuted l (flat_map (live_in_span tree) old ++ filter (is_in rect) (live_between tree.points start end)))
-              (ap (λ l. flat_map (live_in_span tree) old ++ l) nothing ∙ append-nil (flat_map (live_in_span tree) old))
-              (Permuted-append_right (flat_map (live_in_span tree) old) points);
+          points = subst (λ l. Permuted l (flat_map (live_in_span part rows) old ++ filter (is_in rect) (live_between part start end)))
+              (ap (λ l. flat_map (live_in_span part rows) old ++ l) nothing ∙ append-nil (flat_map (live_in_span part rows) old))
+              (Permuted-append_right (flat_map (live_in_span part rows) old) points);
         }
 
 -- of no places nothing is taken
-pub IsTaken-none : {tree : RangeTree} {rect : Rect} {places : Places} {spans : List Span} → places.from ≡ places.to → IsTaken tree rect places spans spans
-IsTaken-none {tree} {rect} {places} {spans} none =
-    let nothing : live_in_places tree.points rect places ≡ [] = ap (filter (is_in rect)) (live_between-none tree.points places.from places.to (omega arith)) in
-    let live = flat_map (live_in_span tree) spans in
+pub IsTaken-none : {part : Contents Point} {rows : RangeRows} {rect : Rect} {places : Places} {spans : List Span} → places.from ≡ places.to → IsTaken part rows rect places spans spans
+IsTaken-none {part} {rows} {rect} {places} {spans} none =
+    let nothing : live_in_places part rect places ≡ [] = ap (filter (is_in rect)) (live_between-none part places.from places.to (omega arith)) in
+    let live = flat_map (live_in_span part rows) spans in
     record {
       valid = λ all. all;
       many = omega arith;
@@ -168,13 +168,13 @@ IsTaken-none {tree} {rect} {places} {spans} none =
     }
 
 -- the blocks at both ends are taken
-pub IsCover-next : {tree : RangeTree} {rect : Rect} {height : ℕ} {old new : Cover} {inner : Places} {mid : List Span} → IsCover tree rect height old
-    → IsTaken tree rect (record { from = old.from; to = inner.from }) old.spans.items mid
-    → IsTaken tree rect (record { from = inner.to; to = old.to }) mid new.spans.items
+pub IsCover-next : {part : Contents Point} {rows : RangeRows} {rect : Rect} {height : ℕ} {old new : Cover} {inner : Places} {mid : List Span} → IsCover part rows rect height old
+    → IsTaken part rows rect (record { from = old.from; to = inner.from }) old.spans.items mid
+    → IsTaken part rows rect (record { from = inner.to; to = old.to }) mid new.spans.items
     → old.from ≤ inner.from → inner.from ≤ inner.to → inner.to ≤ old.to
     → (inner.from < inner.to → IsMultiple inner.from (height + 1)) → (inner.from < inner.to → IsMultiple inner.to (height + 1))
-    → new.from ≡ inner.from → new.to ≡ inner.to → new.low ≡ old.low → new.high ≡ old.high → IsCover tree rect (height + 1) new
-IsCover-next {tree} {rect} {height} {old} {new} {inner} {mid} cover first second after ordered before front back from to low high = record {
+    → new.from ≡ inner.from → new.to ≡ inner.to → new.low ≡ old.low → new.high ≡ old.high → IsCover part rows rect (height + 1) new
+IsCover-next {part} {rows} {rect} {height} {old} {new} {inner} {mid} cover first second after ordered before front back from to low high = record {
   ordered = omega arith;
   within = omega (arith, cover.within);
   abscissas = λ k p above below at. cover.abscissas k p (omega arith) (omega arith) at;
@@ -183,11 +183,11 @@ IsCover-next {tree} {rect} {height} {old} {new} {inner} {mid} cover first second
   spans = second.valid (first.valid cover.spans);
   few = omega (arith, first.many, second.many, cover.few);
   points =
-      let f : ℕ → ℕ → List Point = λ a b. filter (is_in rect) (live_between tree.points a b) in
-      let live : List Span → List Point = flat_map (live_in_span tree) in
+      let f : ℕ → ℕ → List Point = λ a b. filter (is_in rect) (live_between part a b) in
+      let live : List Span → List Point = flat_map (live_in_span part rows) in
       let whole : f old.from old.to ≡ f old.from inner.from ++ (f inner.from inner.to ++ f inner.to old.to) =
-      live_in-split tree.points rect old.from inner.from old.to after (omega arith)
-      ∙ ap (λ l. f old.from inner.from ++ l) (live_in-split tree.points rect inner.from inner.to old.to ordered before) in
+      live_in-split part rect old.from inner.from old.to after (omega arith)
+      ∙ ap (λ l. f old.from inner.from ++ l) (live_in-split part rect inner.from inner.to old.to ordered before) in
       let both : Permuted (live new.spans.items) (live old.spans.items ++ (f old.from inner.from ++ f inner.to old.to)) =
       subst (Permuted (live new.spans.items)) (append_assoc (live old.spans.items) (f old.from inner.from) (f inner.to old.to))
       (composed second.points (Permuted-append_left (f inner.to old.to) first.points)) in
@@ -202,35 +202,35 @@ IsCover-next {tree} {rect} {height} {old} {new} {inner} {mid} cover first second
 }
 
 -- before the loop nothing is covered
-pub IsCover-init : {tree : RangeTree} {rect : Rect} {cover : Cover} → cover.spans.items ≡ [] → cover.from ≡ cover.low → cover.to ≡ cover.high
-    → cover.low ≤ cover.high → cover.high ≤ length tree.points.items → AreWithinAbscissas tree.points cover.low cover.high rect
+pub IsCover-init : {part : Contents Point} {rows : RangeRows} {rect : Rect} {cover : Cover} → cover.spans.items ≡ [] → cover.from ≡ cover.low → cover.to ≡ cover.high
+    → cover.low ≤ cover.high → cover.high ≤ length part.items → AreWithinAbscissas part cover.low cover.high rect
     → (cover.low < cover.high → IsMultiple cover.low leaf_height) → (cover.low < cover.high → IsMultiple cover.high leaf_height)
-    → IsCover tree rect leaf_height cover
-IsCover-init {tree} {rect} {cover} none from to ordered within abscissas front back = record {
+    → IsCover part rows rect leaf_height cover
+IsCover-init {part} {rows} {rect} {cover} none from to ordered within abscissas front back = record {
   ordered = omega arith;
   within = omega arith;
   abscissas = λ k p low high at. abscissas k p (omega arith) (omega arith) at;
   front = λ some. subst (λ n. IsMultiple n leaf_height) (sym from) (front (omega arith));
   back = λ some. subst (λ n. IsMultiple n leaf_height) (sym to) (back (omega arith));
-  spans = subst (λ l. All (IsSpan tree) l) (sym none) (All-nil (IsSpan tree));
+  spans = subst (λ l. All (IsSpan rows) l) (sym none) (All-nil (IsSpan rows));
   few = omega (arith, ap length none);
-  points = rw (none, from, to) (Permuted-refl (filter (is_in rect) (live_between tree.points cover.low cover.high)));
+  points = rw (none, from, to) (Permuted-refl (filter (is_in rect) (live_between part cover.low cover.high)));
 }
 
 -- at the end nothing is left: no two places of a part are so far apart
-none_left : {tree : RangeTree} {rect : Rect} {height : ℕ} {cover : Cover} → height ≡ tree.used + leaf_height → IsCover tree rect height cover
+none_left : {part : Contents Point} {rows : RangeRows} {rect : Rect} {height : ℕ} {cover : Cover} → AreOver part rows → height ≡ rows.used + leaf_height → IsCover part rows rect height cover
     → cover.to ≤ cover.from
-none_left {tree} {rect} {height} {cover} is old = elim (cases_lt cover.from cover.to) [
+none_left {part} {rows} {rect} {height} {cover} over is old = elim (cases_lt cover.from cover.to) [
   | inl some ↦
-      let h = height_of (length tree.points.items) in
-      let tall : h + 1 ≤ height = omega (arith, is, tree.kept.tree.as_many) in
+      let h = height_of (length part.items) in
+      let tall : h + 1 ≤ height = omega (arith, is, over.as_many) in
       let larger : 2 ^ (h + 1) ≤ 2 ^ height = pow-le-pow_right (omega arith) tall in
       absurd (omega (
         arith,
         larger,
         blocks_apart (old.front some) (old.back some) some,
         old.within,
-        height_of-above (length tree.points.items) (omega (arith, tree.kept.tree.few)),
+        height_of-above (length part.items) (omega (arith, over.few)),
         pow_next h,
         pow_pos h,
       ))
@@ -238,40 +238,40 @@ none_left {tree} {rect} {height} {cover} is old = elim (cases_lt cover.from cove
 ]
 
 -- then the spans hold all points of the rectangle among the leaves that were to be covered
-pub points_covered : {tree : RangeTree} {rect : Rect} {height : ℕ} {cover : Cover} → height ≡ tree.used + leaf_height → IsCover tree rect height cover
-    → Permuted (flat_map (live_in_span tree) cover.spans.items) (filter (is_in rect) (live_between tree.points cover.low cover.high))
-points_covered {tree} {rect} {height} {cover} is old =
-    let spans = flat_map (live_in_span tree) cover.spans.items in
-    subst (λ l. Permuted l (filter (is_in rect) (live_between tree.points cover.low cover.high)))
-    (ap (λ l. spans ++ filter (is_in rect) l) (live_between-none tree.points cover.from cover.to (none_left is old)) ∙ append-nil spans) old.points
+pub points_covered : {part : Contents Point} {rows : RangeRows} {rect : Rect} {height : ℕ} {cover : Cover} → AreOver part rows → height ≡ rows.used + leaf_height → IsCover part rows rect height cover
+    → Permuted (flat_map (live_in_span part rows) cover.spans.items) (filter (is_in rect) (live_between part cover.low cover.high))
+points_covered {part} {rows} {rect} {height} {cover} over is old =
+    let spans = flat_map (live_in_span part rows) cover.spans.items in
+    subst (λ l. Permuted l (filter (is_in rect) (live_between part cover.low cover.high)))
+    (ap (λ l. spans ++ filter (is_in rect) l) (live_between-none part cover.from cover.to (none_left over is old)) ∙ append-nil spans) old.points
 
 -- and with the places before and behind these all of the rectangle
-pub points_cut : (tree : RangeTree) (rect : Rect) (spans : List Span) (from low high behind to : ℕ) → behind ≡ high → length tree.points.flags ≡ length tree.points.items
-    → from ≤ low → low ≤ high → high ≤ to → to ≤ length tree.points.items → AbscissasBelow tree.points.items from rect.x1 → AbscissasAbove tree.points.items to rect.x2
-    → Permuted (flat_map (live_in_span tree) spans) (filter (is_in rect) (live_between tree.points low high))
-    → Permuted (flat_map (live_in_span tree) spans ++ (filter (is_in rect) (live_between tree.points from low) ++ filter (is_in rect) (live_between tree.points behind to)))
-    (filter (is_in rect) (items_where_true tree.points.flags tree.points.items))
-points_cut tree rect spans from low high behind to is flagged first ordered last within below above middle =
-    let f : ℕ → ℕ → List Point = λ a b. filter (is_in rect) (live_between tree.points a b) in
+pub points_cut : (part : Contents Point) (rows : RangeRows) (rect : Rect) (spans : List Span) (from low high behind to : ℕ) → behind ≡ high → length part.flags ≡ length part.items
+    → from ≤ low → low ≤ high → high ≤ to → to ≤ length part.items → AbscissasBelow part.items from rect.x1 → AbscissasAbove part.items to rect.x2
+    → Permuted (flat_map (live_in_span part rows) spans) (filter (is_in rect) (live_between part low high))
+    → Permuted (flat_map (live_in_span part rows) spans ++ (filter (is_in rect) (live_between part from low) ++ filter (is_in rect) (live_between part behind to)))
+    (filter (is_in rect) (items_where_true part.flags part.items))
+points_cut part rows rect spans from low high behind to is flagged first ordered last within below above middle =
+    let f : ℕ → ℕ → List Point = λ a b. filter (is_in rect) (live_between part a b) in
     let whole : f from to ≡ f from low ++ (f low high ++ f high to) =
-    live_in-split tree.points rect from low to first (omega arith) ∙ ap (λ l. f from low ++ l) (live_in-split tree.points rect low high to ordered last) in
-    let all : f from low ++ (f low high ++ f high to) ≡ filter (is_in rect) (items_where_true tree.points.flags tree.points.items) =
-    sym whole ∙ live_in-all tree.points rect from to flagged (omega arith) within below above in
+    live_in-split part rect from low to first (omega arith) ∙ ap (λ l. f from low ++ l) (live_in-split part rect low high to ordered last) in
+    let all : f from low ++ (f low high ++ f high to) ≡ filter (is_in rect) (items_where_true part.flags part.items) =
+    sym whole ∙ live_in-all part rect from to flagged (omega arith) within below above in
     let moved : Permuted (f low high ++ (f from low ++ f high to)) (f from low ++ (f low high ++ f high to)) =
     subst (λ l. Permuted l (f from low ++ (f low high ++ f high to))) (append_assoc (f low high) (f from low) (f high to))
     (subst (λ l. Permuted ((f low high ++ f from low) ++ f high to) l) (append_assoc (f from low) (f low high) (f high to))
     (Permuted-append_left (f high to) (Permuted-append_comm (f low high) (f from low)))) in
-    subst (λ b. Permuted (flat_map (live_in_span tree) spans ++ (f from low ++ f b to)) (filter (is_in rect) (items_where_true tree.points.flags tree.points.items))) (sym is)
-    (subst (λ l. Permuted (flat_map (live_in_span tree) spans ++ (f from low ++ f high to)) l) all
+    subst (λ b. Permuted (flat_map (live_in_span part rows) spans ++ (f from low ++ f b to)) (filter (is_in rect) (items_where_true part.flags part.items))) (sym is)
+    (subst (λ l. Permuted (flat_map (live_in_span part rows) spans ++ (f from low ++ f high to)) l) all
     (composed (Permuted-append_left (f from low ++ f high to) middle) moved))
 
 -- a tree has fewer levels than one more than the height of a full one
-pub levels_few : (tree : RangeTree) (h : ℕ) → length tree.points.items ≤ 2 ^ h → tree.used ≤ levels_to h
-levels_few tree h few = omega (arith, tree.kept.tree.as_many, levels_for-few (length tree.points.items) h (omega (arith, tree.kept.tree.few)) few)
+pub levels_few : (part : Contents Point) (rows : RangeRows) → AreOver part rows → (h : ℕ) → length part.items ≤ 2 ^ h → rows.used ≤ levels_to h
+levels_few part rows over h few = omega (arith, over.as_many, levels_for-few (length part.items) h (omega (arith, over.few)) few)
 
 -- and few
-pub levels_small : (tree : RangeTree) → tree.used ≤ levels_to 31
-levels_small tree = omega (arith, tree.kept.tree.as_many, levels_for-small (length tree.points.items) tree.kept.tree.few)
+pub levels_small : (part : Contents Point) (rows : RangeRows) → AreOver part rows → rows.used ≤ levels_to 31
+levels_small part rows over = omega (arith, over.as_many, levels_for-small (length part.items) over.few)
 
 -- what one more level costs
 pub Spends-level : {old mid new : Counts} (k top : ℕ) → k < top → Spends old mid 0 0 (k * (4 * (top + leaf_height))) → Spends mid new 0 0 (4 * (k + leaf_height + 1))

@@ -16,7 +16,8 @@ use Rattle.range_tree.specs.Growing.{HasRoom, start_of, IsParting, target_of, lo
 use Rattle.range_tree.proofs.HeightLemmas.{levels_for-small}
 use Rattle.row_blocks.proofs.Lists.{at_slot, slice_get-set_same, slice_get-set_other}
 use Rattle.range_tree.proofs.Parting.{target_of-within, IsParting-next, All-parted, IsRow-parted}
-use Rattle.range_tree.proofs.Beginnings.{few_points, IsCounting-begun, IsComing-begun, no_places, none_turned}
+use Rattle.range_tree.specs.GrowingLaws.{few_points}
+use Rattle.range_tree.proofs.Beginnings.{IsCounting-begun, IsComing-begun, no_places, none_turned}
 
 -- another level in place of the one that grows, or of the next one
 pub IsTree-set : {points : List Point} {at_level : ℕ} {levels : List Level} {used at : ℕ} → IsTree points at_level levels used at

@@ -17,7 +17,7 @@ use Rattle.range_tree.specs.declared.entry.Entry.{Entry}
 use Rattle.range_tree.specs.declared.level.Level.{Level}
 use Rattle.range_tree.specs.Rows.{before, IsEntryOf}
 use Rattle.range_tree.specs.Growing.{HasRoom, IsPutting}
-use Rattle.range_tree.proofs.Beginnings.{few_points}
+use Rattle.range_tree.specs.GrowingLaws.{few_points}
 use Rattle.row_blocks.proofs.Lists.{All-slots, at_slot, slice_get-set_same, slice_get-set_other}
 
 -- an item stays where it is as others are put behind it

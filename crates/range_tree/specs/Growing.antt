@@ -6,7 +6,7 @@ use Rattle.builder_trait.specs.Builders.{Progress}
 use Rattle.map_shapes.specs.declared.point.Point.{Point}
 use Rattle.range_tree.specs.declared.entry.Entry.{Entry}
 use Rattle.range_tree.specs.declared.level.Level.{Level}
-use Rattle.range_tree.specs.declared.growing.GrowingTree.{GrowingTree}
+use Rattle.range_tree.specs.declared.rows.RangeRows.{RangeRows}
 use Rattle.range_tree.specs.Heights.{levels_for, levels_to, height_at}
 use Rattle.range_tree.specs.Rows.{IsEntryOf, entry_at, precedes, IsRun, AreBlocks, IsRow, IsLevel, AreLevels, counted}
 
@@ -114,8 +114,8 @@ pub record IsGrown (points : List Point) (at_level : ℕ) (levels : List Level) 
   pub ended : at ≡ used → left ≡ 0
   pub few_left : left < 2 ^ 38
 
-abbrev pub IsGrowing : Progress Point → GrowingTree → Type 0
-IsGrowing b tree = IsGrown b.items b.at_level tree.levels.items tree.used tree.at tree.lower tree.left
+abbrev pub IsGrowing : Contents Point → RangeRows → Type 0
+IsGrowing part rows = IsGrown part.items part.at_level rows.levels.items rows.used rows.at rows.lower rows.left
 
 -- The levels that a part keeps: those of its tree come first, and each of them all has room for what the next builder takes.
 pub record AreKept (part : Contents Point) (levels : List Level) (used : ℕ) : Type 0 where

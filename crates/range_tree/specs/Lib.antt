@@ -3,4 +3,5 @@ pub mod Rows
 pub mod Measures
 pub mod Queries
 pub mod Growing
+pub mod GrowingLaws
 pub mod Costs

@@ -7,33 +7,38 @@ ghost use Rattle.map_shapes.specs.Ascending.{sorted_ids, sorted_union};
 ghost use Rattle.map_shapes.specs.Questions.{ids_in};
 ghost use Rattle.range_tree.specs.Costs.{count_touches, list_touches};
 ghost use Rattle.range_tree.specs.Measures.{measure_in};
+ghost use Rattle.range_tree.specs.Queries.{AreOver};
 
 use crate::measure::Measure;
 use crate::places::{list_places, measure_places};
-use crate::tree::RangeTree;
-use map_shapes::{IdTally, Rect};
+use crate::rows::RangeRows;
+use builder_trait::AnsweringRows;
+use builder_trait::flat::FlatPart;
+use map_shapes::{CountIn, IdTally, ListIn, Point, Rect, SumIn};
 use query_laws::step_ledger::Steps;
 use query_laws::{NoMemory, Total};
 use std::sync::ledger::Ledger;
 
-impl RangeTree {
+impl RangeRows {
     /// Adds what the live points in a rectangle count for.
     pub(crate) fn add_measure<L: Ledger>(
         &self,
+        points: &FlatPart<Point>,
         rect: &Rect,
         measure: Measure,
         tally: &mut Total,
         steps: &mut Steps<L>,
     )
-        ensures added { tally.new ≡ capped_add tally.old (measure_in measure rect.now (items_where_true self.now.points.flags self.now.points.items)) }
-        ensures cost { Spends steps.old steps.new 0 0 (count_touches self.now.points.items) }
+        requires over { AreOver points.now self.now }
+        ensures added { tally.new ≡ capped_add tally.old (measure_in measure rect.now (items_where_true points.now.flags points.now.items)) }
+        ensures cost { Spends steps.old steps.new 0 0 (count_touches points.now.items) }
     {
-        let pieces = self.cut(rect, steps);
-        let front = measure_places(&self.points, rect, &pieces.front, measure, steps);
-        let back = measure_places(&self.points, rect, &pieces.back, measure, steps);
+        let pieces = self.cut(points, rect, steps);
+        let front = measure_places(points, rect, &pieces.front, measure, steps);
+        let back = measure_places(points, rect, &pieces.back, measure, steps);
         let mut sum = front + back;
         for span in &pieces.spans {
-            sum = sum.saturating_add(self.measure_span(span, measure, steps));
+            sum = sum.saturating_add(self.measure_span(points, span, measure, steps));
         }
         tally.add(sum);
     }
@@ -43,20 +48,72 @@ impl RangeTree {
     /// `NoMemory` where the tally wanted memory that wasn't given.
     pub(crate) fn list_points<L: Ledger>(
         &self,
+        points: &FlatPart<Point>,
         rect: &Rect,
         tally: &mut IdTally,
         steps: &mut Steps<L>,
     ) -> Result<(), NoMemory>
+        requires over { AreOver points.now self.now }
         ensures joined { OnOk result (sorted_ids tally.new
-            ≡ sorted_union (sorted_ids tally.old) (ids_in rect.now (items_where_true self.now.points.flags self.now.points.items))) }
-        ensures cost { Spends steps.old steps.new 0 0 (list_touches rect.now self.now.points) }
+            ≡ sorted_union (sorted_ids tally.old) (ids_in rect.now (items_where_true points.now.flags points.now.items))) }
+        ensures cost { Spends steps.old steps.new 0 0 (list_touches rect.now points.now) }
     {
-        let pieces = self.cut(rect, steps);
-        list_places(&self.points, rect, &pieces.front, tally, steps)?;
-        list_places(&self.points, rect, &pieces.back, tally, steps)?;
+        let pieces = self.cut(points, rect, steps);
+        list_places(points, rect, &pieces.front, tally, steps)?;
+        list_places(points, rect, &pieces.back, tally, steps)?;
         for span in &pieces.spans {
-            self.list_span(span, tally, steps)?;
+            self.list_span(points, span, tally, steps)?;
         }
         Ok(())
+    }
+}
+
+impl AnsweringRows<CountIn> for RangeRows {
+    ghost use Rattle.range_tree.specs.Costs.{count_touches};
+
+    ghost ask_touches = { λ q part. count_touches part.items };
+
+    fn ask<L: Ledger>(
+        &self,
+        points: &FlatPart<Point>,
+        question: &CountIn,
+        tally: &mut Total,
+        steps: &mut Steps<L>,
+    ) -> Result<(), NoMemory> {
+        self.add_measure(points, &question.0, Measure::Count, tally, steps);
+        Ok(())
+    }
+}
+
+impl AnsweringRows<SumIn> for RangeRows {
+    ghost use Rattle.range_tree.specs.Costs.{count_touches};
+
+    ghost ask_touches = { λ q part. count_touches part.items };
+
+    fn ask<L: Ledger>(
+        &self,
+        points: &FlatPart<Point>,
+        question: &SumIn,
+        tally: &mut Total,
+        steps: &mut Steps<L>,
+    ) -> Result<(), NoMemory> {
+        self.add_measure(points, &question.0, Measure::Weight, tally, steps);
+        Ok(())
+    }
+}
+
+impl AnsweringRows<ListIn> for RangeRows {
+    ghost use Rattle.range_tree.specs.Costs.{list_touches};
+
+    ghost ask_touches = { λ q part. list_touches q.0 part };
+
+    fn ask<L: Ledger>(
+        &self,
+        points: &FlatPart<Point>,
+        question: &ListIn,
+        tally: &mut IdTally,
+        steps: &mut Steps<L>,
+    ) -> Result<(), NoMemory> {
+        self.list_points(points, &question.0, tally, steps)
     }
 }

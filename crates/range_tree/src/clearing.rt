@@ -2,8 +2,7 @@
 ghost use Rattle.std.specs.Prelude.{◌≡◌, ◌+◌, ◌*◌, ◌^◌, ◌≤◌, ◌<◌, ℕ, true, false, Some, All, length, slice_get, slice_set};
 ghost use Rattle.query_laws.specs.StepLedger.{Spends};
 ghost use Rattle.weak_delete.specs.Places.{IsBuilt, IsLive, cleared};
-ghost use Rattle.std.specs.List.{items_where_true};
-ghost use Rattle.builder_trait.specs.Parts.{Contents, has_stamp, without, marked, OwnsStamp};
+ghost use Rattle.builder_trait.specs.Parts.{Contents};
 ghost use Rattle.map_shapes.specs.declared.point.Point.{Point};
 ghost use Rattle.range_tree.specs.Rows.{IsBlock, IsEntryOf, AreLevels, entry_at};
 ghost use Rattle.range_tree.specs.Growing.{HasRoom};
@@ -12,7 +11,6 @@ use crate::entry::Entry;
 use crate::height::LEAF_HEIGHT;
 use crate::level::Level;
 use crate::search::Preceding;
-use crate::tree::RangeTree;
 use builder_trait::partition_point;
 use map_shapes::Point;
 use query_laws::step_ledger::Steps;
@@ -41,7 +39,12 @@ impl Level {
 }
 
 /// Takes the point at a place, which has just died, out of the counts of each level that its tree uses.
-fn clear_levels<L: Ledger>(levels: &mut [Level], used: usize, entry: &Entry, steps: &mut Steps<L>)
+pub(crate) fn clear_levels<L: Ledger>(
+    levels: &mut [Level],
+    used: usize,
+    entry: &Entry,
+    steps: &mut Steps<L>,
+)
     requires { (part : Contents Point) × AreLevels part levels.old used × IsEntryOf part.items entry.now
         × (slice_get part.flags entry.now.place ≡ Some true) }
     ensures cleared { (part : Contents Point) → AreLevels part levels.old used → IsEntryOf part.items entry.now
@@ -57,27 +60,5 @@ fn clear_levels<L: Ledger>(levels: &mut [Level], used: usize, entry: &Entry, ste
         let level = &mut levels[row];
         let end = (start + len).min(level.entries.len());
         level.clear(entry, start, end, steps);
-    }
-}
-
-impl RangeTree {
-    /// Marks a point as dead, where it is there and live, and says whether it was. One mark either way.
-    pub(crate) fn mark<L: Ledger>(&mut self, item: &Point, steps: &mut Steps<L>) -> bool
-        requires { OwnsStamp (λ p. p.stamp) item.now self.old.points.items }
-        ensures found { result ≡ has_stamp (λ p. p.stamp) item.now.stamp (items_where_true self.old.points.flags self.old.points.items) }
-        ensures marked { self.new.points ≡ marked (λ p. p.stamp) item.now.stamp self.old.points }
-        ensures live { items_where_true self.new.points.flags self.new.points.items
-            ≡ without (λ p. p.stamp) item.now.stamp (items_where_true self.old.points.flags self.old.points.items) }
-        ensures cost { (h : ℕ) → length self.old.points.items ≤ 2 ^ h → Spends steps.old steps.new 0 1 (16 * ((h + 2) * (h + 2))) }
-    {
-        let Some(place) = self.points.mark_placed(item, steps) else {
-            return false;
-        };
-        let entry = Entry {
-            y: item.y,
-            place: place as u32,
-        };
-        clear_levels(&mut self.levels, self.used, &entry, steps);
-        true
     }
 }

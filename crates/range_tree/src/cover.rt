@@ -6,12 +6,12 @@ ghost use Rattle.query_laws.specs.Permuted.{Permuted};
 ghost use Rattle.row_blocks.specs.Blocks.{IsMultiple};
 ghost use Rattle.map_shapes.specs.Questions.{is_in};
 ghost use Rattle.range_tree.specs.Heights.{levels_to, most_scanned};
-ghost use Rattle.range_tree.specs.Queries.{live_in_span, live_in_places, AreWithinAbscissas, AbscissasBelow, AbscissasAbove, IsSpan, HasRow, IsBlockOrNone, IsCover, IsTaken};
+ghost use Rattle.range_tree.specs.Queries.{live_in_span, live_in_places, AreWithinAbscissas, AbscissasBelow, AbscissasAbove, IsSpan, AreOver, HasRow, IsBlockOrNone, IsCover, IsTaken};
 
 use crate::height::LEAF_HEIGHT;
+use crate::rows::RangeRows;
 use crate::search::Reach;
 use crate::span::{Span, span_in};
-use crate::tree::RangeTree;
 use arrayvec::ArrayVec;
 use builder_trait::flat::FlatPart;
 use builder_trait::{Part, partition_point};
@@ -89,23 +89,25 @@ fn whole_blocks(from: usize, to: usize, height: u32) -> Places
     }
 }
 
-impl RangeTree {
+impl RangeRows {
     /// Pushes the span of a block that a rectangle takes, if it isn't empty. Where there are no places there is none.
     fn cover_block<L: Ledger>(
         &self,
+        points: &FlatPart<Point>,
         spans: &mut ArrayVec<Span, 64>,
         height: usize,
         places: Places,
         rect: &Rect,
         steps: &mut Steps<L>,
     )
+        requires over { AreOver points.now self.now }
         requires height { HasRow self.now height }
         requires room { length spans.old.items < 64 }
         requires ordered { places.from ≤ places.to }
         requires block { IsBlockOrNone height places }
-        requires within { places.to ≤ length self.now.points.items }
-        requires abscissas { AreWithinAbscissas self.now.points places.from places.to rect.now }
-        ensures taken { IsTaken self.now rect.now places spans.old.items spans.new.items }
+        requires within { places.to ≤ length points.now.items }
+        requires abscissas { AreWithinAbscissas points.now places.from places.to rect.now }
+        ensures taken { IsTaken points.now self.now rect.now places spans.old.items spans.new.items }
         ensures cost { Spends steps.old steps.new 0 0 (2 * (height + 1)) }
     {
         if places.from == places.to {
@@ -122,14 +124,16 @@ impl RangeTree {
     /// Takes the block at the front and the one at the back of what is left, where no block of the next height has them.
     fn cover_level<L: Ledger>(
         &self,
+        points: &FlatPart<Point>,
         cover: &mut Cover,
         height: usize,
         rect: &Rect,
         steps: &mut Steps<L>,
     )
+        requires over { AreOver points.now self.now }
         requires height { HasRow self.now height }
-        requires cover { IsCover self.now rect.now height cover.old }
-        ensures cover { IsCover self.now rect.now (height + 1) cover.new }
+        requires cover { IsCover points.now self.now rect.now height cover.old }
+        ensures cover { IsCover points.now self.now rect.now (height + 1) cover.new }
         ensures low { cover.new.low ≡ cover.old.low }
         ensures high { cover.new.high ≡ cover.old.high }
         ensures cost { Spends steps.old steps.new 0 0 (4 * (height + 1)) }
@@ -143,28 +147,34 @@ impl RangeTree {
             from: inner.to,
             to: cover.to,
         };
-        self.cover_block(&mut cover.spans, height, front, rect, steps);
-        self.cover_block(&mut cover.spans, height, back, rect, steps);
+        self.cover_block(points, &mut cover.spans, height, front, rect, steps);
+        self.cover_block(points, &mut cover.spans, height, back, rect, steps);
         cover.from = inner.from;
         cover.to = inner.to;
     }
 
     /// Cuts the points of a rectangle into spans, at most two of each level, and the places at both ends that no whole leaf has.
-    pub(crate) fn cut<L: Ledger>(&self, rect: &Rect, steps: &mut Steps<L>) -> Pieces
+    pub(crate) fn cut<L: Ledger>(
+        &self,
+        points: &FlatPart<Point>,
+        rect: &Rect,
+        steps: &mut Steps<L>,
+    ) -> Pieces
+        requires over { AreOver points.now self.now }
         ensures spans { All (IsSpan self.now) result.spans.items }
         ensures few { length result.spans.items ≤ 2 * self.now.used }
-        ensures points { Permuted (flat_map (live_in_span self.now) result.spans.items
-            ++ (live_in_places self.now.points rect.now result.front ++ live_in_places self.now.points rect.now result.back))
-            (filter (is_in rect.now) (items_where_true self.now.points.flags self.now.points.items)) }
-        ensures front { (result.front.from ≤ result.front.to) × (result.front.to ≤ length self.now.points.items) }
-        ensures back { (result.back.from ≤ result.back.to) × (result.back.to ≤ length self.now.points.items) }
-        ensures ends { (result.front.to - result.front.from) + (result.back.to - result.back.from) ≤ min most_scanned (length self.now.points.items) }
-        ensures cost { (h : ℕ) → length self.now.points.items ≤ 2 ^ h
+        ensures points { Permuted (flat_map (live_in_span points.now self.now) result.spans.items
+            ++ (live_in_places points.now rect.now result.front ++ live_in_places points.now rect.now result.back))
+            (filter (is_in rect.now) (items_where_true points.now.flags points.now.items)) }
+        ensures front { (result.front.from ≤ result.front.to) × (result.front.to ≤ length points.now.items) }
+        ensures back { (result.back.from ≤ result.back.to) × (result.back.to ≤ length points.now.items) }
+        ensures ends { (result.front.to - result.front.from) + (result.back.to - result.back.from) ≤ min most_scanned (length points.now.items) }
+        ensures cost { (h : ℕ) → length points.now.items ≤ 2 ^ h
             → Spends steps.old steps.new 0 0 (4 * (h + 1) + 4 * (levels_to h * (h + 1))) }
     {
         // By its contract the points are few, and each has its flag.
-        let _len = self.points.len();
-        let ends = places_in(&self.points, rect, steps);
+        let _len = points.len();
+        let ends = places_in(points, rect, steps);
         let middle = whole_blocks(ends.from, ends.to, LEAF_HEIGHT as u32);
         let mut cover = Cover {
             spans: ArrayVec::new(),
@@ -174,7 +184,7 @@ impl RangeTree {
             high: middle.to,
         };
         for step in 0..self.used {
-            self.cover_level(&mut cover, step + LEAF_HEIGHT, rect, steps);
+            self.cover_level(points, &mut cover, step + LEAF_HEIGHT, rect, steps);
         }
         Pieces {
             spans: cover.spans,

@@ -1,37 +1,24 @@
-//! A tree under construction, an entry a turn.
-ghost use Rattle.std.specs.Prelude.{◌≡◌, ◌+◌, ◌-◌, ◌*◌, ◌<◌, ◌≤◌, ◌^◌, ◌∷◌, ◌++◌, [], ℕ, List, All, length, replicate, true, false, slice_get, slice_set, Some, map, IfOk, ◌==◌};
+//! The levels grow, an entry a turn.
+//!
+//! While a level is counted, each of its entries is copied into the next one; and while its counts are turned, that copy is parted
+//! into the halves of its blocks, each in the order of the block (stable).
+ghost use Rattle.std.specs.Prelude.{◌≡◌, ◌+◌, ◌-◌, ◌*◌, ◌<◌, ◌≤◌, ◌^◌, ◌∷◌, ◌++◌, [], ℕ, All, length, replicate, true, false, slice_get, slice_set, Some, ◌==◌};
 ghost use Rattle.query_laws.specs.StepLedger.{Spends};
-ghost use Rattle.map_shapes.specs.declared.point.Point.{Point};
-ghost use Rattle.range_tree.specs.Rows.{IsEntryOf, before, entry_at, counted};
+ghost use Rattle.range_tree.specs.Rows.{IsEntryOf, entry_at, counted};
 ghost use Rattle.range_tree.specs.declared.level.Level.{Level};
-ghost use Rattle.range_tree.specs.Heights.{levels_for, levels_to, height_at};
-ghost use Rattle.range_tree.specs.Growing.{IsPutting, IsGrowing, emptied, start_of, target_of, lower_after};
-ghost use Rattle.builder_trait.specs.Builders.{begun, with_put, FitsSecond};
+ghost use Rattle.range_tree.specs.Heights.{levels_to, height_at};
+ghost use Rattle.range_tree.specs.Growing.{IsGrowing, start_of, target_of, lower_after};
+ghost use Rattle.builder_trait.specs.Builders.{all_live};
 
 use crate::entry::Entry;
-use crate::height::{LEAF_HEIGHT, levels};
+use crate::height::LEAF_HEIGHT;
 use crate::level::Level;
+use crate::rows::RangeRows;
 use builder_trait::flat::FlatBuilder;
 use map_shapes::Point;
-use query_laws::NoMemory;
 use query_laws::step_ledger::Steps;
 use row_blocks::block_len;
-use std::alloc::Global;
 use std::sync::ledger::Ledger;
-
-/// A tree that grows: the levels from the whole down to the leaves, of which `used` are needed.
-///
-/// They are built one after another. While the level at `at` is counted, each of its entries is copied into the next one; and
-/// while its counts are turned, that copy is parted into the halves of its blocks, each in the order of the block (stable).
-/// Of the block that is parted, `lower` entries are in its first half.
-#[derive(Drop)]
-pub(crate) struct GrowingTree {
-    pub(crate) levels: Vec<Level>,
-    pub(crate) used: usize,
-    pub(crate) at: usize,
-    pub(crate) lower: usize,
-    pub(crate) left: u64,
-}
 
 /// Puts the next entry of a level into its counts, which are sealed after the last one; and gives the entry.
 fn count_entry<L: Ledger>(
@@ -101,105 +88,17 @@ fn lower_next(half: usize, k: usize, lower: usize, entry: Entry) -> usize
     }
 }
 
-impl GrowingTree {
-    /// Levels for up to `2^level` points, all of them empty.
-    pub(crate) fn room(alloc: Global, level: u32) -> Result<GrowingTree, NoMemory>
-        requires { level < 32 }
-        ensures { IfOk result (λ tree. IsPutting (begun level) tree.levels.items × (tree.left ≡ 0)) }
-    {
-        let cap = 2usize.pow(level);
-        let count = (level as usize).saturating_sub(LEAF_HEIGHT - 1);
-        let mut levels = Vec::with_capacity(alloc, count)?;
-        for _ in 0..count {
-            levels.push(Level::room(alloc, cap)?)?;
-        }
-        Ok(GrowingTree {
-            levels,
-            used: 0,
-            at: 0,
-            lower: 0,
-            left: 0,
-        })
-    }
-
-    /// An empty tree on levels that were used, each of which is emptied. It counts nothing.
-    pub(crate) fn recycle(mut levels: Vec<Level>) -> GrowingTree
-        ensures emptied { result.levels.items ≡ map emptied levels.items }
-        ensures left { result.left ≡ 0 }
-    {
-        for level in levels.iter_mut() {
-            level.reset();
-        }
-        GrowingTree {
-            levels,
-            used: 0,
-            at: 0,
-            lower: 0,
-            left: 0,
-        }
-    }
-
-    /// Puts the next point of order 1, which the points take next, into the top level: one touch.
-    pub(crate) fn put<L: Ledger>(
+impl RangeRows {
+    /// Counts the next entry of the level that grows, and copies it into the level below, where there is one.
+    pub(crate) fn count_next<L: Ledger>(
         &mut self,
         points: &FlatBuilder<Point>,
-        item: &Point,
-        place: usize,
         steps: &mut Steps<L>,
     )
-        requires putting { IsPutting points.now self.old.levels.items }
-        requires fits { FitsSecond (before 1) points.now item.now place }
-        ensures putting { IsPutting (with_put 1 item.now place points.now) self.new.levels.items }
-        ensures left { self.new.left ≡ self.old.left }
-        ensures cost { Spends steps.old steps.new 0 0 1 }
-    {
-        // By its contract there is room for it.
-        let _len = points.len();
-        let entry = Entry {
-            y: item.y,
-            place: place as u32,
-        };
-        let deep = self.levels.len();
-        if deep > 0 {
-            self.levels[0].entries.push(entry, steps);
-        }
-    }
-
-    /// Begins to grow, once all points were put in both orders. It counts nothing.
-    pub(crate) fn begin(&mut self, points: &FlatBuilder<Point>)
-        requires putting { IsPutting points.now self.old.levels.items }
-        requires complete { length points.now.reordered ≡ length points.now.items }
-        ensures growing { IsGrowing points.now self.new }
-        ensures left { self.new.left ≡ levels_for (length points.now.items) * (2 * length points.now.items) }
-    {
-        let len = points.len();
-        self.used = levels(len);
-        self.left = self.used as u64 * (2 * len as u64);
-        self.at = 0;
-        self.lower = 0;
-    }
-
-    /// One unit of the work: one turn, and eleven touches at most.
-    pub(crate) fn grow<L: Ledger>(&mut self, points: &FlatBuilder<Point>, steps: &mut Steps<L>)
-        requires growing { IsGrowing points.now self.old }
-        requires more { 0 < self.old.left }
-        ensures growing { IsGrowing points.now self.new }
-        ensures left { self.new.left + 1 ≡ self.old.left }
-        ensures cost { Spends steps.old steps.new 1 0 11 }
-    {
-        if self.levels[self.at].counts.is_sealed() {
-            self.part_next(points, steps);
-        } else {
-            self.count_next(points, steps);
-        }
-    }
-
-    /// Counts the next entry of the level that grows, and copies it into the level below, where there is one.
-    fn count_next<L: Ledger>(&mut self, points: &FlatBuilder<Point>, steps: &mut Steps<L>)
-        requires growing { IsGrowing points.now self.old }
+        requires growing { IsGrowing (all_live points.now) self.old }
         requires more { 0 < self.old.left }
         requires open { (level : Level) → slice_get self.old.levels.items self.old.at ≡ Some level → level.counts.sealed ≡ false }
-        ensures growing { IsGrowing points.now self.new }
+        ensures growing { IsGrowing (all_live points.now) self.new }
         ensures left { self.new.left + 1 ≡ self.old.left }
         ensures cost { Spends steps.old steps.new 1 0 7 }
     {
@@ -211,11 +110,11 @@ impl GrowingTree {
     }
 
     /// Turns one node of the counts of the level that grows, and moves an entry of the level below into its half.
-    fn part_next<L: Ledger>(&mut self, points: &FlatBuilder<Point>, steps: &mut Steps<L>)
-        requires growing { IsGrowing points.now self.old }
+    pub(crate) fn part_next<L: Ledger>(&mut self, points: &FlatBuilder<Point>, steps: &mut Steps<L>)
+        requires growing { IsGrowing (all_live points.now) self.old }
         requires more { 0 < self.old.left }
         requires closed { (level : Level) → slice_get self.old.levels.items self.old.at ≡ Some level → level.counts.sealed ≡ true }
-        ensures growing { IsGrowing points.now self.new }
+        ensures growing { IsGrowing (all_live points.now) self.new }
         ensures left { self.new.left + 1 ≡ self.old.left }
         ensures cost { Spends steps.old steps.new 1 0 11 }
     {

@@ -6,11 +6,10 @@
 //! level at most, between two places found by binary search, and some at both ends that fill no leaf, which are scanned. Live
 //! counts over each row forget points without changing the shape (weak deletion, Overmars 1983).
 //!
-//! A part keeps its points by the flat kind, and its levels beside it.
+//! A part keeps its points by the flat kind, and these levels, the rows of the kind, beside them.
 #![tactic(auto)]
 
 mod answers;
-mod builder;
 mod clearing;
 mod cover;
 mod entry;
@@ -19,11 +18,9 @@ mod height;
 mod level;
 mod listing;
 mod measure;
-mod part;
 mod places;
+mod rows;
 mod search;
 mod span;
-mod tree;
 
-pub use builder::RangeBuilder;
-pub use part::RangePart;
+pub use rows::{RangeBuilder, RangePart, RangeRows};

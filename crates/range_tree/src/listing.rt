@@ -3,12 +3,12 @@ ghost use Rattle.std.specs.Prelude.{◌≡◌, ◌+◌, ◌*◌, ◌^◌, ◌<�
 ghost use Rattle.query_laws.specs.StepLedger.{Spends};
 ghost use Rattle.weak_delete.specs.Places.{IsLive, is_live};
 ghost use Rattle.range_tree.specs.Rows.{IsLevel};
-ghost use Rattle.range_tree.specs.Queries.{live_in_span, IsSpan};
+ghost use Rattle.range_tree.specs.Queries.{live_in_span, AreOver, IsSpan};
 
 use crate::entry::Entry;
 use crate::level::Level;
+use crate::rows::RangeRows;
 use crate::span::Span;
-use crate::tree::RangeTree;
 use builder_trait::Part;
 use builder_trait::flat::FlatPart;
 use map_shapes::{IdTally, Point};
@@ -42,27 +42,29 @@ fn live_from<L: Ledger>(
     (k, level.entries.at(k, steps))
 }
 
-impl RangeTree {
+impl RangeRows {
     /// Pushes the identifiers of the live points of a span: two prefixes, and for each point a look at the next entry, and a search
     /// by its rank where that one is dead.
     pub(crate) fn list_span<L: Ledger>(
         &self,
+        points: &FlatPart<Point>,
         span: &Span,
         tally: &mut IdTally,
         steps: &mut Steps<L>,
     ) -> Result<(), NoMemory>
-        requires { IsSpan self.now span.now }
-        ensures listed { OnOk result (tally.new ≡ tally.old ++ map (λ p. p.id) (live_in_span self.now span.now)) }
-        ensures cost { (h : ℕ) → length self.now.points.items ≤ 2 ^ h → Spends steps.old steps.new 0 0
-            (4 * (h + 2) + length (live_in_span self.now span.now) * (5 * (h + 2))) }
+        requires over { AreOver points.now self.now }
+        requires span { IsSpan self.now span.now }
+        ensures listed { OnOk result (tally.new ≡ tally.old ++ map (λ p. p.id) (live_in_span points.now self.now span.now)) }
+        ensures cost { (h : ℕ) → length points.now.items ≤ 2 ^ h → Spends steps.old steps.new 0 0
+            (4 * (h + 2) + length (live_in_span points.now self.now span.now) * (5 * (h + 2))) }
     {
         let level = &self.levels[span.row];
         let first = level.counts.prefix(span.from, steps);
         let last = level.counts.prefix(span.to, steps);
         let mut k = span.from;
         for rank in first..last {
-            let (found, entry) = live_from(&self.points, level, k, rank as usize, steps);
-            tally.push(self.points.item(0, entry.place as usize, steps).id)?;
+            let (found, entry) = live_from(points, level, k, rank as usize, steps);
+            tally.push(points.item(0, entry.place as usize, steps).id)?;
             k = found + 1;
         }
         Ok(())

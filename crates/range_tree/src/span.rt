@@ -8,12 +8,13 @@ ghost use Rattle.map_shapes.specs.declared.point.Point.{Point};
 ghost use Rattle.map_shapes.specs.Questions.{is_in};
 ghost use Rattle.range_tree.specs.Measures.{measure_of};
 ghost use Rattle.range_tree.specs.Rows.{IsBlock, IsRow};
-ghost use Rattle.range_tree.specs.Queries.{live_between, live_in_slice, live_in_span, IsSpan, AreWithinAbscissas};
+ghost use Rattle.range_tree.specs.Queries.{live_between, live_in_slice, live_in_span, IsSpan, AreOver, AreWithinAbscissas};
 
 use crate::entry::Entry;
 use crate::measure::Measure;
+use crate::rows::RangeRows;
 use crate::search::Reach;
-use crate::tree::RangeTree;
+use builder_trait::flat::FlatPart;
 use builder_trait::partition_point;
 use map_shapes::{Point, Rect};
 use query_laws::step_ledger::{Row, Steps};
@@ -54,17 +55,19 @@ pub(crate) fn span_in<L: Ledger>(
     Span { row, from, to }
 }
 
-impl RangeTree {
+impl RangeRows {
     /// What the live entries of a span count for, by its row's counts.
     pub(crate) fn measure_span<L: Ledger>(
         &self,
+        points: &FlatPart<Point>,
         span: &Span,
         measure: Measure,
         steps: &mut Steps<L>,
     ) -> u64
-        requires { IsSpan self.now span.now }
-        ensures sum { result ≡ sum_by (measure_of measure) (live_in_span self.now span.now) }
-        ensures cost { (h : ℕ) → length self.now.points.items ≤ 2 ^ h → Spends steps.old steps.new 0 0 (2 * (h + 2)) }
+        requires over { AreOver points.now self.now }
+        requires span { IsSpan self.now span.now }
+        ensures sum { result ≡ sum_by (measure_of measure) (live_in_span points.now self.now span.now) }
+        ensures cost { (h : ℕ) → length points.now.items ≤ 2 ^ h → Spends steps.old steps.new 0 0 (2 * (h + 2)) }
     {
         let counts = &self.levels[span.row].counts;
         match measure {
