@@ -1,14 +1,16 @@
 -- What one more entry makes of the first few.
-use Rattle.std.proofs.Common.{◌≡◌, ℕ, zero, suc, ◌-◌, ◌+◌, ◌≤◌, ◌<◌, Bool, true, false, cond, List, [], ◌∷◌, ◌++◌, length, take, Option, Some, None, slice_get, refl, sym, ap, ◌∙◌, arith}
+use Rattle.std.proofs.Common.{◌≡◌, ℕ, zero, suc, ◌-◌, ◌+◌, ◌≤◌, ◌<◌, Bool, true, false, cond, List, [], ◌∷◌, ◌++◌, length, take, Option, Some, None, slice_get, refl, sym, ap, ◌∙◌, arith, append-nil, append_assoc}
 use Rattle.std.specs.Prelude.{IsTrue, MatchOption, not, insert, take_while}
-use Rattle.std.specs.List.{prefix_len}
+use Rattle.std.specs.List.{prefix_len, All}
+use Rattle.std.specs.Option.{option_to_list}
+use Rattle.std.proofs.lemmas.List.Elements.{All-tail}
 use Rattle.std.proofs.lemmas.Grind.{common_steps}
 use Rattle.std.proofs.lemmas.List.{take_all, take_at, length-take}
 use Rattle.std.proofs.lemmas.List.Folds.{length-prefix_len}
 use Rattle.query_laws.proofs.Permutations.{Permuted-append_comm}
 use Rattle.map_model.specs.Found.{insert_by, sorted_by}
-use Rattle.map_questions.specs.FirstFew.{IsTotalOrder, IsFirstFew, first_few_of_both}
-use Rattle.map_questions.specs.FirstFewLaws.{reflexive, otherwise, sorted_by-Permuted, sorted_tail, sorted_head, IsFirstFew-first_few}
+use Rattle.map_questions.specs.FirstFew.{IsTotalOrder, IsFirstFew, first_few, first_few_of_both, first, first_of_both}
+use Rattle.map_questions.specs.FirstFewLaws.{front-take, listed-front, first_few-append_left, first_few-append_right, first_few-IsFirstFew, alone-IsFirstFew, reflexive, otherwise, sorted_by-Permuted, sorted_tail, sorted_head, IsFirstFew-first_few}
 
 module _ {A : Type 0} (le : A → A → Bool) where
   -- an entry goes in before the first that it doesn't come after
@@ -111,3 +113,25 @@ module _ {A : Type 0} {le : A → A → Bool} (order : IsTotalOrder le) where
   pub first_few-worse : (k : ℕ) (xs : List A) (x : A) (b : Bool) → IsFirstFew le k xs → 1 ≤ k
       → MatchOption (slice_get xs (k - 1)) (IsTrue b) (λ w. b ≡ not (le w x)) → b ≡ false → first_few_of_both le k xs (x ∷ []) ≡ xs
   first_few-worse k xs x b h some takes worse_one = no_room k xs x (slice_get xs (k - 1)) b h some refl takes worse_one
+
+  -- Many that don't come before the last one change nothing either: what a part may leave out.
+  all_worse : (k : ℕ) (xs ys : List A) (w : A) → IsFirstFew le k xs → 1 ≤ k → slice_get xs (k - 1) ≡ Some w → All (λ y. le w y ≡ true) ys
+      → first_few le k (xs ++ ys) ≡ xs
+  all_worse k xs [] w h some at before = ap (first_few le k) (append-nil xs) ∙ first_few-IsFirstFew order k xs h
+  all_worse k xs (y ∷ ys) w h some at before =
+      ap (first_few le k) (sym (append_assoc xs (y ∷ []) ys)) ∙ sym (first_few-append_left order k (xs ++ y ∷ []) ys)
+      ∙ ap (λ zs. first_few le k (zs ++ ys)) (worse (k - 1) k xs y w (omega arith) h at (before 0 w (omega arith)))
+      ∙ all_worse k xs ys w h some at (All-tail (λ z. le w z ≡ true) y ys before)
+
+  pub first_few-all_worse : (k : ℕ) (xs ys : List A) (w : A) → IsFirstFew le k xs → 1 ≤ k → slice_get xs (k - 1) ≡ Some w
+      → All (λ y. le w y ≡ true) ys → first_few_of_both le k xs (first_few le k ys) ≡ xs
+  first_few-all_worse k xs ys w h some at before = first_few-append_right order k xs ys ∙ all_worse k xs ys w h some at before
+
+  listed-first : (ys : List A) → option_to_list (first le ys) ≡ first_few le 1 ys
+  listed-first ys =
+      ap option_to_list (sym (front-take (sorted_by le ys))) ∙ listed-front (take 1 (sorted_by le ys)) (omega (arith, length-take 1 (sorted_by le ys)))
+
+  pub first-all_worse : (w : A) (ys : List A) → All (λ y. le w y ≡ true) ys → first_of_both le (Some w) (first le ys) ≡ Some w
+  first-all_worse w ys before =
+      ap (λ zs. slice_get (sorted_by le (w ∷ zs)) 0) (listed-first ys) ∙ sym (front-take (sorted_by le (w ∷ first_few le 1 ys)))
+      ∙ ap (λ zs. slice_get zs 0) (first_few-all_worse 1 (w ∷ []) ys w (alone-IsFirstFew order (Some w)) (omega arith) refl before)

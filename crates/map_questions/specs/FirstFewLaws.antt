@@ -1,5 +1,5 @@
 -- That the first few entries of parts are joined in any order.
-use Rattle.std.proofs.Common.{◌≡◌, ℕ, zero, suc, ◌≤◌, ◌<◌, Bool, true, false, cond, List, [], ◌∷◌, ◌++◌, length, take, map, Option, Some, None, slice_get, refl, sym, ap, ◌∙◌, arith, inl, inr, append-nil, append_assoc}
+use Rattle.std.proofs.Common.{◌≡◌, ℕ, zero, suc, ◌≤◌, Bool, true, false, cond, List, [], ◌∷◌, ◌++◌, length, take, Option, Some, None, slice_get, refl, sym, ap, ◌∙◌, arith, inl, inr, append-nil, append_assoc}
 use Rattle.std.specs.Option.{option_to_list}
 use Rattle.std.proofs.lemmas.Grind.{common_steps}
 use Rattle.std.proofs.lemmas.List.{take-take, take_all, length-take}
@@ -13,7 +13,7 @@ use Rattle.map_questions.specs.FirstFew.{IsTotalOrder, IsFirstFew, first_few, fi
 
 module _ {A : Type 0} where
   -- lists of at most one are options
-  front-take : (xs : List A) → slice_get (take 1 xs) 0 ≡ slice_get xs 0
+  pub front-take : (xs : List A) → slice_get (take 1 xs) 0 ≡ slice_get xs 0
   front-take [] = refl
   front-take (x ∷ xs) = refl
 
@@ -21,7 +21,7 @@ module _ {A : Type 0} where
   front-listed None = refl
   front-listed (Some x) = refl
 
-  listed-front : (xs : List A) → length xs ≤ 1 → option_to_list (slice_get xs 0) ≡ xs
+  pub listed-front : (xs : List A) → length xs ≤ 1 → option_to_list (slice_get xs 0) ≡ xs
   listed-front [] few = refl
   listed-front (x ∷ []) few = refl
   listed-front (x ∷ y ∷ ys) few = absurd (omega arith)
@@ -96,7 +96,7 @@ module _ {A : Type 0} {le : A → A → Bool} (order : IsTotalOrder le) where
   take-insert_by (suc k) x [] = refl
   take-insert_by (suc k) x (y ∷ ys) = grind (arith, common_steps, take-insert_by k x ys, take-cons_take k y ys)
 
-  first_few-append_right : (k : ℕ) (xs ys : List A) → first_few le k (xs ++ first_few le k ys) ≡ first_few le k (xs ++ ys)
+  pub first_few-append_right : (k : ℕ) (xs ys : List A) → first_few le k (xs ++ first_few le k ys) ≡ first_few le k (xs ++ ys)
   first_few-append_right k [] ys =
       ap (take k) (sorted_by-take k (sorted_by le ys) (sorted_by-sorted_by ys)) ∙ take-take k k (sorted_by le ys) (omega arith)
   first_few-append_right k (x ∷ xs) ys =
@@ -107,7 +107,7 @@ module _ {A : Type 0} {le : A → A → Bool} (order : IsTotalOrder le) where
   first_few-append_comm : (k : ℕ) (xs ys : List A) → first_few le k (xs ++ ys) ≡ first_few le k (ys ++ xs)
   first_few-append_comm k xs ys = ap (take k) (sorted_by-Permuted (Permuted-append_comm xs ys))
 
-  first_few-append_left : (k : ℕ) (xs ys : List A) → first_few le k (first_few le k xs ++ ys) ≡ first_few le k (xs ++ ys)
+  pub first_few-append_left : (k : ℕ) (xs ys : List A) → first_few le k (first_few le k xs ++ ys) ≡ first_few le k (xs ++ ys)
   first_few-append_left k xs ys =
       first_few-append_comm k (first_few le k xs) ys ∙ first_few-append_right k ys xs ∙ first_few-append_comm k ys xs
 
@@ -133,7 +133,7 @@ module _ {A : Type 0} {le : A → A → Bool} (order : IsTotalOrder le) where
     neutral = λ a h. ap (first_few le k) (append-nil a) ∙ first_few-IsFirstFew k a h;
   }
 
-  alone-IsFirstFew : (a : Option A) → IsFirstFew le 1 (option_to_list a)
+  pub alone-IsFirstFew : (a : Option A) → IsFirstFew le 1 (option_to_list a)
   alone-IsFirstFew None = record { sorted = refl; few = omega arith }
   alone-IsFirstFew (Some x) = record { sorted = refl; few = omega arith }
 

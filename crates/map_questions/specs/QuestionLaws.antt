@@ -1,5 +1,5 @@
 -- That the questions are decomposable.
-use Rattle.std.proofs.Common.{◌≡◌, ℕ, Bool, List, [], ◌∷◌, map, take, cond, refl, ap, ◌∙◌, arith, slice_get, Option, None}
+use Rattle.std.proofs.Common.{◌≡◌, ℕ, Bool, List, [], ◌∷◌, map, take, cond, refl, ap, ◌∙◌, arith, slice_get, None}
 use Rattle.std.specs.List.Sorted.{IsNonDecreasing}
 use Rattle.std.specs.Option.{option_map}
 use Rattle.std.specs.Prelude.{nat_le, IsTrue, ◌⊎◌}
@@ -9,16 +9,13 @@ use Rattle.std.proofs.lemmas.List.{take-map}
 use Rattle.query_laws.specs.Decomposable.{IsDecomposable}
 use Rattle.query_laws.specs.Sums.{capped_add, FitsU64, IsDecomposable-capped_sum}
 use Rattle.map_model.specs.Shape.{is_between, is_above, is_stabbed, squared_distance, height_of}
-use Rattle.map_model.specs.State.{Item}
-use Rattle.map_model.specs.Found as model
 use Rattle.map_model.specs.Found.{insert_by, sorted_by}
-use Rattle.map_model.specs.Answer.{ids_with}
 use Rattle.map_shapes.specs.declared.found.Found.{Found}
 use Rattle.map_shapes.specs.declared.peak.Peak.{Peak}
-use Rattle.map_shapes.specs.Found.{found_of, peak_of, found_from, peak_from, nearer_le, higher_le}
+use Rattle.map_shapes.specs.Found.{found_from, peak_from, nearer_le, higher_le}
 use Rattle.map_shapes.specs.Point.{item_of}
 use Rattle.map_shapes.specs.Segment.{item_of_segment}
-use Rattle.map_shapes.specs.Ascending.{sorted_ids, sorted_union}
+use Rattle.map_shapes.specs.Ascending.{sorted_union}
 use Rattle.map_shapes.specs.AscendingLaws.{IsDecomposable-sorted_ids, sorted_ids-sorted_by}
 use Rattle.map_shapes.specs.QuestionLaws.{IsDecomposable-filter, IsDecomposable-map}
 use Rattle.map_questions.specs.AnswerLaws.{IsDecomposable-same}

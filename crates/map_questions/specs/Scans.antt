@@ -1,11 +1,10 @@
 -- The answers are those of the definitions' scan of all items.
-use Rattle.std.proofs.Common.{◌≡◌, ℕ, ◌^◌, ◌≤◌, ◌<◌, Bool, List, [], ◌∷◌, length, map, take, refl, sym, ap, ◌∙◌, arith, slice_get, Option, Some, None}
+use Rattle.std.proofs.Common.{◌≡◌, ℕ, ◌^◌, ◌≤◌, ◌<◌, Bool, List, [], ◌∷◌, length, map, take, refl, ap, arith, slice_get, Option, Some, None}
 use Rattle.std.specs.Option.{option_map}
 use Rattle.std.specs.Prelude.{count_by}
 use Rattle.std.proofs.lemmas.Grind.{common_steps}
 use Rattle.std.proofs.lemmas.List.{length-map}
 use Rattle.map_model.specs.Shape.{is_stabbed}
-use Rattle.map_model.specs.Found as model
 use Rattle.map_model.specs.State.{Item}
 use Rattle.map_model.specs.Answer.{answer_over, by_distance, by_height, Near, Nearest, Above, Top, Stab, StabCount, NearestOne, NearestOnes, ListedAbove, Highest, Stabbed, StabCounted}
 use Rattle.map_shapes.specs.declared.point.Point.{Point}

@@ -1,4 +1,4 @@
-use Rattle.std.proofs.Common.{◌≡◌, ◌-◌, ◌≤◌, Bool, true, false, not, List, [], ◌∷◌, take, slice_get, sym, ap, ◌∙◌, subst}
+use Rattle.std.proofs.Common.{◌≡◌, ◌-◌, ◌≤◌, Bool, true, not, List, [], ◌∷◌, take, slice_get, sym, ap, ◌∙◌, subst}
 use Rattle.std.specs.Prelude.{IsTrue, MatchOption}
 use Rattle.map_model.specs.Found.{insert_by}
 use Rattle.map_shapes.specs.declared.found.Found.{Found}
