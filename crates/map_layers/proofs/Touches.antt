@@ -23,7 +23,7 @@ use Rattle.map_model.proofs.Levels.{IsLog-halvings}
 use Rattle.map_shapes.specs.declared.asked.Asked.{Asked}
 use Rattle.map_shapes.specs.declared.point.Point.{Point}
 use Rattle.map_shapes.specs.Cost.{asked_of}
-use Rattle.map_layers.specs.Costs.{IsAsking, rows_of, touches_in_part}
+use Rattle.map_layers.specs.Costs.{IsAsking, IsReading, rows_of, touches_in_part}
 use Rattle.map_layers.specs.Indexing.{IsOf}
 use Rattle.map_layers.specs.Layer.{Layered, layer_of, stamp_of}
 use Rattle.map_layers.proofs.PointItems.{as_many_items}
@@ -145,3 +145,22 @@ module _ (l : Layered) (few : length l.entries ≤ 2 ^ 16) (lists : Point → Bo
       ) in
       let exact = lap-exact bound spent (omega (arith, all, some, some')) small lap in
       record { bounds = bounds; touches = exact.0; few_touches = omega (arith, exact.1, within); turns = exact.2; marks = exact.3 }
+
+-- ---- a question only reads
+
+pub only_reads : {old new : Counts} {n : ℕ} → Spends old new 0 0 n → IsReading old new
+only_reads spent = record {
+  turns = omega (arith, spent.turns_spent);
+  marks = omega (arith, spent.marks_spent);
+  touches = spent.touches_kept;
+  same_lap = spent.same_lap;
+}
+
+-- one that isn't put
+pub reads_nothing : {old new : Counts} → new ≡ old → IsReading old new
+reads_nothing {old} same = subst (IsReading old) (sym same) (record {
+  turns = refl;
+  marks = refl;
+  touches = omega arith;
+  same_lap = refl;
+})

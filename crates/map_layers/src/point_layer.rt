@@ -179,6 +179,7 @@ impl PointLayer {
     /// Puts a question to the points, by the index for rectangles.
     ///
     /// `NoIndex` where the layer has none, and `NoMemory` where the answer wanted memory that wasn't given.
+    #[tactic(auto, using(crate::proofs::Touches::only_reads, crate::proofs::Touches::reads_nothing))]
     pub fn ask_range<Q: Question<Item = Point>, L: Ledger>(
         &self,
         alloc: Global,

@@ -7,13 +7,13 @@ use Rattle.map_model.specs.Answer.{answer_over}
 use Rattle.map_model.specs.Cost.{IsAsked}
 use Rattle.map_shapes.specs.Cost.{asked_of}
 use Rattle.map_shapes.specs.declared.asked.Asked.{Asked}
-use Rattle.map_layers.specs.Costs.{IsAskingIn, IsEveryPartIn}
+use Rattle.map_layers.specs.Costs.{IsAskingIn, IsEveryPartIn, IsReading}
 use Rattle.map_layers.specs.Layer.{items_of, layer_of, IsAskRefusal}
 use Rattle.map_layers.specs.Layers.{map_of, named}
 use Rattle.map_layers.proofs.Answering.{IsAnswered-ask, every_part, unfound-ask}
 use Rattle.map_layers.proofs.Names.{layer_named-Some, layer_named-None}
 use Rattle.map_layers.proofs.PointItems.{as_many_items}
-use Rattle.map_layers.proofs.Touches.{IsAsking-index}
+use Rattle.map_layers.proofs.Touches.{IsAsking-index, reads_nothing}
 use Rattle.map_layers.proofs.layers.Layers.ask.Goals as goal
 
 pub returns-in_default-clause-answered : goal.returns-in_default-clause-answered
@@ -43,6 +43,15 @@ returns-clause-answered g c =
     IsAnswered-ask (map_of c.args.self.now) c.args.name.now (g.Q.RangeQuestion.asks q) (g.Q.RangeQuestion.asks_points q) (g.Q.RangeQuestion.asks_range q)
     l (layer_named-Some c.args.name.now c.args.self.now.layers found) g.Q.Question.refusable (g.met.Q.RangeQuestion.refuses q)
     g.Q.RangeQuestion.tells (Ok c.in_ok-given.given.answer) c.in_ok-given.ensures.refused same
+
+pub returns-in_default-clause-reads : goal.returns-in_default-clause-reads
+returns-in_default-clause-reads g c = reads_nothing c.start_lap.ensures
+
+pub returns-in_err-given-clause-reads : goal.returns-in_err-given-clause-reads
+returns-in_err-given-clause-reads g c = subst (λ s. IsReading s c.ask_range.new.steps) c.start_lap.ensures c.ask_range.ensures.reads
+
+pub returns-clause-reads : goal.returns-clause-reads
+returns-clause-reads g c = subst (λ s. IsReading s c.ask_range.new.steps) c.start_lap.ensures c.ask_range.ensures.reads
 
 pub returns-clause-every_part : goal.returns-clause-every_part
 returns-clause-every_part g c =
