@@ -1,9 +1,10 @@
 -- What a run says of its endings.
 use Rattle.std.proofs.Common.{◌≡◌, ℕ, ◌+◌, ◌≤◌, ◌⊎◌, inl, inr, refl, Some, None, List, [], ◌∷◌, ◌++◌, length, Option, sym, ap, ◌∙◌, subst, arith, length-append, take_at}
 use Rattle.std.specs.Io.KnownBytes.{Consumes}
+use Rattle.map_io.specs.Faults.{Rose}
 use Rattle.map_model.specs.Text.{whole_lines}
-use Rattle.map_session.specs.Answering.{Moment, IsAnswered}
-use Rattle.map_session.proofs.Lines.{stopped_in_more, stopped_in_text}
+use Rattle.map_session.specs.Answering.{Moment, IsAnswered, IsStopped}
+use Rattle.map_session.proofs.Lines.{stopped_in_more, stopped_in_text, stopped_rose}
 use Rattle.live_map.specs.declared.intake.Ending.{Ending}
 use Rattle.live_map.specs.declared.intake.Ending.TheVariants.{End, Fault, TooLong}
 use Rattle.live_map.specs.declared.run.Status.{Status}
@@ -83,3 +84,13 @@ complete_text ending statuses.TooLong text left rest' start now t a short read w
     let taken : TakenIn TooLong (Some left) rest' text = subst (λ (e : Ending). TakenIn e (Some left) rest' text) a.0 t in
     absurd (let none : ⊥ = omega (arith, taken.0, consumed_fits left (text ++ taken.1.0 ∷ []) rest' taken.1.1, length-append text (taken.1.0 ∷ []), short) in none)
 complete_text ending statuses.NoMemory text left rest' start now t a short read write = absurd a
+
+-- ---- what became of the sink
+
+-- a text that was answered whole: no call failed
+pub answered_kept : (start now : Moment) (script : List (List ℕ)) → IsAnswered start script now → now.told.faults ≡ start.told.faults
+answered_kept start now script a = a.delivered.faults
+
+-- one whose answers were cut off: a call failed
+pub stopped_fault : (start now : Moment) (script : List (List ℕ)) → IsStopped start script now → Rose start.told.faults now.told.faults
+stopped_fault = stopped_rose

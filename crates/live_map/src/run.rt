@@ -122,6 +122,7 @@ fn refuse_words<K: Sink>(sink: &mut K) -> Status
 }
 
 /// Answers a text that was taken in, as far as its ending allows.
+#[tactic(auto, using(crate::proofs::Endings::answered_kept, crate::proofs::Endings::stopped_fault))]
 fn answer<K: Sink, L: Ledger>(
     session: &mut Session,
     text: &[u8],
