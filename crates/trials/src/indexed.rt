@@ -17,13 +17,14 @@ use std::sync::ledger::Ledger;
 /// The most items, and the most inserts.
 const MOST: usize = 1 << 28;
 
-/// A chain and the index of its items, and their handles where they are deleted at random.
+/// A chain and the index of its items, their handles where they are deleted at random, and how many were inserted.
 #[derive(Drop)]
 pub struct Indexed<B: Builder> {
     chain: Chain<B::Item>,
     index: Index<B>,
     handles: Vec<Handle>,
     order: Order,
+    stamps: u64,
 }
 
 impl<B: Builder> Model for Indexed<B> {
@@ -35,7 +36,7 @@ impl<B: Builder> Model for Indexed<B> {
 
     ghost view = { λ c. c.chain.entries };
 
-    ghost invariant = { λ c. IsIndexOf B.Part.Part.contents B.Item.stamp c.index c.chain.entries };
+    ghost invariant = { λ c. IsIndexOf B.Part.Part.contents B.Item.stamp c.index c.chain.entries c.stamps };
 }
 
 impl<B: Builder> Answering<B> for Indexed<B> {
@@ -97,6 +98,7 @@ where
             index: Index::new(alloc),
             handles: Vec::with_capacity(alloc, most)?,
             order,
+            stamps: 0,
         })
     }
 
@@ -106,7 +108,7 @@ where
         spread: Spread,
         steps: &mut Steps<L>,
     ) -> Result<B::Item, Failure> {
-        let stamp = self.index.stamps();
+        let stamp = self.stamps;
         if self.chain.len() >= MOST || stamp >= MOST as u64 {
             return Err(Failure::Unfit);
         }
@@ -119,6 +121,7 @@ where
         // It says that the handles differ.
         self.chain.len();
         self.index.commit_insert(&self.chain, handle, steps);
+        self.stamps += 1;
         if self.order == Order::Random {
             self.handles.push_reserved(handle);
         }

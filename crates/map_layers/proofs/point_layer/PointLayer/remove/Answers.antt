@@ -2,10 +2,9 @@ use Rattle.std.proofs.Common.{rules, ◌≡◌, ◌+◌, ◌*◌, ◌∙◌, tru
 use Rattle.std.specs.Option.{is_some}
 use Rattle.id_chain.specs.Chain.{without_handle}
 use Rattle.id_directory.specs.Directory.{handle_of, without, IdsDiffer}
-use Rattle.map_layers.specs.Indexing.{IsOf}
 use Rattle.map_layers.specs.declared.faults.UpdateFault.TheVariants as faults
 use Rattle.map_layers.specs.Costs.{IsCost, IsInBounds}
-use Rattle.map_layers.specs.Layer.{Layered, items_of, stamp_of, layer_of, IsRemoval}
+use Rattle.map_layers.specs.Layer.{Layered, items_of, layer_of, IsRemoval}
 use Rattle.map_layers.proofs.WithinBounds.{IsTold-of, IsInBounds-of, refused-cost, removed-cost}
 use Rattle.map_layers.proofs.PointItems.{live_found, items_without, linked_found, fewer}
 use Rattle.map_layers.proofs.point_layer.PointLayer.remove.Goals as goal
