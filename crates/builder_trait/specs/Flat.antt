@@ -1,26 +1,30 @@
 -- What the flat kind keeps.
-use Rattle.std.specs.List.{items_where_true}
+use Rattle.std.specs.List.{flat_map, items_where_true}
+use Rattle.std.specs.Option.{option_to_list}
 use Rattle.std.specs.Prelude.{◌≡◌, ℕ, ◌+◌, ◌<◌, ◌≤◌, ◌^◌, Bool, true, false, List, length, map, replicate, Some, slice_get}
 use Rattle.query_laws.specs.StepLedger.{Entries}
 use Rattle.builder_trait.specs.Parts.{IsRising, IsPart}
 
 module _ {Item : Type 0} where
+  -- the items at some places
+  abbrev pub items_at : List Item → List ℕ → List Item
+  items_at items places = flat_map (λ p. option_to_list (slice_get items p)) places
+
   -- each row has room for all items of a level
-  pub record HasRoom (items reordered : Entries Item) (places : Entries ℕ) (flags : Entries Bool) (at_level : ℕ) : Type 0 where
+  pub record HasRoom (items : Entries Item) (places : Entries ℕ) (flags : Entries Bool) (at_level : ℕ) : Type 0 where
     pub level_small : at_level < 32
     pub room : 2 ^ at_level ≤ items.capacity
-    pub room_reordered : 2 ^ at_level ≤ reordered.capacity
     pub room_places : 2 ^ at_level ≤ places.capacity
     pub room_flags : 2 ^ at_level ≤ flags.capacity
 
-  -- the rows of a builder: both orders rise, the items of order 1 are those at their places, and there is room for all
-  pub record IsFlatBuilding (before : ℕ → Item → Item → Bool) (items reordered : Entries Item) (places : Entries ℕ)
-      (flags : Entries Bool) (at_level : ℕ) : Type 0 where
-    pub wide : HasRoom items reordered places flags at_level
+  -- the rows of a builder: both orders rise, each place of order 1 is that of an item, and there is room for all
+  pub record IsFlatBuilding (before : ℕ → Item → Item → Bool) (items : Entries Item) (places : Entries ℕ) (flags : Entries Bool)
+      (at_level : ℕ) : Type 0 where
+    pub wide : HasRoom items places flags at_level
     pub few : length items.items ≤ 2 ^ at_level
     pub rising : IsRising (before 0) items.items
-    pub rising_reordered : IsRising (before 1) reordered.items
-    pub placed : map (slice_get items.items) places.items ≡ map Some reordered.items
+    pub rising_reordered : IsRising (before 1) (items_at items.items places.items)
+    pub placed : map (slice_get items.items) places.items ≡ map Some (items_at items.items places.items)
 
   -- the flags that are written: none before the seal, and then one a turn, each true
   pub record IsFlagging (items reordered : List Item) (flags : List Bool) (is_sealed : Bool) (left : ℕ) : Type 0 where
@@ -30,13 +34,13 @@ module _ {Item : Type 0} where
     pub complete : is_sealed ≡ true → length reordered ≡ length items
 
   -- the rows of a part, which its next builder takes over
-  pub record IsFlatPart (before : ℕ → Item → Item → Bool) (items reordered : Entries Item) (places : Entries ℕ)
-      (flags : Entries Bool) (at_level live : ℕ) : Type 0 where
-    pub wide : HasRoom items reordered places flags at_level
+  pub record IsFlatPart (before : ℕ → Item → Item → Bool) (items : Entries Item) (places : Entries ℕ) (flags : Entries Bool)
+      (at_level live : ℕ) : Type 0 where
+    pub wide : HasRoom items places flags at_level
     pub valid : IsPart before (record {
       items = items.items;
       flags = flags.items;
-      reordered = reordered.items;
+      reordered = items_at items.items places.items;
       places = places.items;
       at_level = at_level;
     })

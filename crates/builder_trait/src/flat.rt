@@ -1,6 +1,6 @@
 //! The flat kind: rows, and a binary search.
 //!
-//! It keeps the items in both orders and a flag for each, and answers no question. It stands for any other kind where only
+//! It keeps each item once, in order 0, with a flag, and order 1 as places; and it answers no question. It stands for any other kind where only
 //! the contract of parts and builders matters.
 ghost use Rattle.std.specs.Prelude.{◌≡◌, ◌+◌, ◌-◌, ◌*◌, ◌<◌, ◌≤◌, ◌^◌, ℕ, IfSome, IsNone, IsTrue, ◌↔◌, All, ◌≢◌, length, Some, slice_get, slice_set, refl, true, false};
 ghost use Rattle.std.specs.List.{items_where_true};
@@ -18,12 +18,11 @@ use std::alloc::Global;
 use std::marker::Model;
 use std::sync::ledger::Ledger;
 
-/// Items in two rows, one for each order, with the places of the second and a flag for each item.
+/// Items in order 0 with a flag for each, and the places of order 1, at which its items are read.
 #[derive(Drop)]
 pub struct FlatPart<I: Item> {
-    first: Row<I>,
-    second: Row<I>,
-    places: Row<usize>,
+    items: Row<I>,
+    places: Row<u32>,
     flags: Row<bool>,
     level: u32,
     live: usize,
@@ -33,19 +32,19 @@ impl<I: Item> Model for FlatPart<I> {
     ghost use Rattle.std.specs.Prelude.{◌≡◌, length};
     ghost use Rattle.std.specs.List.{items_where_true};
     ghost use Rattle.builder_trait.specs.Parts.{Contents};
-    ghost use Rattle.builder_trait.specs.Flat.{IsFlatPart};
+    ghost use Rattle.builder_trait.specs.Flat.{items_at, IsFlatPart};
 
     ghost Value = { Contents I };
 
     ghost view = { λ p. record {
-      items = p.first.items;
+      items = p.items.items;
       flags = p.flags.items;
-      reordered = p.second.items;
+      reordered = items_at p.items.items p.places.items;
       places = p.places.items;
       at_level = p.level;
     } };
 
-    ghost invariant = { λ p. IsFlatPart I.before p.first p.second p.places p.flags p.level p.live };
+    ghost invariant = { λ p. IsFlatPart I.before p.items p.places p.flags p.level p.live };
 }
 
 /// Whether an item stands before another in order 0.
@@ -89,7 +88,7 @@ impl<I: Item> FlatPart<I> {
         ensures value { result.now.items ≡ self.now.items }
         ensures rising { IsRising (I.before 0) result.now.items }
     {
-        &self.first
+        &self.items
     }
 
     /// Marks an item as dead, and gives its place where it was there and live: one mark, and `h + 4` touches at most at a part
@@ -107,7 +106,7 @@ impl<I: Item> FlatPart<I> {
         ensures cost { (h : ℕ) → length self.old.items ≤ 2 ^ h → Spends steps.old steps.new 0 1 (h + 4) }
     {
         steps.mark();
-        let place = place_of_item(&self.first, item, steps)?;
+        let place = place_of_item(&self.items, item, steps)?;
         if !self.flags.at(place, steps) {
             return None;
         }
@@ -131,7 +130,7 @@ impl<I: Item> Part for FlatPart<I> {
     ghost mark_touches = { λ h. h + 4 };
 
     fn len(&self) -> usize {
-        self.first.len()
+        self.items.len()
     }
 
     fn live(&self) -> usize {
@@ -140,9 +139,10 @@ impl<I: Item> Part for FlatPart<I> {
 
     fn item<L: Ledger>(&self, order: usize, k: usize, steps: &mut Steps<L>) -> I {
         if order == 0 {
-            self.first.at(k, steps)
+            self.items.at(k, steps)
         } else {
-            self.second.at(k, steps)
+            let place = self.places.at(k, steps) as usize;
+            self.items.at(place, steps)
         }
     }
 
@@ -150,7 +150,7 @@ impl<I: Item> Part for FlatPart<I> {
         if order == 0 {
             k
         } else {
-            self.places.at(k, steps)
+            self.places.at(k, steps) as usize
         }
     }
 
@@ -170,9 +170,8 @@ impl<I: Item> Part for FlatPart<I> {
 /// The rows of a [`FlatPart`] under construction. A turn writes one flag.
 #[derive(Drop)]
 pub struct FlatBuilder<I: Item> {
-    first: Row<I>,
-    second: Row<I>,
-    places: Row<usize>,
+    items: Row<I>,
+    places: Row<u32>,
     flags: Row<bool>,
     level: u32,
     sealed: bool,
@@ -181,21 +180,21 @@ pub struct FlatBuilder<I: Item> {
 
 impl<I: Item> Model for FlatBuilder<I> {
     ghost use Rattle.builder_trait.specs.Builders.{Progress};
-    ghost use Rattle.builder_trait.specs.Flat.{IsFlatBuilding, IsFlagging};
+    ghost use Rattle.builder_trait.specs.Flat.{items_at, IsFlatBuilding, IsFlagging};
 
     ghost Value = { Progress I };
 
     ghost view = { λ b. record {
-      items = b.first.items;
-      reordered = b.second.items;
+      items = b.items.items;
+      reordered = items_at b.items.items b.places.items;
       places = b.places.items;
       at_level = b.level;
       is_sealed = b.sealed;
       left = b.left;
     } };
 
-    ghost invariant = { λ b. IsFlatBuilding I.before b.first b.second b.places b.flags b.level
-        × IsFlagging b.first.items b.second.items b.flags.items b.sealed b.left };
+    ghost invariant = { λ b. IsFlatBuilding I.before b.items b.places b.flags b.level
+        × IsFlagging b.items.items (items_at b.items.items b.places.items) b.flags.items b.sealed b.left };
 }
 
 impl<I: Item> FlatBuilder<I> {
@@ -204,14 +203,14 @@ impl<I: Item> FlatBuilder<I> {
         ensures value { result ≡ length self.now.items }
         ensures valid { IsUnderway I.before self.now }
     {
-        self.first.len()
+        self.items.len()
     }
 
     /// Whether no item was put in order 0. It counts nothing.
     pub fn is_empty(&self) -> bool
         ensures { IsTrue result ↔ (length self.now.items ≡ 0) }
     {
-        self.first.is_empty()
+        self.items.is_empty()
     }
 
     /// The item at a place of order 0: one touch.
@@ -220,7 +219,7 @@ impl<I: Item> FlatBuilder<I> {
         ensures read { slice_get self.now.items k ≡ Some result }
         ensures touched { steps.new ≡ one_touch steps.old }
     {
-        self.first.at(k, steps)
+        self.items.at(k, steps)
     }
 }
 
@@ -245,8 +244,7 @@ impl<I: Item> Builder for FlatBuilder<I> {
     fn room(alloc: Global, level: u32) -> Result<FlatBuilder<I>, NoMemory> {
         let cap = 2usize.pow(level);
         Ok(FlatBuilder {
-            first: Row::room(alloc, cap)?,
-            second: Row::room(alloc, cap)?,
+            items: Row::room(alloc, cap)?,
             places: Row::room(alloc, cap)?,
             flags: Row::room(alloc, cap)?,
             level,
@@ -266,10 +264,9 @@ impl<I: Item> Builder for FlatBuilder<I> {
     {
         steps.turn();
         if order == 0 {
-            self.first.push(item, steps);
+            self.items.push(item, steps);
         } else {
-            self.second.push(item, steps);
-            self.places.push(place, steps);
+            self.places.push(place as u32, steps);
         }
     }
 
@@ -282,7 +279,7 @@ impl<I: Item> Builder for FlatBuilder<I> {
         ensures left { self.new.left ≡ length self.old.items }
     {
         self.sealed = true;
-        self.left = self.first.len() as u64;
+        self.left = self.items.len() as u64;
     }
 
     fn left(&self) -> u64 {
@@ -296,10 +293,9 @@ impl<I: Item> Builder for FlatBuilder<I> {
     }
 
     fn finish(self) -> FlatPart<I> {
-        let live = self.first.len();
+        let live = self.items.len();
         FlatPart {
-            first: self.first,
-            second: self.second,
+            items: self.items,
             places: self.places,
             flags: self.flags,
             level: self.level,
@@ -309,20 +305,17 @@ impl<I: Item> Builder for FlatBuilder<I> {
 
     fn recycle(part: FlatPart<I>) -> FlatBuilder<I> {
         let FlatPart {
-            mut first,
-            mut second,
+            mut items,
             mut places,
             mut flags,
             level,
             live: _,
         } = part;
-        first.clear();
-        second.clear();
+        items.clear();
         places.clear();
         flags.clear();
         FlatBuilder {
-            first,
-            second,
+            items,
             places,
             flags,
             level,

@@ -4,6 +4,9 @@
 //! deletion, Overmars 1983). Its builder takes the items in both orders, is sealed, and then takes turns until the part is
 //! done, so that the work can be spread over many updates (Overmars and van Leeuwen 1981). A part answers decomposable
 //! questions (Bentley and Saxe 1980) over its live items.
+//!
+//! A kind of part gives its rows ([`Rows`]), which stand beside items of the flat kind: [`RowsPart`] and [`RowsBuilder`] are made of
+//! both.
 #![tactic(auto)]
 
 mod asking;

@@ -10,26 +10,26 @@ use Rattle.builder_trait.proofs.flat.FlatPart.mark_placed.Goals as goal
 pub returns-in_err-place-clause-found : goal.returns-in_err-place-clause-found
 returns-in_err-place-clause-found g c =
     ap is_some c.from_residual.ensures
-    ∙ sym (has_stamp_none g.I.Item.stamp (g.I.Item.stamp c.args.item.now) c.self.inside.first.items c.self.inside.flags.items (c.in_err-place.ensures.missing refl))
+    ∙ sym (has_stamp_none g.I.Item.stamp (g.I.Item.stamp c.args.item.now) c.self.inside.items.items c.self.inside.flags.items (c.in_err-place.ensures.missing refl))
     ∙ ap (λ p. has_stamp g.I.Item.stamp (g.I.Item.stamp c.args.item.now) (items_where_true p.flags p.items)) c.self.view_is
 
 pub returns-in_err-place-clause-marked : goal.returns-in_err-place-clause-marked
 returns-in_err-place-clause-marked g c =
     sym c.self.view_is
     ∙ marked-to g.I.Item.stamp c.args.item.now c.self.view_is
-    (fallen_none g.I.Item.stamp (g.I.Item.stamp c.args.item.now) c.self.inside.first.items c.self.inside.flags.items c.self.invariant.valid.flagged
+    (fallen_none g.I.Item.stamp (g.I.Item.stamp c.args.item.now) c.self.inside.items.items c.self.inside.flags.items c.self.invariant.valid.flagged
     (c.in_err-place.ensures.missing refl))
 
 pub returns-in_err-place-clause-live : goal.returns-in_err-place-clause-live
 returns-in_err-place-clause-live g c =
     ap (λ p. items_where_true p.flags p.items) (sym c.self.view_is)
     ∙ live-to g.I.Item.stamp c.args.item.now c.self.view_is
-    (fallen_none g.I.Item.stamp (g.I.Item.stamp c.args.item.now) c.self.inside.first.items c.self.inside.flags.items c.self.invariant.valid.flagged
+    (fallen_none g.I.Item.stamp (g.I.Item.stamp c.args.item.now) c.self.inside.items.items c.self.inside.flags.items c.self.invariant.valid.flagged
     (c.in_err-place.ensures.missing refl))
 
 pub at-requires : goal.at-requires
 at-requires g c =
-    omega (arith, slice_get_within c.self.inside.first.items c.in_ok-place.place c.args.item.now c.in_ok-place.ensures.found, c.self.invariant.valid.flagged)
+    omega (arith, slice_get_within c.self.inside.items.items c.in_ok-place.place c.args.item.now c.in_ok-place.ensures.found, c.self.invariant.valid.flagged)
 
 pub returns-then-not-at-clause-found : goal.returns-then-not-at-clause-found
 returns-then-not-at-clause-found g c =
@@ -54,27 +54,26 @@ returns-then-not-at-clause-live g c =
 
 pub set-requires : goal.set-requires
 set-requires g c =
-    omega (arith, slice_get_within c.self.inside.first.items c.in_ok-place.place c.args.item.now c.in_ok-place.ensures.found, c.self.invariant.valid.flagged)
+    omega (arith, slice_get_within c.self.inside.items.items c.in_ok-place.place c.args.item.now c.in_ok-place.ensures.found, c.self.invariant.valid.flagged)
 
 pub overflow_sub-self : goal.overflow_sub-self
 overflow_sub-self g c =
     omega (
       arith,
       c.self.invariant.live_counted,
-      length-one_dead c.self.inside.flags.items c.self.inside.first.items c.in_ok-place.place c.if-not-at.ensures.read
-          (slice_get_within c.self.inside.first.items c.in_ok-place.place c.args.item.now c.in_ok-place.ensures.found),
+      length-one_dead c.self.inside.flags.items c.self.inside.items.items c.in_ok-place.place c.if-not-at.ensures.read
+          (slice_get_within c.self.inside.items.items c.in_ok-place.place c.args.item.now c.in_ok-place.ensures.found),
     )
 
 pub invariant_of-self : goal.invariant_of-self
 invariant_of-self g c =
-    let within = slice_get_within c.self.inside.first.items c.in_ok-place.place c.args.item.now c.in_ok-place.ensures.found in
+    let within = slice_get_within c.self.inside.items.items c.in_ok-place.place c.args.item.now c.in_ok-place.ensures.found in
     let written = ap (λ r. r.items) c.set.ensures.written in
-    let fewer = length-one_dead c.self.inside.flags.items c.self.inside.first.items c.in_ok-place.place c.if-not-at.ensures.read within in
+    let fewer = length-one_dead c.self.inside.flags.items c.self.inside.items.items c.in_ok-place.place c.if-not-at.ensures.read within in
     record {
       wide = record {
         level_small = c.self.invariant.wide.level_small;
         room = c.self.invariant.wide.room;
-        room_reordered = c.self.invariant.wide.room_reordered;
         room_places = c.self.invariant.wide.room_places;
         room_flags = omega (arith, c.self.invariant.wide.room_flags, ap (λ r. r.capacity) c.set.ensures.written);
       };
@@ -86,7 +85,7 @@ invariant_of-self g c =
         each_place = c.self.invariant.valid.each_place;
         same_items = c.self.invariant.valid.same_items;
       };
-      live_counted = omega (arith, c.self.invariant.live_counted, fewer, ap (λ l. length (items_where_true l c.self.inside.first.items)) written);
+      live_counted = omega (arith, c.self.invariant.live_counted, fewer, ap (λ l. length (items_where_true l c.self.inside.items.items)) written);
     }
 
 pub returns-clause-found : goal.returns-clause-found
