@@ -1,7 +1,5 @@
 //! What no clause says of sources and sinks: that calls succeed, and what the adapters of std hand on.
-use map_io::{
-    Failed, MemSink, MemSource, Sink, Source, StdSink, StdSource, WriteFault, write_all,
-};
+use map_io::{Failed, MemSink, MemSource, Sink, Source, StdSink, StdSource, WriteFault, write_all};
 use std::alloc::{AllocError, Global};
 use std::io;
 use std::io::{Error, ErrorKind, Read, Write};

@@ -34,7 +34,11 @@ fn squares_distances(rt: HostRuntime) {
         (0, 8, 25),
         (2_147_483_647, 4, 4_611_686_001_247_518_736),
     ] {
-        assert_eq!(rt; point(1, 3, 4, 0).squared_distance(x, y), want, "from {x} {y}");
+        assert_eq!(rt;
+            point(1, 3, 4, 0).squared_distance(x, y),
+            want,
+            "from {x} {y}"
+        );
     }
 }
 
@@ -62,5 +66,8 @@ fn puts_found_points_in(rt: HostRuntime) {
     found.insert(0, Found { dist: 1, id: 4 });
     found.insert(1, Found { dist: 4, id: 2 });
     found.truncate(2);
-    assert_eq!(rt; found.as_slice(), [Found { dist: 1, id: 4 }, Found { dist: 4, id: 2 }].as_slice());
+    assert_eq!(rt;
+        found.as_slice(),
+        [Found { dist: 1, id: 4 }, Found { dist: 4, id: 2 }].as_slice()
+    );
 }
