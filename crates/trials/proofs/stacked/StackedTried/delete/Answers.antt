@@ -5,7 +5,7 @@ use Rattle.query_laws.proofs.Permutations.{IsPermutation-from_Permuted, Permuted
 use Rattle.builder_trait.specs.Parts.{without}
 use Rattle.trials.specs.Stacks.{IsStackOf}
 use Rattle.trials.proofs.Stacks.{IsStackOf-same, IsStackOf-delete}
-use Rattle.trials.proofs.stacked.StackedCollection.delete.Goals as goal
+use Rattle.trials.proofs.stacked.StackedTried.delete.Goals as goal
 
 pub delete-requires-clause-live : goal.delete-requires-clause-live
 delete-requires-clause-live g c =
