@@ -1,22 +1,24 @@
 //! Measures the parts of Livemap and checks them against plain lists, over seeded items and scripts.
 #![tactic(auto)]
 
-mod layer;
 mod words;
 
 ghost use Rattle.std.specs.Prelude.{◌≡◌};
 
-use crate::layer::{Layer, run_layer};
-use crate::words::{Job, KINDS, Options, command, job_of};
-use query_laws::step_ledger::{SHARES, Steps, blank};
-use samples::{Failure, Watch};
+use crate::words::{Job, KINDS, Kind, Work, command, job_of};
+use query_laws::step_ledger::{SHARES, blank};
+use range_tree::RangeBuilder;
+use samples::{Failure, PlainMap};
 use std::env;
 use std::marker::Brand;
 use std::process::ExitCode;
 use std::rt::Files;
 use std::sync::ledger::{Blank, Ledger};
 use std::time::Clock;
-use trials::{check_examples, check_made_script, measure_script, measure_text};
+use trials::{
+    Bench, check_examples, check_kind, check_made_script, measure_layer, measure_script,
+    measure_text,
+};
 
 /// The exit status where a comparison differs. Other failures have 1, and wrong words 2.
 const DIFFERS: u8 = 3;
@@ -52,7 +54,7 @@ fn exit_code<R: Eprint>(rt: &R, done: Result<(), Failure>) -> anyhow::Result<Exi
     }
 }
 
-/// Does what the words ask for.
+/// Does what the words ask for, and prints what it tells, up to a failure too.
 fn run<R: Print + Clock + Files + AllocGlobal + Clone + Drop, L: Ledger>(
     rt: &R,
     job: &Job<'_>,
@@ -62,47 +64,44 @@ fn run<R: Print + Clock + Files + AllocGlobal + Clone + Drop, L: Ledger>(
     requires parts { blank.parts ≡ L.parts }
     requires shares { blank.parts ≡ SHARES }
 {
-    let mut steps = Steps::<L>::new(blank);
-    match *job {
-        Job::Layer {
-            layer,
-            kind,
-            options,
-        } => run_layer(rt, layer, kind, &options, &mut steps),
-        Job::Text(
-            Options {
-                seed,
-                size,
-                is_timed,
-            },
-        ) => measure_text(&watch(rt, is_timed), seed, size),
-        Job::Script { path, is_timed } => measure_script(&watch(rt, is_timed), path, &mut steps),
-        Job::Check { options, examples } => check(rt, &options, examples, &mut steps),
+    let mut bench = Bench::<R, L>::new(rt, rt.alloc(), job.is_timed, blank);
+    let done = run_job(&mut bench, job);
+    print!(rt; "{}", bench.report.as_str())?;
+    done
+}
+
+fn run_job<R: Clock + Files + AllocGlobal + Clone + Drop, L: Ledger>(
+    bench: &mut Bench<'_, R, L>,
+    job: &Job<'_>,
+) -> Result<(), Failure> {
+    let Job { seed, size, .. } = *job;
+    match job.work {
+        Work::Layer(layer, Kind::Range, spread) => {
+            measure_layer::<RangeBuilder, R, L>(bench, layer, seed, size, spread)
+        }
+        Work::Text => measure_text(bench, seed, size),
+        Work::Script(path) => measure_script(bench, path),
+        Work::Check(examples) => check(bench, job, examples),
     }
 }
 
 /// Compares parts, stacks and indexes of each kind, a session, text, and the answers to the scripts of a folder where one is named.
-fn check<R: Print + Clock + Files + AllocGlobal + Clone + Drop, L: Ledger>(
-    rt: &R,
-    options: &Options,
+fn check<R: Clock + Files + AllocGlobal + Clone + Drop, L: Ledger>(
+    bench: &mut Bench<'_, R, L>,
+    job: &Job<'_>,
     examples: Option<&str>,
-    steps: &mut Steps<L>,
 ) -> Result<(), Failure> {
     for (_, kind) in KINDS {
-        run_layer(rt, Layer::All, kind, options, steps)?;
+        match kind {
+            Kind::Range => check_kind::<RangeBuilder, R, L>(bench, job.seed, job.size)?,
+        }
     }
-    check_made_script(rt.alloc(), options.seed, LINES, steps)?;
-    println!(rt; "script {LINES}")?;
-    measure_text(&watch(rt, options.is_timed), options.seed, options.size)?;
+    check_made_script(bench, &mut PlainMap::new(bench.alloc), job.seed, LINES)?;
+    measure_text(bench, job.seed, job.size)?;
     match examples {
-        Some(folder) => check_examples(rt, folder, steps),
+        Some(folder) => check_examples(bench, folder),
         None => Ok(()),
     }
-}
-
-/// Reads the clock only where times are wanted.
-fn watch<R: Clock>(rt: &R, is_on: bool) -> Watch<'_, R> {
-    Watch { rt, is_on }
 }
 
 #[cfg(test)]

@@ -1,45 +1,31 @@
 //! Words of the command line, and what the program ends with.
-use crate::layer::Layer;
-use crate::words::{Job, Kind, Options, command, job_of};
+use crate::words::{Job, Kind, Work, command, job_of};
 use crate::{DIFFERS, exit_code};
 use samples::{Failure, Spread};
 use std::process::ExitCode;
 use std::test::Fail;
+use trials::Layer;
 
 #[test]
 fn reads_words(rt: HostRuntime) -> Result<(), Fail> {
-    let options = Options {
-        seed: 7,
-        size: 16,
-        is_timed: true,
-    };
-    for (words, job) in [
+    for (words, work) in [
         (
-            "measure part --kind range --seed 7 --size 16 --time --spread row",
-            Job::Layer {
-                layer: Layer::Part(Spread::Row),
-                kind: Kind::Range,
-                options,
-            },
+            "measure part --kind range --spread row",
+            Work::Layer(Layer::Part, Kind::Range, Spread::Row),
         ),
-        ("measure text --seed 7 --size 16 --time", Job::Text(options)),
-        (
-            "measure script a.livemap",
-            Job::Script {
-                path: "a.livemap",
-                is_timed: false,
-            },
-        ),
-        (
-            "measure check --seed 7 --size 16 --time --examples here",
-            Job::Check {
-                options,
-                examples: Some("here"),
-            },
-        ),
+        ("measure text", Work::Text),
+        ("measure script a.livemap", Work::Script("a.livemap")),
+        ("measure check --examples here", Work::Check(Some("here"))),
     ] {
-        let words: Vec<&str> = words.split(' ').collect(rt.alloc())?;
+        let text = format!(in rt.alloc(); "{words} --seed 7 --size 16 --time")?;
+        let words: Vec<&str> = text.split(' ').collect(rt.alloc())?;
         let matches = command(rt.alloc())?.try_get_matches_from(words.as_slice())?;
+        let job = Job {
+            work,
+            seed: 7,
+            size: 16,
+            is_timed: true,
+        };
         assert_eq!(rt; job_of(&matches), Some(job));
     }
     Ok(())

@@ -1,21 +1,19 @@
 //! What is found beside what is wanted.
 use crate::failure::Failure;
 use std::alloc::Global;
-use std::fmt::Debug;
 
-/// Compares what is found with what is wanted.
+/// Compares the numbers of something that are found with those that are wanted.
 ///
-/// `Differs` where they differ, with what it is and the case.
-pub fn expect_same<C: Debug, A: PartialEq + Debug>(
+/// `Differs` where they differ, with what it is.
+pub fn expect_same(
     alloc: Global,
     what: &str,
-    case: &C,
-    found: &A,
-    wanted: &A,
+    found: &[u64],
+    wanted: &[u64],
 ) -> Result<(), Failure> {
     if found == wanted {
         return Ok(());
     }
-    let text = format!(in alloc; "{what} of {case:?}: {found:?}, and {wanted:?} by the plain way")?;
+    let text = format!(in alloc; "{what}: {found:?}, and {wanted:?} by the plain way")?;
     Err(Failure::Differs(text))
 }

@@ -18,11 +18,8 @@ pub enum Failure {
     /// Answers could not be written.
     #[error("the answers could not be written")]
     NoAnswers,
-    /// A script has 2^40 lines, or an example as many bytes.
-    #[error("the script is too long")]
-    TooLong,
-    /// Items are too many, or in no order.
-    #[error("the items are too many, or in no order")]
+    /// A script has 2^40 lines or bytes, or items are too many or in no order.
+    #[error("the script is too long, or the items are too many or in no order")]
     Unfit,
 }
 

@@ -1,25 +1,23 @@
-//! Seeded items and questions, what plain lists answer, and what is told of times: what all trials share.
+//! Seeded numbers and questions, what plain lists and a plain map answer, and what is told of it: what all trials share.
 #![tactic(auto)]
 
+mod costs;
 mod expected;
 mod failure;
 mod generator;
-mod retrying;
+mod plain_map;
+mod report;
 mod scanned;
-mod seeded;
 mod spread;
-mod summary;
-mod watch;
 
+pub use costs::Costs;
 pub use expected::expect_same;
 pub use failure::Failure;
 pub use generator::Generator;
-pub use retrying::do_or_retry;
+pub use plain_map::{Order, PlainMap};
+pub use report::Report;
 pub use scanned::{Scanned, count_in, ids_in, sum_in};
-pub use seeded::Seeded;
 pub use spread::Spread;
-pub use summary::{Samples, Summary};
-pub use watch::Watch;
 
 #[cfg(test)]
 mod tests;

@@ -1,13 +1,12 @@
 //! Questions that are drawn, and what a plain list answers.
 use crate::generator::Generator;
 use crate::spread::Spread;
-use map_shapes::{CountIn, IdList, ListIn, Point, Rect, SumIn};
+use map_shapes::{CountIn, IdList, ListIn, Point, Rect};
 use query_laws::Question;
 use std::alloc::{AllocError, Global};
-use std::fmt::Debug;
 
 /// A question that is drawn, and that a plain list can be scanned for. Its answers are told as numbers.
-pub trait Scanned: Question + Debug {
+pub trait Scanned: Question {
     /// The word of its command.
     fn word() -> &'static str;
 
@@ -25,7 +24,7 @@ impl Scanned for CountIn {
     }
 
     fn drawn(generator: &mut Generator, spread: Spread) -> CountIn {
-        CountIn(drawn_rect(generator, spread))
+        CountIn(spread.rect(generator))
     }
 
     fn numbers(alloc: Global, answer: u64) -> Result<Vec<u64>, AllocError> {
@@ -37,31 +36,13 @@ impl Scanned for CountIn {
     }
 }
 
-impl Scanned for SumIn {
-    fn word() -> &'static str {
-        "sum"
-    }
-
-    fn drawn(generator: &mut Generator, spread: Spread) -> SumIn {
-        SumIn(drawn_rect(generator, spread))
-    }
-
-    fn numbers(alloc: Global, answer: u64) -> Result<Vec<u64>, AllocError> {
-        Vec::from_slice(alloc, &[answer])
-    }
-
-    fn scan(&self, alloc: Global, items: &[Point]) -> Result<Vec<u64>, AllocError> {
-        Vec::from_slice(alloc, &[sum_in(items, &self.0)])
-    }
-}
-
 impl Scanned for ListIn {
     fn word() -> &'static str {
         "list"
     }
 
     fn drawn(generator: &mut Generator, spread: Spread) -> ListIn {
-        ListIn(drawn_rect(generator, spread))
+        ListIn(spread.rect(generator))
     }
 
     fn numbers(_alloc: Global, answer: IdList) -> Result<Vec<u64>, AllocError> {
@@ -73,39 +54,34 @@ impl Scanned for ListIn {
     }
 }
 
-/// A rectangle whose lower corner lies where items do: two draws, and what its extent draws.
-fn drawn_rect(generator: &mut Generator, spread: Spread) -> Rect {
-    let extent = spread.extent(generator);
-    let x1 = generator.below(spread.width());
-    let y1 = generator.below(spread.height());
-    Rect {
-        x1,
-        y1,
-        x2: x1 + extent,
-        y2: y1 + extent,
-    }
-}
-
 /// How many points lie in a rectangle.
 pub fn count_in(points: &[Point], rect: &Rect) -> u64 {
-    points.iter().filter(|point| point.is_inside(rect)).count() as u64
+    let mut count = 0u64;
+    for point in points {
+        count = count.wrapping_add(u64::from(point.is_inside(rect)));
+    }
+    count
 }
 
 /// What the points in a rectangle weigh together, at most 2^64 - 1.
 pub fn sum_in(points: &[Point], rect: &Rect) -> u64 {
-    points
-        .iter()
-        .filter(|point| point.is_inside(rect))
-        .fold(0, |sum: u64, point| sum.saturating_add(point.w as u64))
+    let mut sum = 0u64;
+    for point in points {
+        if point.is_inside(rect) {
+            sum = sum.saturating_add(u64::from(point.w));
+        }
+    }
+    sum
 }
 
 /// The identifiers of the points in a rectangle, in ascending order.
 pub fn ids_in(alloc: Global, points: &[Point], rect: &Rect) -> Result<Vec<u64>, AllocError> {
-    let mut ids: Vec<u64> = points
-        .iter()
-        .filter(|point| point.is_inside(rect))
-        .map(|point| point.id)
-        .collect(alloc)?;
+    let mut ids = Vec::new(alloc);
+    for point in points {
+        if point.is_inside(rect) {
+            ids.push(point.id)?;
+        }
+    }
     ids.sort_unstable();
     Ok(ids)
 }

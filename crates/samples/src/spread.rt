@@ -1,7 +1,8 @@
 //! Where seeded items lie.
-ghost use Rattle.std.specs.Prelude.{◌<◌, ◌≤◌, ◌^◌};
+ghost use Rattle.std.specs.Prelude.{◌≤◌, ◌<◌, ◌^◌};
 
 use crate::generator::Generator;
+use map_shapes::Rect;
 
 /// Coordinates are below this, as in made scripts.
 const SIDE: u32 = 1_048_576;
@@ -26,37 +27,34 @@ pub enum Spread {
 }
 
 impl Spread {
-    /// Abscissas are below this.
-    pub fn width(self) -> u32
-        ensures some { 0 < result }
-        ensures few { result ≤ 2 ^ 20 }
+    /// A place where an item may lie: two draws.
+    pub fn place(self, generator: &mut Generator) -> (u32, u32)
+        ensures x { result.0 < 2 ^ 20 }
+        ensures y { result.1 < 2 ^ 20 }
     {
-        match self {
-            Spread::Dense => FEW,
-            Spread::Square | Spread::Row => SIDE,
-            Spread::Column => 1,
-        }
+        let (width, height) = match self {
+            Spread::Dense => (FEW, FEW),
+            Spread::Square => (SIDE, SIDE),
+            Spread::Column => (1, SIDE),
+            Spread::Row => (SIDE, 1),
+        };
+        let x = generator.below(width);
+        let y = generator.below(height);
+        (x, y)
     }
 
-    /// Ordinates are below this.
-    pub fn height(self) -> u32
-        ensures some { 0 < result }
-        ensures few { result ≤ 2 ^ 20 }
-    {
-        match self {
-            Spread::Dense => FEW,
-            Spread::Square | Spread::Column => SIDE,
-            Spread::Row => 1,
-        }
-    }
-
-    /// How wide and high a region is: a draw where items lie densely.
-    pub fn extent(self, generator: &mut Generator) -> u32
-        ensures { result < 2 ^ 16 }
-    {
-        match self {
+    /// A region whose lower corner is a place where an item may lie. Where items lie densely, its extent is drawn first.
+    pub fn rect(self, generator: &mut Generator) -> Rect {
+        let extent = match self {
             Spread::Dense => generator.below(FEW),
             _ => EXTENT,
+        };
+        let (x1, y1) = self.place(generator);
+        Rect {
+            x1,
+            y1,
+            x2: x1 + extent,
+            y2: y1 + extent,
         }
     }
 }

@@ -108,14 +108,12 @@ fn put_in_second<B: Builder, L: Ledger>(
     Ok(())
 }
 
-/// A builder to which all items were put, and which is sealed.
-pub fn filled<B: Builder, L: Ledger>(
+/// The part of all items, which may come in any order.
+pub fn built<B: Builder, L: Ledger>(
     alloc: Global,
     items: &[B::Item],
     steps: &mut Steps<L>,
-) -> Result<B, Failure>
-    ensures { IfOk result (λ builder. (B.progress builder).is_sealed ≡ true) }
-{
+) -> Result<B::Part, Failure> {
     let mut items = Vec::from_slice(alloc, items)?;
     items.sort_unstable_by(|a, b| compare(0, a, b));
     let places = reordered(alloc, &items)?;
@@ -126,16 +124,6 @@ pub fn filled<B: Builder, L: Ledger>(
     put_in_first(&mut builder, &items, steps)?;
     put_in_second(&mut builder, &items, &places, steps)?;
     builder.seal();
-    Ok(builder)
-}
-
-/// The part of all items.
-pub fn built<B: Builder, L: Ledger>(
-    alloc: Global,
-    items: &[B::Item],
-    steps: &mut Steps<L>,
-) -> Result<B::Part, Failure> {
-    let mut builder = filled::<B, L>(alloc, items, steps)?;
     let left = builder.left();
     builder.turns(left, steps);
     Ok(builder.finish())

@@ -1,40 +1,51 @@
 //! The kinds of parts that are tried.
 ghost use Rattle.std.specs.Prelude.{◌≡◌};
 
-use builder_trait::{Answers, Builder};
-use map_shapes::{CountIn, ListIn, SumIn};
-use query_laws::Question;
-use query_laws::step_ledger::Steps;
+use crate::bench::Bench;
+use crate::trial::Trial;
+use crate::tried::Tried;
+use builder_trait::Builder;
+use map_shapes::{CountIn, ListIn, Point};
+use query_laws::Item;
 use range_tree::RangeBuilder;
-use samples::{Failure, Scanned, Seeded};
+use samples::{Failure, Generator, Spread};
 use std::sync::ledger::Ledger;
+use std::time::Clock;
+
+/// Weights are below this, as in made scripts.
+const WEIGHTS: u32 = 1024;
 
 /// A kind of part, by its builder: of seeded items, with the questions that it answers.
 pub trait Kind: Builder {
-    /// Has each question of the kind asked.
-    fn ask_each<A: Asker<Self>, L: Ledger>(
-        asker: &mut A,
-        steps: &mut Steps<L>,
+    /// The next drawn item.
+    fn drawn(generator: &mut Generator, spread: Spread, stamp: u64) -> Self::Item;
+
+    /// Asks each question of the kind.
+    fn ask_each<T: Tried<Self>, R: Clock, L: Ledger>(
+        trial: &mut Trial<Self, T>,
+        bench: &mut Bench<'_, R, L>,
     ) -> Result<(), Failure>;
 }
 
-/// What asks questions of a kind.
-pub trait Asker<B: Builder> {
-    fn ask<Q: Question<Item = B::Item> + Scanned, L: Ledger>(
-        &mut self,
-        steps: &mut Steps<L>,
-    ) -> Result<(), Failure>
-    where
-        B::Part: Answers<Q>;
-}
-
 impl Kind for RangeBuilder {
-    fn ask_each<A: Asker<RangeBuilder>, L: Ledger>(
-        asker: &mut A,
-        steps: &mut Steps<L>,
+    /// Three draws, for x, y and the weight. The identifier is the stamp.
+    fn drawn(generator: &mut Generator, spread: Spread, stamp: u64) -> Point {
+        let (x, y) = spread.place(generator);
+        let w = generator.below(WEIGHTS);
+        Point {
+            id: stamp,
+            x,
+            y,
+            w,
+            stamp,
+        }
+    }
+
+    fn ask_each<T: Tried<RangeBuilder>, R: Clock, L: Ledger>(
+        trial: &mut Trial<RangeBuilder, T>,
+        bench: &mut Bench<'_, R, L>,
     ) -> Result<(), Failure> {
-        asker.ask::<CountIn, L>(steps)?;
-        asker.ask::<SumIn, L>(steps)?;
-        asker.ask::<ListIn, L>(steps)
+        trial.ask::<CountIn, R, L>(bench)?;
+        trial.ask::<ListIn, R, L>(bench)
     }
 }

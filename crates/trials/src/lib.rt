@@ -1,29 +1,33 @@
 //! What parts, stacks and indexes of any kind cost, and their answers beside plain lists; a session beside a plain map; and text.
 #![tactic(auto)]
 
-mod asking;
+mod bench;
 mod building;
-mod checking;
-mod collection;
-mod cost;
+mod driver;
+mod examples;
 mod indexed;
 mod kind;
+mod made;
 mod marked;
-mod measuring;
 mod memory;
-mod session;
+mod script;
 mod stacked;
 mod text;
 mod trial;
+mod tried;
 
-pub use checking::{check_collections, check_parts};
-pub use collection::{Collection, Order};
+pub use bench::{Bench, Seen};
+pub use driver::{Layer, check_kind, measure_layer};
+pub use examples::check_examples;
 pub use indexed::Indexed;
-pub use kind::{Asker, Kind};
-pub use measuring::{measure_collection, measure_part};
-pub use session::{check_examples, check_made_script, measure_script};
+pub use kind::Kind;
+pub use made::check_made_script;
+pub use marked::Marked;
+pub use script::measure_script;
 pub use stacked::Stacked;
 pub use text::measure_text;
+pub use trial::{Plan, Trial};
+pub use tried::Tried;
 
 #[cfg(test)]
 mod tests;

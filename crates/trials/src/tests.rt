@@ -1,78 +1,85 @@
-//! Trials that run, and one that differs.
+//! Trials that run, and such as differ.
 ghost use Rattle.std.specs.Prelude.{◌≡◌};
 
-use crate::building::built;
-use crate::checking::drawn_items;
 use crate::marked::Marked;
-use crate::trial::{Seen, Trial};
+use crate::text::compare_reading;
+use crate::trial::{Plan, Trial};
 use crate::{
-    Indexed, Kind, Order, Stacked, check_collections, check_parts, measure_collection, measure_part,
+    Bench, Layer, check_examples, check_kind, check_made_script, measure_layer, measure_script,
+    measure_text,
 };
-use query_laws::step_ledger::{SHARES, Steps, blank};
+use query_laws::step_ledger::{SHARES, blank};
 use range_tree::RangeBuilder;
-use samples::{Failure, Generator, Spread, Watch};
-use std::alloc::Global;
+use samples::{Failure, PlainMap, Spread};
+use std::fs;
 use std::marker::Brand;
-use std::rt::Files;
 use std::sync::ledger::{Blank, Ledger};
 use std::test::Fail;
-use std::time::Clock;
 
-/// All trials of range parts, with times.
-fn try_all<R: Print + Clock + Files + AllocGlobal, L: Ledger>(
-    rt: &R,
-    blank: Blank,
-) -> Result<(), Failure>
+/// Tries all of range parts, and tells whether a part differs from a list without items.
+fn try_parts<L: Ledger>(rt: &HostRuntime, blank: Blank) -> Result<bool, Failure>
     requires name { blank.name ≡ L.name }
     requires parts { blank.parts ≡ L.parts }
     requires shares { blank.parts ≡ SHARES }
 {
-    let mut steps = Steps::<L>::new(blank);
-    let watch = Watch { rt, is_on: true };
-    check_parts::<RangeBuilder, R, L>(rt, 1, 33, &mut steps)?;
-    check_collections::<RangeBuilder, Stacked<RangeBuilder>, R, L>(rt, 1, 3, &mut steps)?;
-    check_collections::<RangeBuilder, Indexed<RangeBuilder>, R, L>(rt, 1, 3, &mut steps)?;
-    measure_part::<RangeBuilder, R, L>(&watch, 1, 33, Spread::Column, &mut steps)?;
-    measure_collection::<RangeBuilder, Stacked<RangeBuilder>, R, L>(
-        &watch, 1, 300, None, &mut steps,
-    )?;
-    measure_collection::<RangeBuilder, Indexed<RangeBuilder>, R, L>(
-        &watch,
-        1,
-        300,
-        Some(Order::Random),
-        &mut steps,
-    )
+    let mut bench = Bench::<HostRuntime, L>::new(rt, rt.alloc(), true, blank);
+    check_kind::<RangeBuilder, HostRuntime, L>(&mut bench, 1, 17)?;
+    for layer in [Layer::Part, Layer::Stack, Layer::Index] {
+        measure_layer::<RangeBuilder, HostRuntime, L>(&mut bench, layer, 1, 33, Spread::Column)?;
+    }
+    let plan = Plan {
+        seed: 1,
+        spread: Spread::Dense,
+        size: 64,
+        updates: 1,
+        is_oldest: false,
+        asked: 2,
+        is_compared: false,
+    };
+    let mut trial = Trial::<RangeBuilder, Marked<RangeBuilder>>::new(rt.alloc(), plan)?;
+    trial.fill(&mut bench)?;
+    trial.plan.is_compared = true;
+    let differs = trial.update(&mut bench);
+    Ok(matches!(differs, Err(Failure::Differs(_))))
 }
 
 #[test]
-fn tries_all(rt: HostRuntime) -> Result<(), Fail> {
-    try_all::<HostRuntime, Brand>(&rt, blank())?;
+fn tells_a_difference(rt: HostRuntime) -> Result<(), Fail> {
+    assert!(rt; try_parts::<Brand>(&rt, blank())?);
     Ok(())
 }
 
-/// Asks a part of some items beside an empty list.
-fn ask_beside_nothing<L: Ledger>(alloc: Global, blank: Blank) -> Result<(), Failure>
+/// Tries scripts and text, and tells whether a wrong answer of an example differs, a map that has a layer before, and a line that
+/// the script language takes for no point.
+fn try_scripts<L: Ledger>(rt: &HostRuntime, blank: Blank) -> Result<[bool; 3], Failure>
     requires name { blank.name ≡ L.name }
     requires parts { blank.parts ≡ L.parts }
     requires shares { blank.parts ≡ SHARES }
 {
-    let mut steps = Steps::<L>::new(blank);
-    let mut generator = Generator::new(1);
-    let items = drawn_items(alloc, &mut generator, Spread::Dense, 64)?;
-    let part = built::<RangeBuilder, L>(alloc, &items, &mut steps)?;
-    let mut trial = Trial::<RangeBuilder, _> {
-        alloc,
-        set: Marked { part },
-        items: Vec::new(alloc),
-        generator,
-        seen: Seen::default(),
-    };
-    RangeBuilder::ask_each(&mut trial, &mut steps)
+    let mut bench = Bench::<HostRuntime, L>::new(rt, rt.alloc(), true, blank);
+    fs::create_dir_all(rt, "examples")?;
+    fs::write(
+        rt,
+        "examples/one.livemap",
+        "#\ndrop a 1\nlayer a points range",
+    )?;
+    fs::write(rt, "examples/one.out", "no layer\nok\n")?;
+    measure_script(&mut bench, "examples/one.livemap")?;
+    check_examples(&mut bench, "examples")?;
+    fs::write(rt, "examples/one.out", "no layer\nno\n")?;
+    let example = check_examples(&mut bench, "examples");
+    fs::remove_dir_all(rt, "examples")?;
+    let mut map = PlainMap::new(rt.alloc());
+    check_made_script(&mut bench, &mut map, 0, 500)?;
+    let made = check_made_script(&mut bench, &mut map, 0, 500);
+    measure_text(&mut bench, 1, 33)?;
+    let line = String::from_str(rt.alloc(), "seg a 1 2 3 4")?;
+    let text = compare_reading(&mut bench, &vec![in rt.alloc(); line]?);
+    Ok([example, made, text].map(|found| matches!(found, Err(Failure::Differs(_)))))
 }
 
 #[test]
-fn tells_a_difference(rt: HostRuntime) {
-    let asked = ask_beside_nothing::<Brand>(rt.alloc(), blank());
-    assert!(rt; matches!(asked, Err(Failure::Differs(_))));
+fn others_differ(rt: HostRuntime) -> Result<(), Fail> {
+    assert_eq!(rt; try_scripts::<Brand>(&rt, blank())?, [true, true, true]);
+    Ok(())
 }

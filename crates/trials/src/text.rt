@@ -1,10 +1,12 @@
 //! Lines read and replies written, by the map's crates and by std alone.
+use crate::bench::Bench;
 use answer_text::{Reply, write_reply};
 use map_io::{MemSink, Sink, WriteFault};
 use map_shapes::Asked;
-use samples::{Failure, Generator, Watch, expect_same};
+use samples::{Failure, Generator, expect_same};
 use script_lang::{Command, parse};
 use std::alloc::{AllocError, Global};
+use std::sync::ledger::Ledger;
 use std::time::Clock;
 
 /// Coordinates and weights are below this.
@@ -22,22 +24,21 @@ const ASKED: Asked = Asked {
 
 /// Reads so many seeded lines and writes so many replies, by the map's crates and by std alone.
 ///
-/// Prints `lines N sum S` and `replies N bytes B`, and where times are wanted the nanoseconds a line before each, by both.
-/// `Differs` where the two come to other sums or other bytes.
-pub fn measure_text<R: Print + Clock + AllocGlobal>(
-    watch: &Watch<'_, R>,
+/// Tells of them, and where times are wanted of the nanoseconds for each, by both. `Differs` where the two come to other sums or other bytes.
+pub fn measure_text<R: Clock, L: Ledger>(
+    bench: &mut Bench<'_, R, L>,
     seed: u64,
     size: usize,
 ) -> Result<(), Failure> {
     let mut generator = Generator::new(seed);
-    let mut lines = Vec::new(watch.rt.alloc());
-    let mut numbers = Vec::new(watch.rt.alloc());
+    let mut lines = Vec::new(bench.alloc);
+    let mut numbers = Vec::new(bench.alloc);
     for _ in 0..size {
-        lines.push(made_line(watch.rt.alloc(), &mut generator)?)?;
+        lines.push(made_line(bench.alloc, &mut generator)?)?;
         numbers.push(generator.state)?;
     }
-    compare_reading(watch, &lines)?;
-    compare_writing(watch, &numbers)
+    compare_reading(bench, &lines)?;
+    compare_writing(bench, &numbers)
 }
 
 /// A line that adds a point.
@@ -50,59 +51,59 @@ fn made_line(alloc: Global, generator: &mut Generator) -> Result<String, AllocEr
 }
 
 /// Adds up the numbers of lines, by the script language and by std.
-fn compare_reading<R: Print + Clock + AllocGlobal>(
-    watch: &Watch<'_, R>,
+pub fn compare_reading<R: Clock, L: Ledger>(
+    bench: &mut Bench<'_, R, L>,
     lines: &[String],
 ) -> Result<(), Failure> {
-    let count = lines.len();
-    let sum = timed(watch, "read", count, || sum_of_adds(lines))?;
-    let wanted = timed(watch, "read by std", count, || sum_by_std(lines))?;
-    expect_same(watch.rt.alloc(), "the sum", &count, &sum, &wanted)?;
-    println!(watch.rt; "lines {count} sum {sum}")?;
-    Ok(())
+    let begun = bench.start()?;
+    let sum = sum_of_adds(lines);
+    let time = bench.since(begun)?;
+    let begun = bench.start()?;
+    let wanted = sum_by_std(lines);
+    let time_by_std = bench.since(begun)?;
+    expect_same(bench.alloc, "the sum of lines", &[sum], &[wanted])?;
+    let count = lines.len() as u64;
+    bench
+        .report
+        .tell("read", &[("lines", count), ("sum", sum)])?;
+    tell_times(bench, "read", count, [time, time_by_std])
 }
 
 /// Writes a count's reply for each number, by the map's crates and by std.
-fn compare_writing<R: Print + Clock + AllocGlobal>(
-    watch: &Watch<'_, R>,
+fn compare_writing<R: Clock, L: Ledger>(
+    bench: &mut Bench<'_, R, L>,
     numbers: &[u64],
 ) -> Result<(), Failure> {
-    let alloc = watch.rt.alloc();
-    let count = numbers.len();
-    let size = count.saturating_mul(LONGEST);
+    let alloc = bench.alloc;
+    let size = numbers.len().saturating_mul(LONGEST);
     let mut sink = MemSink::new(vec![in alloc; 0u8; size]?, usize::MAX, Vec::new(alloc));
-    timed(watch, "write", count, || write_counts(numbers, &mut sink))??;
     let mut text = String::with_capacity(alloc, size)?;
-    timed(
-        watch,
-        "write by std",
-        count,
-        || write_by_std(numbers, &mut text),
-    )??;
+    let begun = bench.start()?;
+    write_counts(numbers, &mut sink)?;
+    let time = bench.since(begun)?;
+    let begun = bench.start()?;
+    write_by_std(numbers, &mut text)?;
+    let time_by_std = bench.since(begun)?;
     let is_same = sink.written() == text.as_bytes();
-    expect_same(alloc, "the same bytes", &count, &is_same, &true)?;
-    println!(watch.rt; "replies {count} bytes {}", text.len())?;
-    Ok(())
+    expect_same(alloc, "the replies", &[u64::from(is_same)], &[1])?;
+    let count = numbers.len() as u64;
+    bench.report.tell("write", &[("replies", count), ("bytes", text.len() as u64)])?;
+    tell_times(bench, "write", count, [time, time_by_std])
 }
 
-/// Does some work on so many lines, and prints the nanoseconds that each took, rounded down, where times are wanted.
-fn timed<R: Print + Clock, T, F: FnOnce() -> T>(
-    watch: &Watch<'_, R>,
+/// Tells how many nanoseconds each of so many lines took, by the map's crates and by std, where times are wanted.
+fn tell_times<R: Clock, L: Ledger>(
+    bench: &mut Bench<'_, R, L>,
     word: &str,
-    lines: usize,
-    work: F,
-) -> Result<T, Failure>
-where
-    T: Drop,
-    requires { F.IsAlwaysCallable work }
-{
-    let begun = watch.start()?;
-    let done = work();
-    let time = watch.since(begun)?;
-    if watch.is_on && lines > 0 {
-        println!(watch.rt; "{word} mean {}", time / lines as u64)?;
+    lines: u64,
+    times: [u64; 2],
+) -> Result<(), Failure> {
+    if bench.is_timed && lines > 0 {
+        let [time, by_std] = times;
+        let means = [("mean", time / lines), ("by std", by_std / lines)];
+        bench.report.tell(word, &means)?;
     }
-    Ok(done)
+    Ok(())
 }
 
 /// The sum of the numbers of all points that the lines add, by the script language; 2^64 - 1 where it is more.
@@ -140,25 +141,4 @@ fn write_by_std(numbers: &[u64], text: &mut String) -> Result<(), AllocError> {
         writeln!(text, "count {number}")?;
     }
     Ok(())
-}
-
-#[cfg(test)]
-mod tests {
-    use super::{compare_reading, measure_text};
-    use samples::{Failure, Watch};
-    use std::test::Fail;
-
-    /// The script language finds no point in a segment, and std finds numbers.
-    #[test]
-    fn other_lines_differ(rt: HostRuntime) -> Result<(), Fail> {
-        let watch = Watch {
-            rt: &rt,
-            is_on: true,
-        };
-        measure_text(&watch, 1, 33)?;
-        let line = String::from_str(rt.alloc(), "seg a 1 2 3 4")?;
-        let found = compare_reading(&watch, &vec![in rt.alloc(); line]?);
-        assert!(rt; matches!(found, Err(Failure::Differs(_))));
-        Ok(())
-    }
 }

@@ -1,142 +1,223 @@
-//! What answers questions, beside a plain list of its items.
+//! The driver of parts, stacks and indexes.
 ghost use Rattle.std.specs.Prelude.{◌≡◌};
 
-use crate::collection::{Answering, Collection};
-use crate::kind::{Asker, Kind};
+use crate::bench::Bench;
+use crate::kind::Kind;
+use crate::tried::{Tried, answer};
 use builder_trait::{Answers, Builder};
 use query_laws::step_ledger::Steps;
-use query_laws::{Item, Question};
-use samples::{Failure, Generator, Scanned, Spread, do_or_retry, expect_same};
+use query_laws::{Item, NoMemory, Question};
+use samples::{Costs, Failure, Generator, Scanned, Spread, expect_same};
 use std::alloc::Global;
+use std::mem;
 use std::sync::ledger::Ledger;
+use std::time::Clock;
 
-/// What was done in trials, and what was answered: sums modulo 2^64.
-#[derive(Clone, Copy, Debug, Default, PartialEq, Eq)]
-pub struct Seen {
-    pub inserted: u64,
-    pub deleted: u64,
-    /// What is told after each update.
-    pub live: u64,
-    pub parts: u64,
-    pub unwalked: u64,
-    pub asked: u64,
-    pub consulted: u64,
-    /// The numbers of all answers.
-    pub answers: u64,
-    pub refused: u64,
+/// Questions come after each update whose number is a multiple of this one, where they are compared.
+const ROUND: usize = 10;
+
+/// How something is tried.
+#[derive(Clone, Copy)]
+pub struct Plan {
+    pub seed: u64,
+    pub spread: Spread,
+    /// The first inserts.
+    pub size: usize,
+    /// The updates after them.
+    pub updates: usize,
+    /// Whether the item at the front is deleted, and no other.
+    pub is_oldest: bool,
+    /// How often each question is asked at a time.
+    pub asked: usize,
+    /// Whether answers are compared with those of a plain list. Costs are told where they aren't.
+    pub is_compared: bool,
 }
 
-/// What answers questions, beside a plain list of its items.
+/// What is tried, beside a plain list of its live items, which is empty where nothing is compared.
 #[derive(Drop)]
-pub struct Trial<B: Builder, S: Drop> {
-    pub alloc: Global,
-    pub set: S,
+pub struct Trial<B: Builder, T: Tried<B>> {
+    pub set: T,
     pub items: Vec<B::Item>,
-    pub generator: Generator,
-    pub seen: Seen,
+    pub plan: Plan,
+    generator: Generator,
+    inserted: u64,
+    costs: Costs,
 }
 
-/// A drawn question. `Differs` where the answer isn't that of a scan.
-impl<B: Builder, S: Answering<B> + Drop> Asker<B> for Trial<B, S> {
-    fn ask<Q: Question<Item = B::Item> + Scanned, L: Ledger>(
+/// A change of what is tried.
+#[derive(Clone, Copy)]
+enum Change<I> {
+    Insert(I),
+    Settle,
+    Delete(usize),
+}
+
+impl<B: Builder, T: Tried<B>> Trial<B, T> {
+    /// Nothing was inserted yet.
+    pub fn new(alloc: Global, plan: Plan) -> Result<Trial<B, T>, NoMemory> {
+        Ok(Trial {
+            set: T::new(alloc, plan.size)?,
+            items: Vec::new(alloc),
+            plan,
+            generator: Generator::new(plan.seed),
+            inserted: 0,
+            costs: Costs::new(alloc),
+        })
+    }
+
+    /// Asks drawn questions of a type. `Differs` where an answer isn't that of the plain list.
+    pub fn ask<Q: Question<Item = B::Item> + Scanned, R: Clock, L: Ledger>(
         &mut self,
-        steps: &mut Steps<L>,
+        bench: &mut Bench<'_, R, L>,
     ) -> Result<(), Failure>
     where
         B::Part: Answers<Q>,
     {
-        let (alloc, refused) = (self.alloc, &mut self.seen.refused);
-        let question = Q::drawn(&mut self.generator, Spread::Dense);
-        let (found, consulted) = do_or_retry(refused, || {
-            numbers_of::<B, Q, S, L>(alloc, &self.set, &question, steps)
-        })?;
-        let wanted = do_or_retry(refused, || question.scan(alloc, &self.items))?;
-        expect_same(alloc, Q::word(), &question, &found, &wanted)?;
-        self.seen.asked = self.seen.asked.wrapping_add(1);
-        self.seen.consulted = self.seen.consulted.wrapping_add(consulted as u64);
-        self.seen.answers = self.seen.answers.wrapping_add(sum_of(&found));
+        for _ in 0..self.plan.asked {
+            let question = Q::drawn(&mut self.generator, self.plan.spread);
+            if let Err(Failure::NoMemory) = self.put(&question, bench) {
+                bench.seen.refused = bench.seen.refused.wrapping_add(1);
+                self.put(&question, bench)?;
+            }
+        }
+        self.tell_costs(Q::word(), bench)
+    }
+
+    /// Puts a question, and compares the answer.
+    fn put<Q: Question<Item = B::Item> + Scanned, R: Clock, L: Ledger>(
+        &mut self,
+        question: &Q,
+        bench: &mut Bench<'_, R, L>,
+    ) -> Result<(), Failure>
+    where
+        B::Part: Answers<Q>,
+    {
+        let begun = bench.begin()?;
+        let (answer, parts) = answer(bench.alloc, &self.set, question, &mut bench.steps)?;
+        bench.take_in(begun, &mut self.costs)?;
+        let numbers = Q::numbers(bench.alloc, answer)?;
+        if self.plan.is_compared {
+            let wanted = question.scan(bench.alloc, &self.items)?;
+            expect_same(bench.alloc, Q::word(), &numbers, &wanted)?;
+        }
+        bench.seen.take_answer(parts, &numbers);
         Ok(())
     }
-}
 
-/// The numbers of an answer, and how many parts were consulted.
-pub fn numbers_of<B: Builder, Q: Question<Item = B::Item> + Scanned, S: Answering<B>, L: Ledger>(
-    alloc: Global,
-    set: &S,
-    question: &Q,
-    steps: &mut Steps<L>,
-) -> Result<(Vec<u64>, u32), Failure>
-where
-    B::Part: Answers<Q>,
-{
-    let (answer, consulted) = set.answer(alloc, question, steps)?;
-    Ok((Q::numbers(alloc, answer)?, consulted))
-}
-
-/// The sum of numbers modulo 2^64.
-pub fn sum_of(numbers: &[u64]) -> u64 {
-    numbers
-        .iter()
-        .fold(0, |sum: u64, number| sum.wrapping_add(*number))
-}
-
-/// What comes next to a collection.
-#[derive(Clone, Copy, Debug, PartialEq, Eq)]
-pub enum Change {
-    Insert,
-    Delete,
-}
-
-impl<B: Kind, C: Collection<B> + Drop> Trial<B, C> {
-    /// Changes the collection and the list. Where memory is refused, it compares both, and asks for it once more.
-    ///
-    /// `Differs` where they differ, then or afterwards. `NoMemory` where memory is refused twice.
-    pub fn update<L: Ledger>(
+    /// Tells what calls cost since it was told last, where nothing is compared.
+    fn tell_costs<R: Clock, L: Ledger>(
         &mut self,
-        change: Change,
-        steps: &mut Steps<L>,
+        word: &str,
+        bench: &mut Bench<'_, R, L>,
     ) -> Result<(), Failure> {
-        do_or_retry(&mut self.seen.refused, || self.items.reserve(1))?;
-        let done = match self.change(change, steps) {
-            Err(Failure::NoMemory) => {
-                self.seen.refused = self.seen.refused.wrapping_add(1);
-                self.compare(change)?;
-                B::ask_each(self, steps)?;
-                self.change(change, steps)
-            }
-            done => done,
-        };
-        done?;
-        self.compare(change)
+        let costs = mem::replace(&mut self.costs, Costs::new(bench.alloc));
+        if !self.plan.is_compared {
+            let words = format!(in bench.alloc; "{} {word}", T::word())?;
+            costs.tell(words.as_str(), &mut bench.report)?;
+        }
+        Ok(())
     }
 
-    /// Changes the collection, and then the list.
-    fn change<L: Ledger>(&mut self, change: Change, steps: &mut Steps<L>) -> Result<(), Failure> {
+    /// Makes a change once, and that of the plain list.
+    fn make<L: Ledger>(
+        &mut self,
+        change: Change<B::Item>,
+        steps: &mut Steps<L>,
+    ) -> Result<(), Failure> {
+        self.items.reserve(1)?;
         match change {
-            Change::Insert => {
-                let item = self.set.insert(&mut self.generator, Spread::Dense, steps)?;
-                self.items.push(item)?;
-                self.seen.inserted = self.seen.inserted.wrapping_add(1);
+            Change::Insert(item) => {
+                self.set.insert(item, steps)?;
+                if self.plan.is_compared {
+                    self.items.push(item)?;
+                }
             }
-            Change::Delete => {
-                let Some(item) = self.set.delete(&mut self.generator, steps)? else {
-                    return Ok(());
-                };
-                self.items.retain(|other| other.stamp() != item.stamp());
-                self.seen.deleted = self.seen.deleted.wrapping_add(1);
+            Change::Settle => self.set.settle(steps)?,
+            Change::Delete(place) => {
+                if let Some(item) = self.set.delete(place, steps)? {
+                    self.items.retain(|other| other.stamp() != item.stamp());
+                }
             }
         }
         Ok(())
     }
 
-    /// Compares how many items are live, and takes in what the collection tells.
-    fn compare(&mut self, change: Change) -> Result<(), Failure> {
-        let told = self.set.told();
-        let live = self.items.len() as u64;
-        expect_same(self.alloc, "live", &change, &told.live, &live)?;
-        self.seen.live = self.seen.live.wrapping_add(told.live);
-        self.seen.parts = self.seen.parts.wrapping_add(told.parts as u64);
-        self.seen.unwalked = self.seen.unwalked.wrapping_add(told.unwalked);
-        Ok(())
+    /// Compares how many items are live.
+    fn compare<R: Clock, L: Ledger>(&self, bench: &mut Bench<'_, R, L>) -> Result<(), Failure> {
+        if !self.plan.is_compared {
+            return Ok(());
+        }
+        let live = self.set.live();
+        bench.seen.take_update(live);
+        expect_same(bench.alloc, "live", &[live], &[self.items.len() as u64])
+    }
+}
+
+impl<B: Kind, T: Tried<B>> Trial<B, T> {
+    /// Inserts the first items, and asks each question.
+    pub fn fill<R: Clock, L: Ledger>(
+        &mut self,
+        bench: &mut Bench<'_, R, L>,
+    ) -> Result<(), Failure> {
+        for _ in 0..self.plan.size {
+            let change = self.drawn_change(0);
+            self.change(change, bench)?;
+        }
+        self.tell_costs("insert", bench)?;
+        self.change(Change::Settle, bench)?;
+        self.tell_costs("settle", bench)?;
+        B::ask_each(self, bench)
+    }
+
+    /// Makes the updates, and asks each question, after each tenth update too where answers are compared.
+    pub fn update<R: Clock, L: Ledger>(
+        &mut self,
+        bench: &mut Bench<'_, R, L>,
+    ) -> Result<(), Failure> {
+        for number in 0..self.plan.updates {
+            let change = self.drawn_change(T::deletes());
+            self.change(change, bench)?;
+            if self.plan.is_compared && number % ROUND == 0 {
+                B::ask_each(self, bench)?;
+            }
+        }
+        self.tell_costs("update", bench)?;
+        B::ask_each(self, bench)
+    }
+
+    /// The next change, of eight of which so many are deletes on average. With nothing to delete it changes nothing.
+    fn drawn_change(&mut self, deletes: u32) -> Change<B::Item> {
+        if self.generator.below(8) >= deletes {
+            let stamp = self.inserted;
+            self.inserted = stamp.wrapping_add(1);
+            return Change::Insert(B::drawn(&mut self.generator, self.plan.spread, stamp));
+        }
+        match u32::try_from(self.set.places()) {
+            Ok(places) if places > 0 && !self.plan.is_oldest => {
+                Change::Delete(self.generator.below(places) as usize)
+            }
+            _ => Change::Delete(0),
+        }
+    }
+
+    /// Makes a change. Where memory is refused, it compares, and asks for it once more.
+    ///
+    /// `NoMemory` where it is refused again.
+    fn change<R: Clock, L: Ledger>(
+        &mut self,
+        change: Change<B::Item>,
+        bench: &mut Bench<'_, R, L>,
+    ) -> Result<(), Failure> {
+        let begun = bench.begin()?;
+        let mut done = self.make(change, &mut bench.steps);
+        if matches!(done, Err(Failure::NoMemory)) {
+            bench.seen.refused = bench.seen.refused.wrapping_add(1);
+            self.compare(bench)?;
+            B::ask_each(self, bench)?;
+            done = self.make(change, &mut bench.steps);
+        }
+        done?;
+        bench.take_in(begun, &mut self.costs)?;
+        self.compare(bench)
     }
 }

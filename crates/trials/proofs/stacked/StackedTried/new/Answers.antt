@@ -1,7 +1,7 @@
 use Rattle.std.proofs.Common.{[], ap, subst, sym}
 use Rattle.trials.specs.Stacks.{IsStackOf}
 use Rattle.trials.proofs.Stacks.{IsStackOf-nil}
-use Rattle.trials.proofs.stacked.StackedCollection.new.Goals as goal
+use Rattle.trials.proofs.stacked.StackedTried.new.Goals as goal
 
 pub invariant_of-result : goal.invariant_of-result
 invariant_of-result g c =

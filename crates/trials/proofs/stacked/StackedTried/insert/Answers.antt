@@ -1,14 +1,14 @@
 use Rattle.std.proofs.Common.{◌≡◌, [], ◌∷◌, ◌++◌, ◌∙◌, ap, sym, subst}
 use Rattle.trials.specs.Stacks.{IsStackOf}
 use Rattle.trials.proofs.Stacks.{IsStackOf-same, IsStackOf-insert}
-use Rattle.trials.proofs.stacked.StackedCollection.insert.Goals as goal
+use Rattle.trials.proofs.stacked.StackedTried.insert.Goals as goal
 
 pub invariant_of-self-2 : goal.invariant_of-self-2
 invariant_of-self-2 g c =
-    let x = c.drawn-item.result in
+    let x = c.args.item in
     let p = c.prepare.ensures in
     let items : c.push_reserved.new.self.items ≡ c.self.inside.items.items ++ x ∷ [] =
     c.push_reserved.ensures.items ∙ ap (λ l. l ++ x ∷ []) c.reserve.ensures.items in
     subst (IsStackOf g.B.Part.Part.contents g.B.Item.Item.stamp c.insert.new.self.levels) (sym items)
-    (IsStackOf-insert x (c.drawn-item.ensures ∙ c.weight-stamp.ensures.value ∙ sym p.weight) c.insert.ensures.weight c.insert.ensures.items c.insert.ensures.live
+    (IsStackOf-insert x ? c.insert.ensures.weight c.insert.ensures.items c.insert.ensures.live
     (IsStackOf-same p.weight p.items p.live c.self.invariant))

@@ -5,15 +5,15 @@ use Rattle.query_laws.proofs.Permutations.{IsPermutation-from_Permuted, Permuted
 use Rattle.builder_trait.specs.Parts.{without}
 use Rattle.trials.specs.Stacks.{IsStackOf}
 use Rattle.trials.proofs.Stacks.{IsStackOf-same, IsStackOf-delete}
-use Rattle.trials.proofs.stacked.StackedCollection.delete.Goals as goal
+use Rattle.trials.proofs.stacked.StackedTried.delete.Goals as goal
 
 pub delete-requires-clause-live : goal.delete-requires-clause-live
 delete-requires-clause-live g c =
     let p = c.prepare.ensures in
     let h : IsStackOf g.B.Part.Part.contents g.B.Item.Item.stamp c.prepare.new.self.levels c.self.inside.items.items =
     IsStackOf-same p.weight p.items p.live c.self.invariant in
-    let within : c.in-Some.place < length c.self.inside.items.items = omega (arith, c.in-Some.ensures, c.len.ensures) in
-    Contains-permutation _ _ c.index.result.now (IsPermutation-from_Permuted (Permuted-sym h.live)) (c.in-Some.place, within, sym c.index.ensures)
+    let within : c.args.place < length c.self.inside.items.items = omega (arith, c.if-place-len.false, c.len.ensures) in
+    Contains-permutation _ _ c.index.result.now (IsPermutation-from_Permuted (Permuted-sym h.live)) (c.args.place, within, sym c.index.ensures)
 
 pub invariant_of-self-2 : goal.invariant_of-self-2
 invariant_of-self-2 g c =

@@ -1,0 +1,117 @@
+//! What all trials work with: the clock, the ledger of steps, and the report.
+ghost use Rattle.std.specs.Prelude.{◌≡◌};
+
+use query_laws::step_ledger::{SHARES, Steps};
+use samples::{Costs, Failure, Report};
+use std::alloc::{AllocError, Global};
+use std::io;
+use std::sync::ledger::{Blank, Ledger};
+use std::time::{Clock, Instant};
+
+/// What trials saw: sums modulo 2^64.
+#[derive(Clone, Copy, Default)]
+pub struct Seen {
+    pub updates: u64,
+    /// The live items after each update.
+    pub live: u64,
+    pub asked: u64,
+    /// The parts that were consulted.
+    pub parts: u64,
+    /// The numbers of all answers.
+    pub answers: u64,
+    /// How often memory was refused.
+    pub refused: u64,
+}
+
+impl Seen {
+    /// Takes in an answer.
+    pub fn take_answer(&mut self, parts: u32, numbers: &[u64]) {
+        self.asked = self.asked.wrapping_add(1);
+        self.parts = self.parts.wrapping_add(u64::from(parts));
+        for number in numbers {
+            self.answers = self.answers.wrapping_add(*number);
+        }
+    }
+
+    /// Takes in an update, after which so many items are live.
+    pub fn take_update(&mut self, live: u64) {
+        self.updates = self.updates.wrapping_add(1);
+        self.live = self.live.wrapping_add(live);
+    }
+}
+
+/// What all trials work with. It reads the clock where times are wanted, and never otherwise.
+#[derive(Drop)]
+pub struct Bench<'a, R: Clock, L: Ledger> {
+    pub rt: &'a R,
+    pub alloc: Global,
+    pub is_timed: bool,
+    pub steps: Steps<L>,
+    pub seen: Seen,
+    pub report: Report,
+}
+
+impl<'a, R: Clock, L: Ledger> Bench<'a, R, L> {
+    pub fn new(rt: &'a R, alloc: Global, is_timed: bool, blank: Blank) -> Bench<'a, R, L>
+        requires name { blank.name ≡ L.name }
+        requires parts { blank.parts ≡ L.parts }
+        requires shares { blank.parts ≡ SHARES }
+    {
+        Bench {
+            rt,
+            alloc,
+            is_timed,
+            steps: Steps::new(blank),
+            seen: Seen::default(),
+            report: Report::new(alloc),
+        }
+    }
+
+    /// Begins a lap of the steps, for a call. Gives the time where times are wanted.
+    #[inline]
+    pub fn begin(&mut self) -> io::Result<Option<Instant>> {
+        self.steps.start_lap();
+        self.start()
+    }
+
+    /// The time at which a call begins, where times are wanted.
+    #[inline]
+    pub fn start(&self) -> io::Result<Option<Instant>> {
+        if !self.is_timed {
+            return Ok(None);
+        }
+        Ok(Some(Instant::now(self.rt)?))
+    }
+
+    /// The nanoseconds since a call began, or 2^64 - 1 where they are more, and 0 where times aren't wanted.
+    #[inline]
+    pub fn since(&self, begun: Option<Instant>) -> io::Result<u64> {
+        let Some(begun) = begun else {
+            return Ok(0);
+        };
+        let nanoseconds = begun.elapsed(self.rt)?.as_nanos();
+        Ok(u64::try_from(nanoseconds).unwrap_or(u64::MAX))
+    }
+
+    /// Takes in what a call cost, which began then with a lap of the steps.
+    pub fn take_in(&self, begun: Option<Instant>, costs: &mut Costs) -> Result<(), Failure> {
+        let (turns, marks) = (self.steps.lap_turns(), self.steps.lap_marks());
+        costs.push([turns, marks, self.steps.lap_touches(), self.since(begun)?])?;
+        Ok(())
+    }
+
+    /// Tells what was seen, and begins anew.
+    pub fn tell_seen(&mut self, word: &str) -> Result<(), AllocError> {
+        let seen = self.seen;
+        self.seen = Seen::default();
+        let numbers = [
+            ("updates", seen.updates),
+            ("live", seen.live),
+            ("asked", seen.asked),
+            ("parts", seen.parts),
+            ("answers", seen.answers),
+            ("refused", seen.refused),
+        ];
+        self.report.tell(word, &numbers)
+    }
+}

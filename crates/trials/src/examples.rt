@@ -1,0 +1,66 @@
+//! Example scripts beside the answers that are expected.
+use crate::bench::Bench;
+use map_io::MemSink;
+use map_session::{Session, answer_lines};
+use samples::{Failure, expect_same};
+use std::fs;
+use std::rt::Files;
+use std::sync::ledger::Ledger;
+use std::time::Clock;
+
+/// A script has fewer bytes than this.
+const MOST_BYTES: usize = 1 << 40;
+
+/// Runs each script `NAME.livemap` of a folder by a session of its own, and compares its answers with the file `NAME.out`.
+///
+/// Tells of each example. `Differs` where the answers aren't those of the file.
+pub fn check_examples<R: Clock + Files + AllocGlobal + Clone + Drop, L: Ledger>(
+    bench: &mut Bench<'_, R, L>,
+    folder: &str,
+) -> Result<(), Failure> {
+    let mut names = script_names(bench, folder)?;
+    names.sort_unstable();
+    for name in &names {
+        check_example(bench, folder, name.as_str())?;
+        bench.report.tell("example", &[(name.as_str(), 1)])?;
+    }
+    Ok(())
+}
+
+/// The names of the scripts of a folder, without their ending.
+fn script_names<R: Clock + Files + AllocGlobal + Clone + Drop, L: Ledger>(
+    bench: &Bench<'_, R, L>,
+    folder: &str,
+) -> Result<Vec<String>, Failure> {
+    let mut names = Vec::new(bench.alloc);
+    for entry in fs::read_dir(bench.rt, folder)? {
+        let entry = entry?;
+        if let Some(name) = entry.file_name().strip_suffix(".livemap") {
+            names.push(String::from_str(bench.alloc, name)?)?;
+        }
+    }
+    Ok(names)
+}
+
+/// Compares the answers to one script with those of its file.
+fn check_example<R: Clock + Files + AllocGlobal, L: Ledger>(
+    bench: &mut Bench<'_, R, L>,
+    folder: &str,
+    name: &str,
+) -> Result<(), Failure> {
+    let alloc = bench.alloc;
+    let script = fs::read(
+        bench.rt,
+        format!(in alloc; "{folder}/{name}.livemap")?.as_str(),
+    )?;
+    let wanted = fs::read(bench.rt, format!(in alloc; "{folder}/{name}.out")?.as_str())?;
+    if script.len() >= MOST_BYTES {
+        return Err(Failure::Unfit);
+    }
+    let space = vec![in alloc; 0u8; wanted.len()]?;
+    let mut sink = MemSink::new(space, usize::MAX, Vec::new(alloc));
+    let mut session = Session::new(alloc, false);
+    let done = answer_lines(&mut session, &script, &mut sink, &mut bench.steps);
+    let is_same = done.is_ok() && sink.written() == wanted.as_slice();
+    expect_same(alloc, name, &[u64::from(is_same)], &[1])
+}

@@ -1,0 +1,91 @@
+//! Times of a script's commands.
+ghost use Rattle.map_io.specs.SinkTold.{told_by_faults};
+
+use crate::bench::Bench;
+use map_io::{Failed, Sink};
+use map_session::{Done, Session};
+use query_laws::step_ledger::Steps;
+use samples::{Costs, Failure};
+use script_lang::split_word;
+use std::fs;
+use std::rt::Files;
+use std::sync::ledger::Ledger;
+use std::time::Clock;
+
+/// A session takes fewer lines than this.
+const MOST_LINES: u64 = 1 << 40;
+
+/// What lines are told of by: the command words in alphabetical order, and all updates together.
+const WORDS: &str =
+    "above add count drop get layer list near nearest recent seg size stab stabcount sum top update";
+
+/// Takes all bytes and keeps none of them. It never fails.
+#[derive(Drop)]
+struct NullSink;
+
+impl Sink for NullSink {
+    ghost told = { λ _. told_by_faults 0 };
+
+    fn write(&mut self, piece: &[u8]) -> Result<usize, Failed> {
+        Ok(piece.len())
+    }
+}
+
+/// Runs the script of a file by a session of its own, and tells what the lines cost: those of each command word that it has, and
+/// all updates together.
+///
+/// Lines that are refused count too, by their first words. Answers aren't kept.
+pub fn measure_script<R: Clock + Files + AllocGlobal, L: Ledger>(
+    bench: &mut Bench<'_, R, L>,
+    path: &str,
+) -> Result<(), Failure> {
+    let script = fs::read(bench.rt, path)?;
+    let mut table = Vec::new(bench.alloc);
+    for word in WORDS.split_ascii_whitespace() {
+        table.push((word, Costs::new(bench.alloc)))?;
+    }
+    let mut session = Session::new(bench.alloc, false);
+    for line in script.split(|byte| *byte == b'\n') {
+        run_line(bench, &mut session, line, &mut table)?;
+    }
+    for (word, costs) in &table {
+        costs.tell(word, &mut bench.report)?;
+    }
+    Ok(())
+}
+
+/// Gives a line to a session, and takes in what it cost where it is told of: nowhere where it says nothing.
+fn run_line<R: Clock, L: Ledger>(
+    bench: &mut Bench<'_, R, L>,
+    session: &mut Session,
+    line: &[u8],
+    table: &mut [(&str, Costs)],
+) -> Result<(), Failure> {
+    let begun = bench.begin()?;
+    if give_line(session, line, &mut NullSink, &mut bench.steps)? == Done::Silent {
+        return Ok(());
+    }
+    let Some((first, _)) = split_word(line) else {
+        return Ok(());
+    };
+    let is_update = matches!(first, b"add" | b"seg" | b"drop");
+    for (word, costs) in table {
+        if word.as_bytes() == first || (is_update && *word == "update") {
+            bench.take_in(begun, costs)?;
+        }
+    }
+    Ok(())
+}
+
+/// Gives a line to a session. `Unfit` where it has had 2^40.
+pub fn give_line<K: Sink, L: Ledger>(
+    session: &mut Session,
+    line: &[u8],
+    sink: &mut K,
+    steps: &mut Steps<L>,
+) -> Result<Done, Failure> {
+    if session.lines() >= MOST_LINES {
+        return Err(Failure::Unfit);
+    }
+    Ok(session.line(line, sink, steps)?)
+}
