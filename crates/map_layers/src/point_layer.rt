@@ -17,13 +17,13 @@ ghost use Rattle.map_layers.specs.Layer.{items_of, indexes_of, layer_of, stamp_o
 use crate::bounds::{Bounds, spent};
 use crate::indexing::{delete_in, insert_in, new_in, prepare_in};
 use crate::{AskFault, UpdateFault};
-use builder_trait::{Answers, Asking, Given, Part};
+use builder_trait::{AnsweringRows, Asking, Given, Part};
 use global_rebuild::Index;
 use id_directory::Directory;
 use map_shapes::{Name, Point, Shape, Spent};
 use query_laws::Question;
 use query_laws::step_ledger::Steps;
-use range_tree::{RangeBuilder, RangePart};
+use range_tree::{RangeBuilder, RangePart, RangeRows};
 use std::alloc::Global;
 use std::default::MadeWith;
 use std::marker::Model;
@@ -187,7 +187,7 @@ impl PointLayer {
         steps: &mut Steps<L>,
     ) -> Result<Given<RangePart, Q>, AskFault>
     where
-        RangePart: Answers<Q>,
+        RangeRows: AnsweringRows<Q>,
         ensures asked { IfOk result (λ given. given.question ≡ question.now) }
         ensures value { IfOk result (λ given. given.answer ≡ Q.value question.now (map (λ e. e.item) self.now.entries)) }
         ensures refused { IsAskRefusal self.now.range Q.refusable result }

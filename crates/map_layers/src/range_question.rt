@@ -16,15 +16,15 @@ ghost use Rattle.map_layers.specs.Costs.{rows_of, touches_in_part};
 ghost use Rattle.map_layers.specs.Layer.{items_of};
 ghost use Rattle.map_layers.specs.QuestionLaws.{count_in-scan, weight_in-scan, ids_in-scan, count-touches, list-touches, listing-none, listing-ids};
 
-use builder_trait::Answers;
+use builder_trait::AnsweringRows;
 use map_shapes::{CountIn, ListIn, Point, SumIn};
 use query_laws::Question;
-use range_tree::RangePart;
+use range_tree::RangeRows;
 
 /// A question of the definitions, which an index for rectangles answers as a scan of all items does.
 pub(crate) trait RangeQuestion: Question<Item = Point>
 where
-    RangePart: Answers<Self>,
+    RangeRows: AnsweringRows<Self>,
 {
     /// What it asks, as the definitions have it.
     ghost asks: { Self → answers.Question };
@@ -52,7 +52,7 @@ where
 
     /// What it touches in a part of at most `2^g` points.
     ghost part_touches: { (q : Self) (g : ℕ) (p : Contents Point) → g < 64 → length p.items ≤ 2 ^ g
-        → ⟦<RangePart as Answers<Self>>⟧.ask_touches q p ≤ 16 * ((g + 2) * (g + 2)) + 8 * (g + 2) * length (filter (lists q) (live_of p)) };
+        → ⟦<RangeRows as AnsweringRows<Self>>⟧.ask_touches q p ≤ 16 * ((g + 2) * (g + 2)) + 8 * (g + 2) * length (filter (lists q) (live_of p)) };
 
     /// What it touches in all parts together is within the most.
     ghost all_touches: { (q : Self) (layer : Layer) (parts : ℕ) (points : List Point)

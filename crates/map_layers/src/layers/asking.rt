@@ -13,10 +13,10 @@ ghost use Rattle.map_layers.specs.Replies.{asked, IsAnswered};
 use super::layer_of;
 use crate::range_question::RangeQuestion;
 use crate::{AskFault, Layers};
-use builder_trait::{Answers, Given};
+use builder_trait::{AnsweringRows, Given};
 use map_shapes::{Asked, CountIn, ListIn, Name, Rect, SumIn};
 use query_laws::step_ledger::Steps;
-use range_tree::RangePart;
+use range_tree::{RangePart, RangeRows};
 use std::sync::ledger::Ledger;
 
 impl Layers {
@@ -85,7 +85,7 @@ impl Layers {
         steps: &mut Steps<L>,
     ) -> Result<(Given<RangePart, Q>, Asked), AskFault>
     where
-        RangePart: Answers<Q>,
+        RangeRows: AnsweringRows<Q>,
         ensures answered { IsAnswered (map_of self.now) (Ask name.now (Q.asks question.now)) (map_of self.now)
             (asked (λ given. Answered (Q.tells given.0.answer)) result) }
         ensures question { IfOk result (λ given. given.0.question ≡ question.now) }

@@ -1,6 +1,7 @@
-use Rattle.std.proofs.Common.{rules, Some, ◌≡◌, ◌+◌, ◌*◌, ◌^◌, ◌≤◌, length, ap, subst, sym, arith}
+use Rattle.std.proofs.Common.{rules, Option, Some, ◌≡◌, ◌+◌, ◌*◌, ◌^◌, ◌≤◌, length, ap, subst, sym, arith}
 use Rattle.std.specs.Prelude.{IfSome}
-use Rattle.stack_levels.specs.Levels.{parts_of}
+use Rattle.query_laws.specs.StepLedger.{Spends}
+use Rattle.stack_levels.specs.Levels.{parts_of, touches_of}
 use Rattle.level_slots.specs.Height.{HaveAtMost}
 use Rattle.global_rebuild.specs.Index.{IsIndexOf}
 use Rattle.global_rebuild.proofs.Weights.{as_many}
@@ -44,3 +45,22 @@ returns-clause-sizes g c =
     let sizes = c.parts.ensures.sizes (greatest_level n) (omega (arith, light, ap length same, as_many (λ part. part) stamp_of c.in-Some.index es h)) in
     let is : c.args.self.now.range ≡ Some c.in-Some.index = search rules in
     subst (λ o. IfSome o (λ i. HaveAtMost (λ part. part) (2 ^ greatest_level n) i.main.levels)) (sym is) sizes
+
+-- what is said of the index that was asked, at the question that was put, said of the layer's at the question that was handed in
+of_layer : {I Q : Type 0} (said : Q → I → Type 0) (range : Option I) (index : I) (put handed : Q) → range ≡ Some index → put ≡ handed → said put index → IfSome range (said handed)
+of_layer said range index put handed is same p = subst (λ o. IfSome o (said handed)) (sym is) (subst (λ q. said q index) same p)
+
+pub returns-in_err-ask-clause-spent : goal.returns-in_err-ask-clause-spent
+returns-in_err-ask-clause-spent g c =
+    of_layer (λ q i. Spends c.args.steps.now c.ask.new.steps 0 0 (touches_of (g.bound-7.ask_touches q) i.main.levels))
+    c.args.self.now.range c.in-Some.index c.new-asking.result.question c.args.question.now (search rules) (search rules) c.ask.ensures.cost
+
+pub returns-in_err-finish-clause-spent : goal.returns-in_err-finish-clause-spent
+returns-in_err-finish-clause-spent g c =
+    of_layer (λ q i. Spends c.args.steps.now c.ask.new.steps 0 0 (touches_of (g.bound-7.ask_touches q) i.main.levels))
+    c.args.self.now.range c.in-Some.index c.new-asking.result.question c.args.question.now (search rules) (search rules) c.ask.ensures.cost
+
+pub returns-clause-spent : goal.returns-clause-spent
+returns-clause-spent g c =
+    of_layer (λ q i. Spends c.args.steps.now c.ask.new.steps 0 0 (touches_of (g.bound-7.ask_touches q) i.main.levels))
+    c.args.self.now.range c.in-Some.index c.new-asking.result.question c.args.question.now (search rules) (search rules) c.ask.ensures.cost
