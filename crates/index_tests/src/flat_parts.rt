@@ -124,7 +124,7 @@ fn sum_of_three<L: Ledger>(
 }
 
 /// Three parts of one point each, of which the second is marked: the sum of `x`, the parts consulted, their live items, and the turns.
-fn sum_seen<L: Ledger>(alloc: Global, blank: Blank) -> Result<[u64; 4], NoMemory>
+fn sum_seen<L: Ledger>(alloc: Global, blank: Blank) -> Result<(u64, u32, u128, u64), NoMemory>
     requires name { blank.name ≡ L.name }
     requires parts { blank.parts ≡ L.parts }
     requires shares { blank.parts ≡ SHARES }
@@ -153,19 +153,13 @@ fn sum_seen<L: Ledger>(alloc: Global, blank: Blank) -> Result<[u64; 4], NoMemory
         part_of_one(FlatBuilder::room(alloc, 0)?, third, &mut steps),
     ];
     let given = sum_of_three(alloc, &parts, &mut steps)?;
-    let consulted = given.consulted();
-    let live = given.live();
-    Ok([
-        given.into_answer(),
-        consulted as u64,
-        live as u64,
-        steps.lap_turns(),
-    ])
+    let (consulted, live) = (given.consulted(), given.live());
+    Ok((given.into_answer(), consulted, live, steps.lap_turns()))
 }
 
 #[test]
 fn sums_over_parts(rt: HostRuntime) -> Result<(), Fail> {
     let seen = sum_seen::<Brand>(rt.alloc(), blank())?;
-    assert_eq!(rt; seen, [57, 3, 2, 9]);
+    assert_eq!(rt; seen, (57, 3, 2, 9));
     Ok(())
 }
