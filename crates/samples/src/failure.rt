@@ -15,9 +15,8 @@ pub enum Failure {
     /// An answer isn't the one that is wanted: says which.
     #[error("{0}")]
     Differs(String),
-    /// Answers could not be written.
     #[error("the answers could not be written")]
-    NoAnswers,
+    NoAnswers(#[from] WriteFault),
     /// A script has 2^40 lines or bytes, or items are too many or in no order.
     #[error("the script is too long, or the items are too many or in no order")]
     Unfit,
@@ -38,11 +37,5 @@ impl From<AllocError> for Failure {
 impl<T: Drop> From<AllocFailed<T>> for Failure {
     fn from(_refused: AllocFailed<T>) -> Failure {
         Failure::NoMemory
-    }
-}
-
-impl From<WriteFault> for Failure {
-    fn from(_fault: WriteFault) -> Failure {
-        Failure::NoAnswers
     }
 }

@@ -6,7 +6,7 @@ ghost use Rattle.std.specs.Prelude.{◌<◌};
 /// It is the one of made scripts, so that a seed means the same everywhere: from seed 0 the first draw is 335,903,614.
 #[derive(Drop)]
 pub struct Generator {
-    pub state: u64,
+    state: u64,
 }
 
 const MULTIPLIER: u64 = 6_364_136_223_846_793_005;

@@ -4,19 +4,15 @@ ghost use Rattle.std.specs.Prelude.{◌≡◌};
 use query_laws::step_ledger::{SHARES, Steps};
 use samples::{Costs, Failure, Report};
 use std::alloc::{AllocError, Global};
-use std::io;
 use std::sync::ledger::{Blank, Ledger};
 use std::time::{Clock, Instant};
+use std::{io, mem};
 
 /// What trials saw: sums modulo 2^64.
 #[derive(Clone, Copy, Default)]
 pub struct Seen {
     pub updates: u64,
-    /// The live items after each update.
-    pub live: u64,
     pub asked: u64,
-    /// The parts that were consulted.
-    pub parts: u64,
     /// The numbers of all answers.
     pub answers: u64,
     /// How often memory was refused.
@@ -25,18 +21,11 @@ pub struct Seen {
 
 impl Seen {
     /// Takes in an answer.
-    pub fn take_answer(&mut self, parts: u32, numbers: &[u64]) {
+    pub fn take_answer(&mut self, numbers: &[u64]) {
         self.asked = self.asked.wrapping_add(1);
-        self.parts = self.parts.wrapping_add(u64::from(parts));
         for number in numbers {
             self.answers = self.answers.wrapping_add(*number);
         }
-    }
-
-    /// Takes in an update, after which so many items are live.
-    pub fn take_update(&mut self, live: u64) {
-        self.updates = self.updates.wrapping_add(1);
-        self.live = self.live.wrapping_add(live);
     }
 }
 
@@ -95,20 +84,17 @@ impl<'a, R: Clock, L: Ledger> Bench<'a, R, L> {
 
     /// Takes in what a call cost, which began then with a lap of the steps.
     pub fn take_in(&self, begun: Option<Instant>, costs: &mut Costs) -> Result<(), Failure> {
-        let (turns, marks) = (self.steps.lap_turns(), self.steps.lap_marks());
-        costs.push([turns, marks, self.steps.lap_touches(), self.since(begun)?])?;
-        Ok(())
+        let steps = &self.steps;
+        let (turns, marks, touches) = (steps.lap_turns(), steps.lap_marks(), steps.lap_touches());
+        Ok(costs.push([turns, marks, touches, self.since(begun)?])?)
     }
 
     /// Tells what was seen, and begins anew.
     pub fn tell_seen(&mut self, word: &str) -> Result<(), AllocError> {
-        let seen = self.seen;
-        self.seen = Seen::default();
+        let seen = mem::take(&mut self.seen);
         let numbers = [
             ("updates", seen.updates),
-            ("live", seen.live),
             ("asked", seen.asked),
-            ("parts", seen.parts),
             ("answers", seen.answers),
             ("refused", seen.refused),
         ];

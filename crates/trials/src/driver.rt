@@ -42,15 +42,16 @@ pub fn measure_layer<B: Kind, R: Clock + Files + AllocGlobal, L: Ledger>(
     size: usize,
     spread: Spread,
 ) -> Result<(), Failure> {
+    let updates = match layer {
+        Layer::Part => MARKS,
+        Layer::Stack => 0,
+        Layer::Index => size.saturating_mul(3).min(MOST_UPDATES),
+    };
     let plan = Plan {
         seed,
         spread,
         size,
-        updates: match layer {
-            Layer::Part => MARKS,
-            Layer::Stack => 0,
-            Layer::Index => size.saturating_mul(3).min(MOST_UPDATES),
-        },
+        updates,
         is_oldest: false,
         asked: ASKED,
         is_compared: false,
@@ -82,17 +83,13 @@ fn run_trial<B: Kind, T: Tried<B>, R: Clock + Files + AllocGlobal, L: Ledger>(
     plan: Plan,
 ) -> Result<(), Failure> {
     let before = bytes_held(bench)?;
-    let mut trial = match Trial::<B, T>::new(bench.alloc, plan) {
-        Ok(trial) => trial,
-        Err(_refused) => Trial::new(bench.alloc, plan)?,
-    };
+    let mut trial = Trial::<B, T>::new(bench.alloc, plan)?;
     trial.fill(bench)?;
     let bytes = bytes_held(bench)?.saturating_sub(before);
     if bytes > 0 && !plan.is_compared {
         let each = bytes / (plan.size as u64).max(1);
-        bench
-            .report
-            .tell(T::word(), &[("bytes", bytes), ("each", each)])?;
+        let told = [("bytes", bytes), ("each", each)];
+        bench.report.tell(T::WORD, &told)?;
     }
     if plan.updates > 0 {
         trial.update(bench)?;
@@ -107,7 +104,8 @@ fn check_sizes<B: Kind, T: Tried<B>, R: Clock + Files + AllocGlobal, L: Ledger>(
     most: usize,
 ) -> Result<(), Failure> {
     for size in 0..=most {
-        if is_near_power_of_two(size) {
+        let mut near = size.saturating_sub(1)..=size.saturating_add(1);
+        if near.any(|n| n.is_power_of_two()) {
             let plan = Plan {
                 seed: seed.wrapping_add(size as u64),
                 spread: Spread::Dense,
@@ -120,13 +118,5 @@ fn check_sizes<B: Kind, T: Tried<B>, R: Clock + Files + AllocGlobal, L: Ledger>(
             run_trial::<B, T, R, L>(bench, plan)?;
         }
     }
-    bench.tell_seen(T::word())?;
-    Ok(())
-}
-
-fn is_near_power_of_two(n: usize) -> bool {
-    n < 2
-        || n.is_power_of_two()
-        || (n - 1).is_power_of_two()
-        || n.saturating_add(1).is_power_of_two()
+    Ok(bench.tell_seen(T::WORD)?)
 }

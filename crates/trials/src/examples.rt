@@ -49,11 +49,10 @@ fn check_example<R: Clock + Files + AllocGlobal, L: Ledger>(
     name: &str,
 ) -> Result<(), Failure> {
     let alloc = bench.alloc;
-    let script = fs::read(
-        bench.rt,
-        format!(in alloc; "{folder}/{name}.livemap")?.as_str(),
-    )?;
-    let wanted = fs::read(bench.rt, format!(in alloc; "{folder}/{name}.out")?.as_str())?;
+    let path = format!(in alloc; "{folder}/{name}.livemap")?;
+    let script = fs::read(bench.rt, path.as_str())?;
+    let path = format!(in alloc; "{folder}/{name}.out")?;
+    let wanted = fs::read(bench.rt, path.as_str())?;
     if script.len() >= MOST_BYTES {
         return Err(Failure::Unfit);
     }

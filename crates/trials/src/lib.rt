@@ -1,4 +1,4 @@
-//! What parts, stacks and indexes of any kind cost, and their answers beside plain lists; a session beside a plain map; and text.
+//! What parts, stacks and indexes of any kind cost, and their answers beside plain lists; a session beside a plain list; and text.
 #![tactic(auto)]
 
 mod bench;

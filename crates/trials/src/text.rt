@@ -24,7 +24,7 @@ const ASKED: Asked = Asked {
 
 /// Reads so many seeded lines and writes so many replies, by the map's crates and by std alone.
 ///
-/// Tells of them, and where times are wanted of the nanoseconds for each, by both. `Differs` where the two come to other sums or other bytes.
+/// Tells of them, and where times are wanted of the nanoseconds for each. `Differs` where the two come to other sums or other bytes.
 pub fn measure_text<R: Clock, L: Ledger>(
     bench: &mut Bench<'_, R, L>,
     seed: u64,
@@ -32,13 +32,22 @@ pub fn measure_text<R: Clock, L: Ledger>(
 ) -> Result<(), Failure> {
     let mut generator = Generator::new(seed);
     let mut lines = Vec::new(bench.alloc);
-    let mut numbers = Vec::new(bench.alloc);
     for _ in 0..size {
         lines.push(made_line(bench.alloc, &mut generator)?)?;
-        numbers.push(generator.state)?;
     }
-    compare_reading(bench, &lines)?;
-    compare_writing(bench, &numbers)
+    let (read, read_by_std) = compare_reading(bench, &lines)?;
+    let (written, written_by_std) = compare_writing(bench, size)?;
+    let each = (size as u64).max(1);
+    let means = [
+        ("read", read / each),
+        ("by std", read_by_std / each),
+        ("written", written / each),
+        ("by std", written_by_std / each),
+    ];
+    if bench.is_timed {
+        bench.report.tell("text nanoseconds", &means)?;
+    }
+    Ok(())
 }
 
 /// A line that adds a point.
@@ -50,60 +59,43 @@ fn made_line(alloc: Global, generator: &mut Generator) -> Result<String, AllocEr
     format!(in alloc; "add a {id} {x} {y} {w}")
 }
 
-/// Adds up the numbers of lines, by the script language and by std.
+/// Adds up the numbers of lines, by the script language and by std. Gives the nanoseconds of each.
 pub fn compare_reading<R: Clock, L: Ledger>(
     bench: &mut Bench<'_, R, L>,
     lines: &[String],
-) -> Result<(), Failure> {
+) -> Result<(u64, u64), Failure> {
     let begun = bench.start()?;
     let sum = sum_of_adds(lines);
     let time = bench.since(begun)?;
     let begun = bench.start()?;
     let wanted = sum_by_std(lines);
     let time_by_std = bench.since(begun)?;
-    expect_same(bench.alloc, "the sum of lines", &[sum], &[wanted])?;
-    let count = lines.len() as u64;
-    bench
-        .report
-        .tell("read", &[("lines", count), ("sum", sum)])?;
-    tell_times(bench, "read", count, [time, time_by_std])
+    expect_same(bench.alloc, "sum", &[sum], &[wanted])?;
+    let told = [("lines", lines.len() as u64), ("sum", sum)];
+    bench.report.tell("read", &told)?;
+    Ok((time, time_by_std))
 }
 
-/// Writes a count's reply for each number, by the map's crates and by std.
+/// Writes the replies to so many counts, by the map's crates and by std. Gives the nanoseconds of each.
 fn compare_writing<R: Clock, L: Ledger>(
     bench: &mut Bench<'_, R, L>,
-    numbers: &[u64],
-) -> Result<(), Failure> {
+    count: usize,
+) -> Result<(u64, u64), Failure> {
     let alloc = bench.alloc;
-    let size = numbers.len().saturating_mul(LONGEST);
+    let size = count.saturating_mul(LONGEST);
     let mut sink = MemSink::new(vec![in alloc; 0u8; size]?, usize::MAX, Vec::new(alloc));
     let mut text = String::with_capacity(alloc, size)?;
     let begun = bench.start()?;
-    write_counts(numbers, &mut sink)?;
+    write_counts(count, &mut sink)?;
     let time = bench.since(begun)?;
     let begun = bench.start()?;
-    write_by_std(numbers, &mut text)?;
+    write_by_std(count, &mut text)?;
     let time_by_std = bench.since(begun)?;
     let is_same = sink.written() == text.as_bytes();
-    expect_same(alloc, "the replies", &[u64::from(is_same)], &[1])?;
-    let count = numbers.len() as u64;
-    bench.report.tell("write", &[("replies", count), ("bytes", text.len() as u64)])?;
-    tell_times(bench, "write", count, [time, time_by_std])
-}
-
-/// Tells how many nanoseconds each of so many lines took, by the map's crates and by std, where times are wanted.
-fn tell_times<R: Clock, L: Ledger>(
-    bench: &mut Bench<'_, R, L>,
-    word: &str,
-    lines: u64,
-    times: [u64; 2],
-) -> Result<(), Failure> {
-    if bench.is_timed && lines > 0 {
-        let [time, by_std] = times;
-        let means = [("mean", time / lines), ("by std", by_std / lines)];
-        bench.report.tell(word, &means)?;
-    }
-    Ok(())
+    expect_same(alloc, "replies", &[u64::from(is_same)], &[1])?;
+    let told = [("replies", count as u64), ("bytes", text.len() as u64)];
+    bench.report.tell("write", &told)?;
+    Ok((time, time_by_std))
 }
 
 /// The sum of the numbers of all points that the lines add, by the script language; 2^64 - 1 where it is more.
@@ -127,18 +119,18 @@ fn sum_by_std(lines: &[String]) -> u64 {
         .fold(0, |sum: u64, number| sum.saturating_add(number))
 }
 
-/// Writes the reply to a count for each number.
-fn write_counts<K: Sink>(numbers: &[u64], sink: &mut K) -> Result<(), WriteFault> {
-    for n in numbers.iter().copied() {
+/// Writes the replies to counts that come to 0, 1 and so on.
+fn write_counts<K: Sink>(count: usize, sink: &mut K) -> Result<(), WriteFault> {
+    for n in 0..count as u64 {
         write_reply(&Reply::Count { n, asked: ASKED }, false, sink)?;
     }
     Ok(())
 }
 
 /// Writes the same lines by `writeln!`.
-fn write_by_std(numbers: &[u64], text: &mut String) -> Result<(), AllocError> {
-    for number in numbers {
-        writeln!(text, "count {number}")?;
+fn write_by_std(count: usize, text: &mut String) -> Result<(), AllocError> {
+    for n in 0..count as u64 {
+        writeln!(text, "count {n}")?;
     }
     Ok(())
 }

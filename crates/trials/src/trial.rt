@@ -3,8 +3,8 @@ ghost use Rattle.std.specs.Prelude.{◌≡◌};
 
 use crate::bench::Bench;
 use crate::kind::Kind;
-use crate::tried::{Tried, answer};
-use builder_trait::{Answers, Builder};
+use crate::tried::Tried;
+use builder_trait::{Answers, Asking, Builder};
 use query_laws::step_ledger::Steps;
 use query_laws::{Item, NoMemory, Question};
 use samples::{Costs, Failure, Generator, Scanned, Spread, expect_same};
@@ -48,7 +48,6 @@ pub struct Trial<B: Builder, T: Tried<B>> {
 #[derive(Clone, Copy)]
 enum Change<I> {
     Insert(I),
-    Settle,
     Delete(usize),
 }
 
@@ -65,7 +64,7 @@ impl<B: Builder, T: Tried<B>> Trial<B, T> {
         })
     }
 
-    /// Asks drawn questions of a type. `Differs` where an answer isn't that of the plain list.
+    /// Asks drawn questions of a type, each once more where memory is refused. `Differs` where an answer isn't that of the plain list.
     pub fn ask<Q: Question<Item = B::Item> + Scanned, R: Clock, L: Ledger>(
         &mut self,
         bench: &mut Bench<'_, R, L>,
@@ -75,12 +74,14 @@ impl<B: Builder, T: Tried<B>> Trial<B, T> {
     {
         for _ in 0..self.plan.asked {
             let question = Q::drawn(&mut self.generator, self.plan.spread);
-            if let Err(Failure::NoMemory) = self.put(&question, bench) {
+            let mut done = self.put(&question, bench);
+            if matches!(done, Err(Failure::NoMemory)) {
                 bench.seen.refused = bench.seen.refused.wrapping_add(1);
-                self.put(&question, bench)?;
+                done = self.put(&question, bench);
             }
+            done?;
         }
-        self.tell_costs(Q::word(), bench)
+        self.tell_costs(Q::WORD, bench)
     }
 
     /// Puts a question, and compares the answer.
@@ -93,14 +94,16 @@ impl<B: Builder, T: Tried<B>> Trial<B, T> {
         B::Part: Answers<Q>,
     {
         let begun = bench.begin()?;
-        let (answer, parts) = answer(bench.alloc, &self.set, question, &mut bench.steps)?;
+        let mut asking = Asking::<B::Part, Q>::new(bench.alloc, question);
+        self.set.put(&mut asking, &mut bench.steps)?;
+        let answer = asking.finish()?.into_answer();
         bench.take_in(begun, &mut self.costs)?;
         let numbers = Q::numbers(bench.alloc, answer)?;
         if self.plan.is_compared {
             let wanted = question.scan(bench.alloc, &self.items)?;
-            expect_same(bench.alloc, Q::word(), &numbers, &wanted)?;
+            expect_same(bench.alloc, Q::WORD, &numbers, &wanted)?;
         }
-        bench.seen.take_answer(parts, &numbers);
+        bench.seen.take_answer(&numbers);
         Ok(())
     }
 
@@ -112,7 +115,7 @@ impl<B: Builder, T: Tried<B>> Trial<B, T> {
     ) -> Result<(), Failure> {
         let costs = mem::replace(&mut self.costs, Costs::new(bench.alloc));
         if !self.plan.is_compared {
-            let words = format!(in bench.alloc; "{} {word}", T::word())?;
+            let words = format!(in bench.alloc; "{} {word}", T::WORD)?;
             costs.tell(words.as_str(), &mut bench.report)?;
         }
         Ok(())
@@ -132,7 +135,6 @@ impl<B: Builder, T: Tried<B>> Trial<B, T> {
                     self.items.push(item)?;
                 }
             }
-            Change::Settle => self.set.settle(steps)?,
             Change::Delete(place) => {
                 if let Some(item) = self.set.delete(place, steps)? {
                     self.items.retain(|other| other.stamp() != item.stamp());
@@ -143,13 +145,12 @@ impl<B: Builder, T: Tried<B>> Trial<B, T> {
     }
 
     /// Compares how many items are live.
-    fn compare<R: Clock, L: Ledger>(&self, bench: &mut Bench<'_, R, L>) -> Result<(), Failure> {
+    fn compare(&self, alloc: Global) -> Result<(), Failure> {
         if !self.plan.is_compared {
             return Ok(());
         }
-        let live = self.set.live();
-        bench.seen.take_update(live);
-        expect_same(bench.alloc, "live", &[live], &[self.items.len() as u64])
+        let wanted = self.items.len() as u64;
+        expect_same(alloc, "live", &[self.set.live()], &[wanted])
     }
 }
 
@@ -164,7 +165,11 @@ impl<B: Kind, T: Tried<B>> Trial<B, T> {
             self.change(change, bench)?;
         }
         self.tell_costs("insert", bench)?;
-        self.change(Change::Settle, bench)?;
+        let begun = bench.begin()?;
+        if self.set.settle(&mut bench.steps).is_err() {
+            self.set.settle(&mut bench.steps)?;
+        }
+        bench.take_in(begun, &mut self.costs)?;
         self.tell_costs("settle", bench)?;
         B::ask_each(self, bench)
     }
@@ -175,7 +180,7 @@ impl<B: Kind, T: Tried<B>> Trial<B, T> {
         bench: &mut Bench<'_, R, L>,
     ) -> Result<(), Failure> {
         for number in 0..self.plan.updates {
-            let change = self.drawn_change(T::deletes());
+            let change = self.drawn_change(T::DELETES);
             self.change(change, bench)?;
             if self.plan.is_compared && number % ROUND == 0 {
                 B::ask_each(self, bench)?;
@@ -192,12 +197,11 @@ impl<B: Kind, T: Tried<B>> Trial<B, T> {
             self.inserted = stamp.wrapping_add(1);
             return Change::Insert(B::drawn(&mut self.generator, self.plan.spread, stamp));
         }
-        match u32::try_from(self.set.places()) {
-            Ok(places) if places > 0 && !self.plan.is_oldest => {
-                Change::Delete(self.generator.below(places) as usize)
-            }
-            _ => Change::Delete(0),
+        let places = self.set.places() as u32;
+        if places == 0 || self.plan.is_oldest {
+            return Change::Delete(0);
         }
+        Change::Delete(self.generator.below(places) as usize)
     }
 
     /// Makes a change. Where memory is refused, it compares, and asks for it once more.
@@ -212,12 +216,13 @@ impl<B: Kind, T: Tried<B>> Trial<B, T> {
         let mut done = self.make(change, &mut bench.steps);
         if matches!(done, Err(Failure::NoMemory)) {
             bench.seen.refused = bench.seen.refused.wrapping_add(1);
-            self.compare(bench)?;
+            self.compare(bench.alloc)?;
             B::ask_each(self, bench)?;
             done = self.make(change, &mut bench.steps);
         }
         done?;
         bench.take_in(begun, &mut self.costs)?;
-        self.compare(bench)
+        bench.seen.updates = bench.seen.updates.wrapping_add(1);
+        self.compare(bench.alloc)
     }
 }
