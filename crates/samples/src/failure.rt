@@ -1,15 +1,15 @@
 //! Why a trial ends early.
 use map_io::WriteFault;
 use query_laws::NoMemory;
-use std::alloc::{AllocError, AllocFailed};
+use std::alloc::{AllocError, AllocFailed, Global};
 use std::io;
 use thiserror::Error;
 
 /// Why a trial ends early.
 #[derive(Debug, Drop, Error)]
 pub enum Failure {
-    #[error("no memory")]
-    NoMemory,
+    #[error("{0}")]
+    NoMemory(#[from] NoMemory),
     #[error("{0}")]
     System(#[from] io::Error),
     /// An answer isn't the one that is wanted: says which.
@@ -22,20 +22,23 @@ pub enum Failure {
     Unfit,
 }
 
-impl From<NoMemory> for Failure {
-    fn from(_refused: NoMemory) -> Failure {
-        Failure::NoMemory
-    }
-}
-
 impl From<AllocError> for Failure {
     fn from(_refused: AllocError) -> Failure {
-        Failure::NoMemory
+        Failure::NoMemory(NoMemory)
     }
 }
 
 impl<T: Drop> From<AllocFailed<T>> for Failure {
     fn from(_refused: AllocFailed<T>) -> Failure {
-        Failure::NoMemory
+        Failure::NoMemory(NoMemory)
     }
+}
+
+/// Compares numbers that are found with those that are wanted, and where they differ tells of what they are.
+pub fn expect_same(alloc: Global, of: &str, found: &[u64], wanted: &[u64]) -> Result<(), Failure> {
+    if found == wanted {
+        return Ok(());
+    }
+    let text = format!(in alloc; "{of}: {found:?}, and {wanted:?} by the plain way")?;
+    Err(Failure::Differs(text))
 }

@@ -19,14 +19,12 @@ impl Generator {
     }
 
     /// The next number, any of 32 bits.
-    #[inline]
     pub fn draw(&mut self) -> u32 {
         self.state = self.state.wrapping_mul(MULTIPLIER).wrapping_add(INCREMENT);
         (self.state >> 32) as u32
     }
 
     /// The next number scaled to those below a limit.
-    #[inline]
     pub fn below(&mut self, limit: u32) -> u32
         requires { 0 < limit }
         ensures { result < limit }

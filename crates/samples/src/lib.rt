@@ -2,7 +2,6 @@
 #![tactic(auto)]
 
 mod costs;
-mod expected;
 mod failure;
 mod generator;
 mod order;
@@ -11,8 +10,7 @@ mod scanned;
 mod spread;
 
 pub use costs::Costs;
-pub use expected::expect_same;
-pub use failure::Failure;
+pub use failure::{Failure, expect_same};
 pub use generator::Generator;
 pub use order::{Order, play};
 pub use report::Report;

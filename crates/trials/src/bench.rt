@@ -8,27 +8,6 @@ use std::sync::ledger::{Blank, Ledger};
 use std::time::{Clock, Instant};
 use std::{io, mem};
 
-/// What trials saw: sums modulo 2^64.
-#[derive(Clone, Copy, Default)]
-pub struct Seen {
-    pub updates: u64,
-    pub asked: u64,
-    /// The numbers of all answers.
-    pub answers: u64,
-    /// How often memory was refused.
-    pub refused: u64,
-}
-
-impl Seen {
-    /// Takes in an answer.
-    pub fn take_answer(&mut self, numbers: &[u64]) {
-        self.asked = self.asked.wrapping_add(1);
-        for number in numbers {
-            self.answers = self.answers.wrapping_add(*number);
-        }
-    }
-}
-
 /// What all trials work with. It reads the clock where times are wanted, and never otherwise.
 #[derive(Drop)]
 pub struct Bench<'a, R: Clock, L: Ledger> {
@@ -36,8 +15,11 @@ pub struct Bench<'a, R: Clock, L: Ledger> {
     pub alloc: Global,
     pub is_timed: bool,
     pub steps: Steps<L>,
-    pub seen: Seen,
     pub report: Report,
+    /// How many updates, answers and refusals of memory trials saw since it was told last, each modulo 2^64.
+    pub updates: u64,
+    pub answers: u64,
+    pub refused: u64,
 }
 
 impl<'a, R: Clock, L: Ledger> Bench<'a, R, L> {
@@ -51,21 +33,16 @@ impl<'a, R: Clock, L: Ledger> Bench<'a, R, L> {
             alloc,
             is_timed,
             steps: Steps::new(blank),
-            seen: Seen::default(),
             report: Report::new(alloc),
+            updates: 0,
+            answers: 0,
+            refused: 0,
         }
     }
 
     /// Begins a lap of the steps, for a call. Gives the time where times are wanted.
-    #[inline]
     pub fn begin(&mut self) -> io::Result<Option<Instant>> {
         self.steps.start_lap();
-        self.start()
-    }
-
-    /// The time at which a call begins, where times are wanted.
-    #[inline]
-    pub fn start(&self) -> io::Result<Option<Instant>> {
         if !self.is_timed {
             return Ok(None);
         }
@@ -73,7 +50,6 @@ impl<'a, R: Clock, L: Ledger> Bench<'a, R, L> {
     }
 
     /// The nanoseconds since a call began, or 2^64 - 1 where they are more, and 0 where times aren't wanted.
-    #[inline]
     pub fn since(&self, begun: Option<Instant>) -> io::Result<u64> {
         let Some(begun) = begun else {
             return Ok(0);
@@ -91,13 +67,9 @@ impl<'a, R: Clock, L: Ledger> Bench<'a, R, L> {
 
     /// Tells what was seen, and begins anew.
     pub fn tell_seen(&mut self, word: &str) -> Result<(), AllocError> {
-        let seen = mem::take(&mut self.seen);
-        let numbers = [
-            ("updates", seen.updates),
-            ("asked", seen.asked),
-            ("answers", seen.answers),
-            ("refused", seen.refused),
-        ];
-        self.report.tell(word, &numbers)
+        let updates = ("updates", mem::take(&mut self.updates));
+        let answers = ("answers", mem::take(&mut self.answers));
+        let refused = ("refused", mem::take(&mut self.refused));
+        self.report.tell(word, &[updates, answers, refused])
     }
 }

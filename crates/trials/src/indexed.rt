@@ -39,6 +39,8 @@ impl<B: Builder> Model for Indexed<B> {
 impl<B: Builder> Tried<B> for Indexed<B> {
     const WORD: &'static str = "index";
 
+    const UPDATES: usize = 180_000;
+
     const DELETES: u32 = 4;
 
     fn new(alloc: Global, most: usize) -> Result<Indexed<B>, NoMemory> {

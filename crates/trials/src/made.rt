@@ -10,13 +10,6 @@ use std::alloc::{AllocError, Global};
 use std::sync::ledger::Ledger;
 use std::time::Clock;
 
-/// Identifiers, coordinates and weights are below these.
-const IDS: u32 = 256;
-
-const SIDE: u32 = 64;
-
-const WEIGHTS: u32 = 16;
-
 /// More bytes than an answer has on average.
 const ANSWER: usize = 32;
 
@@ -24,7 +17,7 @@ const ANSWER: usize = 32;
 ///
 /// Tells of the lines. `Differs` where answers differ.
 pub fn check_made_script<R: Clock, L: Ledger>(
-    bench: &mut Bench<'_, R, L>,
+    bench: &mut Bench<R, L>,
     points: &mut Vec<Point>,
     seed: u64,
     lines: u32,
@@ -52,18 +45,13 @@ pub fn check_made_script<R: Clock, L: Ledger>(
     Ok(bench.report.tell("script", &[("lines", u64::from(lines))])?)
 }
 
-/// The next order: of 32, thirteen add, nine drop, and the others ask.
+/// The next order: of 32, thirteen add, nine drop, and the others ask. So few numbers come again and again.
 fn drawn_order(generator: &mut Generator) -> Order {
-    let (x, y) = (generator.below(SIDE), generator.below(SIDE));
-    let w = generator.below(WEIGHTS);
-    let id = u64::from(generator.below(IDS));
-    let (x2, y2) = (x + w, y + w);
-    let rect = Rect {
-        x1: x,
-        y1: y,
-        x2,
-        y2,
-    };
+    let (x, y) = (generator.below(64), generator.below(64));
+    let w = generator.below(16);
+    let id = u64::from(generator.below(256));
+    let (x1, y1, x2, y2) = (x, y, x + w, y + w);
+    let rect = Rect { x1, y1, x2, y2 };
     let stamp = 0;
     match generator.below(32) {
         0..=12 => Order::Add(Point { id, x, y, w, stamp }),

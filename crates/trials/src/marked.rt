@@ -38,6 +38,8 @@ fn own_item<P: Part, L: Ledger>(part: &P, place: usize, steps: &mut Steps<L>) ->
 impl<B: Builder> Tried<B> for Marked<B> {
     const WORD: &'static str = "part";
 
+    const UPDATES: usize = 256;
+
     /// A part takes no items once it is built.
     const DELETES: u32 = 8;
 

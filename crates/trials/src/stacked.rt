@@ -34,6 +34,8 @@ impl<B: Builder> Model for Stacked<B> {
 impl<B: Builder> Tried<B> for Stacked<B> {
     const WORD: &'static str = "stack";
 
+    const UPDATES: usize = 0;
+
     const DELETES: u32 = 3;
 
     fn new(alloc: Global, most: usize) -> Result<Stacked<B>, NoMemory> {

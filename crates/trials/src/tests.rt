@@ -28,16 +28,10 @@ fn try_parts<L: Ledger>(rt: &HostRuntime, blank: Blank) -> Result<[bool; 2], Fai
     for layer in [Layer::Part, Layer::Stack, Layer::Index] {
         measure_layer::<RangeBuilder, HostRuntime, L>(&mut bench, layer, 1, 33, Spread::Column)?;
     }
-    let plan = Plan {
-        seed: 1,
-        spread: Spread::Dense,
-        size: 64,
-        updates: 1,
-        is_oldest: false,
-        asked: 2,
-        is_compared: true,
-    };
-    let mut trial = Trial::<RangeBuilder, Marked<RangeBuilder>>::new(rt.alloc(), plan)?;
+    let mut trial = Trial::<RangeBuilder, Marked<RangeBuilder>>::new(
+        rt.alloc(),
+        Plan::compared(1, 64),
+    )?;
     trial.fill(&mut bench)?;
     trial.items.clear();
     let count = trial.ask::<CountIn, HostRuntime, L>(&mut bench);
@@ -66,7 +60,7 @@ fn try_scripts<L: Ledger>(rt: &HostRuntime, blank: Blank) -> Result<[bool; 3], F
     let made = check_made_script(&mut bench, &mut points, 0, 500);
     measure_text(&mut bench, 1, 33)?;
     let line = String::from_str(rt.alloc(), "seg a 1 2 3 4")?;
-    let text = compare_reading(&mut bench, &vec![in rt.alloc(); line]?).map(|_times| ());
+    let text = compare_reading(&mut bench, &vec![in rt.alloc(); line]?);
     Ok([example, made, text].map(|found| matches!(found, Err(Failure::Differs(_)))))
 }
 

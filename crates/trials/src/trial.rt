@@ -13,9 +13,6 @@ use std::mem;
 use std::sync::ledger::Ledger;
 use std::time::Clock;
 
-/// Questions come after each update whose number is a multiple of this one, where they are compared.
-const ROUND: usize = 10;
-
 /// How something is tried.
 #[derive(Clone, Copy)]
 pub struct Plan {
@@ -23,14 +20,20 @@ pub struct Plan {
     pub spread: Spread,
     /// The first inserts.
     pub size: usize,
-    /// The updates after them.
-    pub updates: usize,
-    /// Whether the item at the front is deleted, and no other.
-    pub is_oldest: bool,
-    /// How often each question is asked at a time.
-    pub asked: usize,
     /// Whether answers are compared with those of a plain list. Costs are told where they aren't.
     pub is_compared: bool,
+}
+
+impl Plan {
+    /// Of comparisons, with items that lie densely.
+    pub fn compared(seed: u64, size: usize) -> Plan {
+        Plan {
+            seed: seed.wrapping_add(size as u64),
+            spread: Spread::Dense,
+            size,
+            is_compared: true,
+        }
+    }
 }
 
 /// What is tried, beside a plain list of its live items, which is empty where nothing is compared.
@@ -64,22 +67,21 @@ impl<B: Builder, T: Tried<B>> Trial<B, T> {
         })
     }
 
-    /// Asks drawn questions of a type, each once more where memory is refused. `Differs` where an answer isn't that of the plain list.
+    /// Asks drawn questions of a type. `Differs` where an answer isn't that of the plain list.
     pub fn ask<Q: Question<Item = B::Item> + Scanned, R: Clock, L: Ledger>(
         &mut self,
-        bench: &mut Bench<'_, R, L>,
+        bench: &mut Bench<R, L>,
     ) -> Result<(), Failure>
     where
         B::Part: Answers<Q>,
     {
-        for _ in 0..self.plan.asked {
+        let asked = if self.plan.is_compared { 2 } else { 256 };
+        for _ in 0..asked {
             let question = Q::drawn(&mut self.generator, self.plan.spread);
-            let mut done = self.put(&question, bench);
-            if matches!(done, Err(Failure::NoMemory)) {
-                bench.seen.refused = bench.seen.refused.wrapping_add(1);
-                done = self.put(&question, bench);
+            match self.put(&question, bench) {
+                Err(Failure::NoMemory(_)) => bench.refused = bench.refused.wrapping_add(1),
+                done => done?,
             }
-            done?;
         }
         self.tell_costs(Q::WORD, bench)
     }
@@ -88,7 +90,7 @@ impl<B: Builder, T: Tried<B>> Trial<B, T> {
     fn put<Q: Question<Item = B::Item> + Scanned, R: Clock, L: Ledger>(
         &mut self,
         question: &Q,
-        bench: &mut Bench<'_, R, L>,
+        bench: &mut Bench<R, L>,
     ) -> Result<(), Failure>
     where
         B::Part: Answers<Q>,
@@ -103,7 +105,7 @@ impl<B: Builder, T: Tried<B>> Trial<B, T> {
             let wanted = question.scan(bench.alloc, &self.items)?;
             expect_same(bench.alloc, Q::WORD, &numbers, &wanted)?;
         }
-        bench.seen.take_answer(&numbers);
+        bench.answers = bench.answers.wrapping_add(1);
         Ok(())
     }
 
@@ -111,7 +113,7 @@ impl<B: Builder, T: Tried<B>> Trial<B, T> {
     fn tell_costs<R: Clock, L: Ledger>(
         &mut self,
         word: &str,
-        bench: &mut Bench<'_, R, L>,
+        bench: &mut Bench<R, L>,
     ) -> Result<(), Failure> {
         let costs = mem::replace(&mut self.costs, Costs::new(bench.alloc));
         if !self.plan.is_compared {
@@ -156,10 +158,7 @@ impl<B: Builder, T: Tried<B>> Trial<B, T> {
 
 impl<B: Kind, T: Tried<B>> Trial<B, T> {
     /// Inserts the first items, and asks each question.
-    pub fn fill<R: Clock, L: Ledger>(
-        &mut self,
-        bench: &mut Bench<'_, R, L>,
-    ) -> Result<(), Failure> {
+    pub fn fill<R: Clock, L: Ledger>(&mut self, bench: &mut Bench<R, L>) -> Result<(), Failure> {
         for _ in 0..self.plan.size {
             let change = self.drawn_change(0);
             self.change(change, bench)?;
@@ -175,14 +174,15 @@ impl<B: Kind, T: Tried<B>> Trial<B, T> {
     }
 
     /// Makes the updates, and asks each question, after each tenth update too where answers are compared.
-    pub fn update<R: Clock, L: Ledger>(
-        &mut self,
-        bench: &mut Bench<'_, R, L>,
-    ) -> Result<(), Failure> {
-        for number in 0..self.plan.updates {
+    pub fn update<R: Clock, L: Ledger>(&mut self, bench: &mut Bench<R, L>) -> Result<(), Failure> {
+        let updates = match self.plan.is_compared {
+            true => self.plan.size.saturating_mul(6),
+            false => self.plan.size.saturating_mul(3).min(T::UPDATES),
+        };
+        for number in 0..updates {
             let change = self.drawn_change(T::DELETES);
             self.change(change, bench)?;
-            if self.plan.is_compared && number % ROUND == 0 {
+            if self.plan.is_compared && number % 10 == 0 {
                 B::ask_each(self, bench)?;
             }
         }
@@ -190,7 +190,8 @@ impl<B: Kind, T: Tried<B>> Trial<B, T> {
         B::ask_each(self, bench)
     }
 
-    /// The next change, of eight of which so many are deletes on average. With nothing to delete it changes nothing.
+    /// The next change, of eight of which so many are deletes on average: where an even number of items is compared, of the one at the
+    /// front, and else of any. With nothing to delete it changes nothing.
     fn drawn_change(&mut self, deletes: u32) -> Change<B::Item> {
         if self.generator.below(8) >= deletes {
             let stamp = self.inserted;
@@ -198,7 +199,7 @@ impl<B: Kind, T: Tried<B>> Trial<B, T> {
             return Change::Insert(B::drawn(&mut self.generator, self.plan.spread, stamp));
         }
         let places = self.set.places() as u32;
-        if places == 0 || self.plan.is_oldest {
+        if places == 0 || (self.plan.is_compared && self.plan.size % 2 == 0) {
             return Change::Delete(0);
         }
         Change::Delete(self.generator.below(places) as usize)
@@ -210,19 +211,19 @@ impl<B: Kind, T: Tried<B>> Trial<B, T> {
     fn change<R: Clock, L: Ledger>(
         &mut self,
         change: Change<B::Item>,
-        bench: &mut Bench<'_, R, L>,
+        bench: &mut Bench<R, L>,
     ) -> Result<(), Failure> {
         let begun = bench.begin()?;
         let mut done = self.make(change, &mut bench.steps);
-        if matches!(done, Err(Failure::NoMemory)) {
-            bench.seen.refused = bench.seen.refused.wrapping_add(1);
+        if matches!(done, Err(Failure::NoMemory(_))) {
+            bench.refused = bench.refused.wrapping_add(1);
             self.compare(bench.alloc)?;
             B::ask_each(self, bench)?;
             done = self.make(change, &mut bench.steps);
         }
         done?;
         bench.take_in(begun, &mut self.costs)?;
-        bench.seen.updates = bench.seen.updates.wrapping_add(1);
+        bench.updates = bench.updates.wrapping_add(1);
         self.compare(bench.alloc)
     }
 }

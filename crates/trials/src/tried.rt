@@ -14,7 +14,10 @@ use std::sync::ledger::Ledger;
 pub trait Tried<B: Builder>: Drop + Sized {
     const WORD: &'static str;
 
-    /// Of eight updates after the first inserts so many are deletes, on average.
+    /// The most updates after the first inserts where nothing is compared.
+    const UPDATES: usize;
+
+    /// Of eight updates so many are deletes, on average.
     const DELETES: u32;
 
     /// No items, with room in its own lists for so many.
