@@ -5,10 +5,10 @@ mod words;
 
 ghost use Rattle.std.specs.Prelude.{◌≡◌};
 
-use crate::words::{Job, KINDS, Kind, Work, command, job_of};
+use crate::words::{Job, Work, command, job_of};
 use query_laws::step_ledger::{SHARES, blank};
 use range_tree::RangeBuilder;
-use samples::{Failure, PlainMap};
+use samples::Failure;
 use std::env;
 use std::marker::Brand;
 use std::process::ExitCode;
@@ -22,9 +22,6 @@ use trials::{
 
 /// The exit status where a comparison differs. Other failures have 1, and wrong words 2.
 const DIFFERS: u8 = 3;
-
-/// The lines of a made script.
-const LINES: u32 = 4_000;
 
 fn main(rt: HostRuntime) -> anyhow::Result<ExitCode> {
     let alloc = rt.alloc();
@@ -57,7 +54,7 @@ fn exit_code<R: Eprint>(rt: &R, done: Result<(), Failure>) -> anyhow::Result<Exi
 /// Does what the words ask for, and prints what it tells, up to a failure too.
 fn run<R: Print + Clock + Files + AllocGlobal + Clone + Drop, L: Ledger>(
     rt: &R,
-    job: &Job<'_>,
+    job: &Job,
     blank: Blank,
 ) -> Result<(), Failure>
     requires name { blank.name ≡ L.name }
@@ -71,36 +68,22 @@ fn run<R: Print + Clock + Files + AllocGlobal + Clone + Drop, L: Ledger>(
 }
 
 fn run_job<R: Clock + Files + AllocGlobal + Clone + Drop, L: Ledger>(
-    bench: &mut Bench<'_, R, L>,
-    job: &Job<'_>,
+    bench: &mut Bench<R, L>,
+    job: &Job,
 ) -> Result<(), Failure> {
     let Job { seed, size, .. } = *job;
     match job.work {
-        Work::Layer(layer, Kind::Range, spread) => {
+        Work::Layer(layer, spread) => {
             measure_layer::<RangeBuilder, R, L>(bench, layer, seed, size, spread)
         }
         Work::Text => measure_text(bench, seed, size),
         Work::Script(path) => measure_script(bench, path),
-        Work::Check(examples) => check(bench, job, examples),
-    }
-}
-
-/// Compares parts, stacks and indexes of each kind, a session, text, and the answers to the scripts of a folder where one is named.
-fn check<R: Clock + Files + AllocGlobal + Clone + Drop, L: Ledger>(
-    bench: &mut Bench<'_, R, L>,
-    job: &Job<'_>,
-    examples: Option<&str>,
-) -> Result<(), Failure> {
-    for (_, kind) in KINDS {
-        match kind {
-            Kind::Range => check_kind::<RangeBuilder, R, L>(bench, job.seed, job.size)?,
+        Work::Check(examples) => {
+            check_kind::<RangeBuilder, R, L>(bench, seed, size)?;
+            check_made_script(bench, &mut Vec::new(bench.alloc), seed, 4_000)?;
+            measure_text(bench, seed, size)?;
+            examples.map_or(Ok(()), |folder| check_examples(bench, folder))
         }
-    }
-    check_made_script(bench, &mut PlainMap::new(bench.alloc), job.seed, LINES)?;
-    measure_text(bench, job.seed, job.size)?;
-    match examples {
-        Some(folder) => check_examples(bench, folder),
-        None => Ok(()),
     }
 }
 

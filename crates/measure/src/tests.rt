@@ -1,5 +1,5 @@
 //! Words of the command line, and what the program ends with.
-use crate::words::{Job, Kind, Work, command, job_of};
+use crate::words::{Job, Work, command, job_of};
 use crate::{DIFFERS, exit_code};
 use samples::{Failure, Spread};
 use std::process::ExitCode;
@@ -10,8 +10,8 @@ use trials::Layer;
 fn reads_words(rt: HostRuntime) -> Result<(), Fail> {
     for (words, work) in [
         (
-            "measure part --kind range --spread row",
-            Work::Layer(Layer::Part, Kind::Range, Spread::Row),
+            "measure part --spread row",
+            Work::Layer(Layer::Part, Spread::Row),
         ),
         ("measure text", Work::Text),
         ("measure script a.livemap", Work::Script("a.livemap")),

@@ -7,15 +7,6 @@ use trials::Layer;
 /// The most items or lines: 2^20.
 const MOST: i64 = 1_048_576;
 
-/// A kind of part.
-#[derive(Clone, Copy, Debug, PartialEq, Eq)]
-pub enum Kind {
-    Range,
-}
-
-/// Each kind, after its word.
-pub const KINDS: [(&str, Kind); 1] = [("range", Kind::Range)];
-
 /// Each layer, after its word.
 const LAYERS: [(&str, Layer); 3] = [
     ("part", Layer::Part),
@@ -33,8 +24,8 @@ const SPREADS: [(&str, Spread); 3] = [
 /// What is asked for.
 #[derive(Clone, Copy, Debug, PartialEq, Eq)]
 pub enum Work<'a> {
-    /// What a layer over parts of a kind costs, of so many items.
-    Layer(Layer, Kind, Spread),
+    /// What a layer costs, of so many items.
+    Layer(Layer, Spread),
     /// What reading so many lines and writing so many replies costs.
     Text,
     /// What the commands of a script cost.
@@ -54,34 +45,23 @@ pub struct Job<'a> {
 
 /// The command line.
 pub fn command<'a>(alloc: Global) -> Result<Command<'a>, AllocError> {
-    let script = subcommand(
-        alloc,
-        "script",
-        "Run a script, and tell of its commands by their words",
-    )?
-    .arg(arg!(in alloc; <file> "The script"))?;
-    let examples =
-        arg!(in alloc; --examples <FOLDER> "Compare the answers to each NAME.livemap with NAME.out too");
-    let check = subcommand(alloc, "check", "Compare it all with plain lists and std")?.arg(
-        examples,
-    )?;
+    let file = arg!(in alloc; <file> "The script");
+    let examples = arg!(in alloc; --examples <FOLDER> "Compare each NAME.livemap with NAME.out");
+    let script = subcommand(alloc, "script", "Tell of a script's commands")?.arg(file)?;
+    let check = subcommand(alloc, "check", "Compare with plain lists and std")?.arg(examples)?;
     Command::new(alloc, "measure")
-        .about("Measures the parts of Livemap and checks them, over seeded items and scripts")
+        .about("Measures the parts of Livemap and checks them")
         .subcommand_required(true)
-        .subcommand(layer_command(alloc, "part", "Try one part")?)?
-        .subcommand(layer_command(alloc, "stack", "Try a stack of parts")?)?
-        .subcommand(layer_command(alloc, "index", "Try an index of parts")?)?
+        .subcommand(for_layers(alloc, "part", "Try one part")?)?
+        .subcommand(for_layers(alloc, "stack", "Try a stack of parts")?)?
+        .subcommand(for_layers(alloc, "index", "Try an index of parts")?)?
         .subcommand(subcommand(alloc, "text", "Read and write lines")?)?
         .subcommand(script)?
         .subcommand(check)
 }
 
 /// A subcommand for a layer over parts of a kind.
-fn layer_command<'a>(
-    alloc: Global,
-    name: &'a str,
-    about: &'a str,
-) -> Result<Command<'a>, AllocError> {
+fn for_layers<'a>(alloc: Global, name: &'a str, about: &'a str) -> Result<Command<'a>, AllocError> {
     let kind = arg!(in alloc; --kind <KIND> "The kind of part")
         .value_parser(["range"].as_slice())
         .default_value("range");
@@ -115,7 +95,6 @@ pub fn job_of<'a>(matches: &ArgMatches<'a>) -> Option<Job<'a>> {
         "check" => Work::Check(matches.get_str("examples")),
         layer => Work::Layer(
             named(&LAYERS, layer)?,
-            named(&KINDS, matches.get_str("kind")?)?,
             named(&SPREADS, matches.get_str("spread")?)?,
         ),
     };

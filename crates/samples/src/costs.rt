@@ -1,5 +1,5 @@
 //! What calls cost, and what is told of it.
-ghost use Rattle.std.specs.Prelude.{◌<◌, ◌≤◌, length};
+ghost use Rattle.std.specs.Prelude.{◌<◌};
 
 use crate::report::Report;
 use std::alloc::{AllocError, Global};
@@ -10,35 +10,30 @@ const NAMES: [&str; 4] = ["turns", "marks", "touches", "nanoseconds"];
 /// The turns, the marks, the touches and the nanoseconds of some calls, each by itself.
 #[derive(Drop)]
 pub struct Costs {
-    alloc: Global,
     calls: Vec<[u64; 4]>,
 }
 
 impl Costs {
     pub fn new(alloc: Global) -> Costs {
-        Costs {
-            alloc,
-            calls: Vec::new(alloc),
-        }
+        let calls = Vec::new(alloc);
+        Costs { calls }
     }
 
     /// Takes in one more call.
     pub fn push(&mut self, call: [u64; 4]) -> Result<(), AllocError> {
-        self.calls.push(call)?;
-        Ok(())
+        Ok(self.calls.push(call)?)
     }
 
     /// Tells after some words how many calls there were, if any, and a line for each number that wasn't always zero: its mean
-    /// rounded down, what half, 99 % and 99.9 % of the calls come before, and the greatest.
+    /// rounded down, the least that 50 %, 99 % and 99.9 % of the calls don't exceed, and the greatest.
     pub fn tell(&self, words: &str, report: &mut Report) -> Result<(), AllocError> {
-        let count = self.calls.len();
-        if count == 0 {
+        if self.calls.is_empty() {
             return Ok(());
         }
-        report.tell(words, &[("count", count as u64)])?;
+        report.tell(words, &[("count", self.calls.len() as u64)])?;
         for (place, name) in NAMES.iter().enumerate() {
-            let words = format!(in self.alloc; "{words} {name}")?;
-            tell_numbers(words.as_str(), self.sorted(place)?, report)?;
+            let words = format!(in *self.calls.allocator(); "{words} {name}")?;
+            tell_numbers(words.as_str(), &self.sorted(place)?, report)?;
         }
         Ok(())
     }
@@ -47,40 +42,26 @@ impl Costs {
     fn sorted(&self, place: usize) -> Result<Vec<u64>, AllocError>
         requires { place < 4 }
     {
-        let mut numbers = Vec::new(self.alloc);
-        for call in &self.calls {
-            numbers.push(call[place])?;
-        }
+        let alloc = *self.calls.allocator();
+        let mut numbers: Vec<u64> = self.calls.iter().map(|call| call[place]).collect(alloc)?;
         numbers.sort_unstable();
         Ok(numbers)
     }
 }
 
-fn tell_numbers(words: &str, numbers: Vec<u64>, report: &mut Report) -> Result<(), AllocError> {
+fn tell_numbers(words: &str, numbers: &[u64], report: &mut Report) -> Result<(), AllocError> {
     let count = numbers.len();
     let max = numbers.last().copied().unwrap_or(0);
     if max == 0 {
         return Ok(());
     }
-    let total = numbers
-        .iter()
-        .fold(0, |total: u64, number| total.saturating_add(*number));
+    let total = numbers.iter().fold(0u64, |sum, n| sum.saturating_add(*n));
     let told = [
         ("mean", total / count as u64),
-        ("p50", numbers[rank(count, 500)]),
-        ("p99", numbers[rank(count, 990)]),
-        ("p99.9", numbers[rank(count, 999)]),
+        ("p50", numbers[count - 1 - count / 2]),
+        ("p99", numbers[count - 1 - count / 100]),
+        ("p99.9", numbers[count - 1 - count / 1000]),
         ("max", max),
     ];
     report.tell(words, &told)
-}
-
-/// The index of the number that so many thousandths of `n` come before.
-fn rank(n: usize, thousandths: usize) -> usize
-    requires some { 0 < n }
-    requires thousandths { thousandths ≤ 1000 }
-    ensures { result < n }
-{
-    let rank = n as u128 * thousandths as u128 / 1000;
-    (rank as usize).min(n - 1)
 }

@@ -1,48 +1,44 @@
 //! Why a trial ends early.
 use map_io::WriteFault;
 use query_laws::NoMemory;
-use std::alloc::{AllocError, AllocFailed};
+use std::alloc::{AllocError, AllocFailed, Global};
 use std::io;
 use thiserror::Error;
 
 /// Why a trial ends early.
 #[derive(Debug, Drop, Error)]
 pub enum Failure {
-    #[error("no memory")]
-    NoMemory,
+    #[error("{0}")]
+    NoMemory(#[from] NoMemory),
     #[error("{0}")]
     System(#[from] io::Error),
     /// An answer isn't the one that is wanted: says which.
     #[error("{0}")]
     Differs(String),
-    /// Answers could not be written.
     #[error("the answers could not be written")]
-    NoAnswers,
+    NoAnswers(#[from] WriteFault),
     /// A script has 2^40 lines or bytes, or items are too many or in no order.
     #[error("the script is too long, or the items are too many or in no order")]
     Unfit,
 }
 
-impl From<NoMemory> for Failure {
-    fn from(_refused: NoMemory) -> Failure {
-        Failure::NoMemory
-    }
-}
-
 impl From<AllocError> for Failure {
     fn from(_refused: AllocError) -> Failure {
-        Failure::NoMemory
+        Failure::NoMemory(NoMemory)
     }
 }
 
 impl<T: Drop> From<AllocFailed<T>> for Failure {
     fn from(_refused: AllocFailed<T>) -> Failure {
-        Failure::NoMemory
+        Failure::NoMemory(NoMemory)
     }
 }
 
-impl From<WriteFault> for Failure {
-    fn from(_fault: WriteFault) -> Failure {
-        Failure::NoAnswers
+/// Compares numbers that are found with those that are wanted, and where they differ tells of what they are.
+pub fn expect_same(alloc: Global, of: &str, found: &[u64], wanted: &[u64]) -> Result<(), Failure> {
+    if found == wanted {
+        return Ok(());
     }
+    let text = format!(in alloc; "{of}: {found:?}, and {wanted:?} by the plain way")?;
+    Err(Failure::Differs(text))
 }

@@ -6,7 +6,7 @@ ghost use Rattle.std.specs.Prelude.{◌<◌};
 /// It is the one of made scripts, so that a seed means the same everywhere: from seed 0 the first draw is 335,903,614.
 #[derive(Drop)]
 pub struct Generator {
-    pub state: u64,
+    state: u64,
 }
 
 const MULTIPLIER: u64 = 6_364_136_223_846_793_005;
@@ -19,14 +19,12 @@ impl Generator {
     }
 
     /// The next number, any of 32 bits.
-    #[inline]
     pub fn draw(&mut self) -> u32 {
         self.state = self.state.wrapping_mul(MULTIPLIER).wrapping_add(INCREMENT);
         (self.state >> 32) as u32
     }
 
     /// The next number scaled to those below a limit.
-    #[inline]
     pub fn below(&mut self, limit: u32) -> u32
         requires { 0 < limit }
         ensures { result < limit }

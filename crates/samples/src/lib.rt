@@ -1,22 +1,20 @@
-//! Seeded numbers and questions, what plain lists and a plain map answer, and what is told of it: what all trials share.
+//! Seeded numbers and questions, what plain lists answer, and what is told of it: what all trials share.
 #![tactic(auto)]
 
 mod costs;
-mod expected;
 mod failure;
 mod generator;
-mod plain_map;
+mod order;
 mod report;
 mod scanned;
 mod spread;
 
 pub use costs::Costs;
-pub use expected::expect_same;
-pub use failure::Failure;
+pub use failure::{Failure, expect_same};
 pub use generator::Generator;
-pub use plain_map::{Order, PlainMap};
+pub use order::{Order, play};
 pub use report::Report;
-pub use scanned::{Scanned, count_in, ids_in, sum_in};
+pub use scanned::Scanned;
 pub use spread::Spread;
 
 #[cfg(test)]

@@ -8,7 +8,7 @@ use std::alloc::{AllocError, Global};
 /// A question that is drawn, and that a plain list can be scanned for. Its answers are told as numbers.
 pub trait Scanned: Question {
     /// The word of its command.
-    fn word() -> &'static str;
+    const WORD: &'static str;
 
     fn drawn(generator: &mut Generator, spread: Spread) -> Self;
 
@@ -19,9 +19,7 @@ pub trait Scanned: Question {
 }
 
 impl Scanned for CountIn {
-    fn word() -> &'static str {
-        "count"
-    }
+    const WORD: &'static str = "count";
 
     fn drawn(generator: &mut Generator, spread: Spread) -> CountIn {
         CountIn(spread.rect(generator))
@@ -37,9 +35,7 @@ impl Scanned for CountIn {
 }
 
 impl Scanned for ListIn {
-    fn word() -> &'static str {
-        "list"
-    }
+    const WORD: &'static str = "list";
 
     fn drawn(generator: &mut Generator, spread: Spread) -> ListIn {
         ListIn(spread.rect(generator))
@@ -56,32 +52,16 @@ impl Scanned for ListIn {
 
 /// How many points lie in a rectangle.
 pub fn count_in(points: &[Point], rect: &Rect) -> u64 {
-    let mut count = 0u64;
-    for point in points {
-        count = count.wrapping_add(u64::from(point.is_inside(rect)));
-    }
-    count
-}
-
-/// What the points in a rectangle weigh together, at most 2^64 - 1.
-pub fn sum_in(points: &[Point], rect: &Rect) -> u64 {
-    let mut sum = 0u64;
-    for point in points {
-        if point.is_inside(rect) {
-            sum = sum.saturating_add(u64::from(point.w));
-        }
-    }
-    sum
+    points.iter().filter(|point| point.is_inside(rect)).count() as u64
 }
 
 /// The identifiers of the points in a rectangle, in ascending order.
 pub fn ids_in(alloc: Global, points: &[Point], rect: &Rect) -> Result<Vec<u64>, AllocError> {
-    let mut ids = Vec::new(alloc);
-    for point in points {
-        if point.is_inside(rect) {
-            ids.push(point.id)?;
-        }
-    }
+    let mut ids: Vec<u64> = points
+        .iter()
+        .filter(|point| point.is_inside(rect))
+        .map(|point| point.id)
+        .collect(alloc)?;
     ids.sort_unstable();
     Ok(ids)
 }

@@ -50,11 +50,7 @@ impl Spread {
             _ => EXTENT,
         };
         let (x1, y1) = self.place(generator);
-        Rect {
-            x1,
-            y1,
-            x2: x1 + extent,
-            y2: y1 + extent,
-        }
+        let (x2, y2) = (x1 + extent, y1 + extent);
+        Rect { x1, y1, x2, y2 }
     }
 }

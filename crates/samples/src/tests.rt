@@ -15,7 +15,7 @@ fn tells_of_numbers(rt: HostRuntime) -> Result<(), Fail> {
     }
     let mut report = Report::new(rt.alloc());
     costs.tell("part", &mut report)?;
-    let told = "part count 1000\npart turns mean 500 p50 501 p99 991 p99.9 1000 max 1000\n";
+    let told = "part count 1000\npart turns mean 500 p50 500 p99 990 p99.9 999 max 1000\n";
     assert_eq!(rt; report.as_str(), told);
     Ok(())
 }

@@ -4,41 +4,9 @@ ghost use Rattle.std.specs.Prelude.{◌≡◌};
 use query_laws::step_ledger::{SHARES, Steps};
 use samples::{Costs, Failure, Report};
 use std::alloc::{AllocError, Global};
-use std::io;
 use std::sync::ledger::{Blank, Ledger};
 use std::time::{Clock, Instant};
-
-/// What trials saw: sums modulo 2^64.
-#[derive(Clone, Copy, Default)]
-pub struct Seen {
-    pub updates: u64,
-    /// The live items after each update.
-    pub live: u64,
-    pub asked: u64,
-    /// The parts that were consulted.
-    pub parts: u64,
-    /// The numbers of all answers.
-    pub answers: u64,
-    /// How often memory was refused.
-    pub refused: u64,
-}
-
-impl Seen {
-    /// Takes in an answer.
-    pub fn take_answer(&mut self, parts: u32, numbers: &[u64]) {
-        self.asked = self.asked.wrapping_add(1);
-        self.parts = self.parts.wrapping_add(u64::from(parts));
-        for number in numbers {
-            self.answers = self.answers.wrapping_add(*number);
-        }
-    }
-
-    /// Takes in an update, after which so many items are live.
-    pub fn take_update(&mut self, live: u64) {
-        self.updates = self.updates.wrapping_add(1);
-        self.live = self.live.wrapping_add(live);
-    }
-}
+use std::{io, mem};
 
 /// What all trials work with. It reads the clock where times are wanted, and never otherwise.
 #[derive(Drop)]
@@ -47,8 +15,11 @@ pub struct Bench<'a, R: Clock, L: Ledger> {
     pub alloc: Global,
     pub is_timed: bool,
     pub steps: Steps<L>,
-    pub seen: Seen,
     pub report: Report,
+    /// How many updates, answers and refusals of memory trials saw since it was told last, each modulo 2^64.
+    pub updates: u64,
+    pub answers: u64,
+    pub refused: u64,
 }
 
 impl<'a, R: Clock, L: Ledger> Bench<'a, R, L> {
@@ -62,21 +33,16 @@ impl<'a, R: Clock, L: Ledger> Bench<'a, R, L> {
             alloc,
             is_timed,
             steps: Steps::new(blank),
-            seen: Seen::default(),
             report: Report::new(alloc),
+            updates: 0,
+            answers: 0,
+            refused: 0,
         }
     }
 
     /// Begins a lap of the steps, for a call. Gives the time where times are wanted.
-    #[inline]
     pub fn begin(&mut self) -> io::Result<Option<Instant>> {
         self.steps.start_lap();
-        self.start()
-    }
-
-    /// The time at which a call begins, where times are wanted.
-    #[inline]
-    pub fn start(&self) -> io::Result<Option<Instant>> {
         if !self.is_timed {
             return Ok(None);
         }
@@ -84,7 +50,6 @@ impl<'a, R: Clock, L: Ledger> Bench<'a, R, L> {
     }
 
     /// The nanoseconds since a call began, or 2^64 - 1 where they are more, and 0 where times aren't wanted.
-    #[inline]
     pub fn since(&self, begun: Option<Instant>) -> io::Result<u64> {
         let Some(begun) = begun else {
             return Ok(0);
@@ -95,23 +60,16 @@ impl<'a, R: Clock, L: Ledger> Bench<'a, R, L> {
 
     /// Takes in what a call cost, which began then with a lap of the steps.
     pub fn take_in(&self, begun: Option<Instant>, costs: &mut Costs) -> Result<(), Failure> {
-        let (turns, marks) = (self.steps.lap_turns(), self.steps.lap_marks());
-        costs.push([turns, marks, self.steps.lap_touches(), self.since(begun)?])?;
-        Ok(())
+        let steps = &self.steps;
+        let (turns, marks, touches) = (steps.lap_turns(), steps.lap_marks(), steps.lap_touches());
+        Ok(costs.push([turns, marks, touches, self.since(begun)?])?)
     }
 
     /// Tells what was seen, and begins anew.
     pub fn tell_seen(&mut self, word: &str) -> Result<(), AllocError> {
-        let seen = self.seen;
-        self.seen = Seen::default();
-        let numbers = [
-            ("updates", seen.updates),
-            ("live", seen.live),
-            ("asked", seen.asked),
-            ("parts", seen.parts),
-            ("answers", seen.answers),
-            ("refused", seen.refused),
-        ];
-        self.report.tell(word, &numbers)
+        let updates = ("updates", mem::take(&mut self.updates));
+        let answers = ("answers", mem::take(&mut self.answers));
+        let refused = ("refused", mem::take(&mut self.refused));
+        self.report.tell(word, &[updates, answers, refused])
     }
 }

@@ -15,12 +15,10 @@ use std::sync::ledger::Ledger;
 fn compare<I: Item>(order: usize, a: &I, b: &I) -> Ordering
     requires { order < 2 }
 {
-    if a.before(order, b) {
-        Ordering::Less
-    } else if b.before(order, a) {
-        Ordering::Greater
-    } else {
-        Ordering::Equal
+    match (a.before(order, b), b.before(order, a)) {
+        (true, _) => Ordering::Less,
+        (_, true) => Ordering::Greater,
+        _ => Ordering::Equal,
     }
 }
 

@@ -5,30 +5,21 @@ use crate::bench::Bench;
 use crate::indexed::Indexed;
 use crate::kind::Kind;
 use crate::marked::Marked;
-use crate::memory::bytes_held;
 use crate::stacked::Stacked;
 use crate::trial::{Plan, Trial};
 use crate::tried::Tried;
 use samples::{Failure, Spread};
+use std::fs;
 use std::rt::Files;
 use std::sync::ledger::Ledger;
 use std::time::Clock;
-
-/// How often each question is asked of what is measured.
-const ASKED: usize = 256;
-
-/// How many marks are tried.
-const MARKS: usize = 256;
-
-/// The most updates of an index.
-const MOST_UPDATES: usize = 180_000;
 
 /// What is measured.
 #[derive(Clone, Copy, Debug, PartialEq, Eq)]
 pub enum Layer {
     /// A part, its questions and its marks.
     Part,
-    /// A stack, beside a part of the same items.
+    /// A stack, and its questions.
     Stack,
     /// An index, of which some items go and others come, up to three times as many.
     Index,
@@ -36,7 +27,7 @@ pub enum Layer {
 
 /// Measures a layer over so many items of a kind.
 pub fn measure_layer<B: Kind, R: Clock + Files + AllocGlobal, L: Ledger>(
-    bench: &mut Bench<'_, R, L>,
+    bench: &mut Bench<R, L>,
     layer: Layer,
     seed: u64,
     size: usize,
@@ -46,28 +37,18 @@ pub fn measure_layer<B: Kind, R: Clock + Files + AllocGlobal, L: Ledger>(
         seed,
         spread,
         size,
-        updates: match layer {
-            Layer::Part => MARKS,
-            Layer::Stack => 0,
-            Layer::Index => size.saturating_mul(3).min(MOST_UPDATES),
-        },
-        is_oldest: false,
-        asked: ASKED,
         is_compared: false,
     };
     match layer {
         Layer::Part => run_trial::<B, Marked<B>, R, L>(bench, plan),
-        Layer::Stack => {
-            run_trial::<B, Stacked<B>, R, L>(bench, plan)?;
-            run_trial::<B, Marked<B>, R, L>(bench, plan)
-        }
+        Layer::Stack => run_trial::<B, Stacked<B>, R, L>(bench, plan),
         Layer::Index => run_trial::<B, Indexed<B>, R, L>(bench, plan),
     }
 }
 
 /// Compares parts, stacks and indexes of a kind with plain lists, of up to so many items.
 pub fn check_kind<B: Kind, R: Clock + Files + AllocGlobal, L: Ledger>(
-    bench: &mut Bench<'_, R, L>,
+    bench: &mut Bench<R, L>,
     seed: u64,
     most: usize,
 ) -> Result<(), Failure> {
@@ -78,55 +59,45 @@ pub fn check_kind<B: Kind, R: Clock + Files + AllocGlobal, L: Ledger>(
 
 /// Tries something by a plan, and tells how much memory it holds where times are wanted and nothing is compared.
 fn run_trial<B: Kind, T: Tried<B>, R: Clock + Files + AllocGlobal, L: Ledger>(
-    bench: &mut Bench<'_, R, L>,
+    bench: &mut Bench<R, L>,
     plan: Plan,
 ) -> Result<(), Failure> {
     let before = bytes_held(bench)?;
-    let mut trial = match Trial::<B, T>::new(bench.alloc, plan) {
-        Ok(trial) => trial,
-        Err(_refused) => Trial::new(bench.alloc, plan)?,
-    };
+    let mut trial = Trial::<B, T>::new(bench.alloc, plan)?;
     trial.fill(bench)?;
     let bytes = bytes_held(bench)?.saturating_sub(before);
     if bytes > 0 && !plan.is_compared {
         let each = bytes / (plan.size as u64).max(1);
-        bench
-            .report
-            .tell(T::word(), &[("bytes", bytes), ("each", each)])?;
+        let told = [("bytes", bytes), ("each", each)];
+        bench.report.tell(T::WORD, &told)?;
     }
-    if plan.updates > 0 {
-        trial.update(bench)?;
+    trial.update(bench)
+}
+
+/// How many bytes of memory the process holds, which the system tells in pages of 4,096, where times are wanted, and 0 otherwise.
+fn bytes_held<R: Clock + Files + AllocGlobal, L: Ledger>(
+    bench: &Bench<R, L>,
+) -> Result<u64, Failure> {
+    if !bench.is_timed {
+        return Ok(0);
     }
-    Ok(())
+    let line = fs::read_to_string(bench.rt, "/proc/self/statm")?;
+    let pages = line.as_str().split_ascii_whitespace().nth(1);
+    let pages: u64 = pages.unwrap_or("0").parse().unwrap_or(0);
+    Ok(pages.saturating_mul(4_096))
 }
 
 /// Compares something with a plain list, at each size up to `most` that is at most 1 away from a power of two. Tells what was seen.
 fn check_sizes<B: Kind, T: Tried<B>, R: Clock + Files + AllocGlobal, L: Ledger>(
-    bench: &mut Bench<'_, R, L>,
+    bench: &mut Bench<R, L>,
     seed: u64,
     most: usize,
 ) -> Result<(), Failure> {
     for size in 0..=most {
-        if is_near_power_of_two(size) {
-            let plan = Plan {
-                seed: seed.wrapping_add(size as u64),
-                spread: Spread::Dense,
-                size,
-                updates: size.saturating_mul(6),
-                is_oldest: size % 2 == 0,
-                asked: 2,
-                is_compared: true,
-            };
-            run_trial::<B, T, R, L>(bench, plan)?;
+        let mut near = size.saturating_sub(1)..=size.saturating_add(1);
+        if near.any(|n| n.is_power_of_two()) {
+            run_trial::<B, T, R, L>(bench, Plan::compared(seed, size))?;
         }
     }
-    bench.tell_seen(T::word())?;
-    Ok(())
-}
-
-fn is_near_power_of_two(n: usize) -> bool {
-    n < 2
-        || n.is_power_of_two()
-        || (n - 1).is_power_of_two()
-        || n.saturating_add(1).is_power_of_two()
+    Ok(bench.tell_seen(T::WORD)?)
 }

@@ -8,53 +8,36 @@ use std::rt::Files;
 use std::sync::ledger::Ledger;
 use std::time::Clock;
 
-/// A script has fewer bytes than this.
-const MOST_BYTES: usize = 1 << 40;
-
 /// Runs each script `NAME.livemap` of a folder by a session of its own, and compares its answers with the file `NAME.out`.
 ///
-/// Tells of each example. `Differs` where the answers aren't those of the file.
+/// Tells how many there are. `Differs` where the answers aren't those of the file.
 pub fn check_examples<R: Clock + Files + AllocGlobal + Clone + Drop, L: Ledger>(
-    bench: &mut Bench<'_, R, L>,
+    bench: &mut Bench<R, L>,
     folder: &str,
 ) -> Result<(), Failure> {
-    let mut names = script_names(bench, folder)?;
-    names.sort_unstable();
-    for name in &names {
-        check_example(bench, folder, name.as_str())?;
-        bench.report.tell("example", &[(name.as_str(), 1)])?;
-    }
-    Ok(())
-}
-
-/// The names of the scripts of a folder, without their ending.
-fn script_names<R: Clock + Files + AllocGlobal + Clone + Drop, L: Ledger>(
-    bench: &Bench<'_, R, L>,
-    folder: &str,
-) -> Result<Vec<String>, Failure> {
-    let mut names = Vec::new(bench.alloc);
+    let mut count = 0u64;
     for entry in fs::read_dir(bench.rt, folder)? {
         let entry = entry?;
         if let Some(name) = entry.file_name().strip_suffix(".livemap") {
-            names.push(String::from_str(bench.alloc, name)?)?;
+            check_example(bench, folder, name)?;
+            count = count.wrapping_add(1);
         }
     }
-    Ok(names)
+    Ok(bench.report.tell("examples", &[("count", count)])?)
 }
 
 /// Compares the answers to one script with those of its file.
 fn check_example<R: Clock + Files + AllocGlobal, L: Ledger>(
-    bench: &mut Bench<'_, R, L>,
+    bench: &mut Bench<R, L>,
     folder: &str,
     name: &str,
 ) -> Result<(), Failure> {
     let alloc = bench.alloc;
-    let script = fs::read(
-        bench.rt,
-        format!(in alloc; "{folder}/{name}.livemap")?.as_str(),
-    )?;
-    let wanted = fs::read(bench.rt, format!(in alloc; "{folder}/{name}.out")?.as_str())?;
-    if script.len() >= MOST_BYTES {
+    let path = format!(in alloc; "{folder}/{name}.livemap")?;
+    let script = fs::read(bench.rt, path.as_str())?;
+    let path = format!(in alloc; "{folder}/{name}.out")?;
+    let wanted = fs::read(bench.rt, path.as_str())?;
+    if script.len() >= 1 << 40 {
         return Err(Failure::Unfit);
     }
     let space = vec![in alloc; 0u8; wanted.len()]?;

@@ -37,13 +37,11 @@ impl<B: Builder> Model for Indexed<B> {
 }
 
 impl<B: Builder> Tried<B> for Indexed<B> {
-    fn word() -> &'static str {
-        "index"
-    }
+    const WORD: &'static str = "index";
 
-    fn deletes() -> u32 {
-        4
-    }
+    const UPDATES: usize = 180_000;
+
+    const DELETES: u32 = 4;
 
     fn new(alloc: Global, most: usize) -> Result<Indexed<B>, NoMemory> {
         let mut chain = Chain::new(alloc);
@@ -88,10 +86,9 @@ impl<B: Builder> Tried<B> for Indexed<B> {
         if place >= self.handles.len() {
             return Ok(None);
         }
-        let handle = if place == 0 {
-            self.handles.remove(0)
-        } else {
-            self.handles.swap_remove(place)
+        let handle = match place {
+            0 => self.handles.remove(0),
+            _ => self.handles.swap_remove(place),
         };
         if !self.chain.has(handle) {
             return Ok(None);

@@ -12,9 +12,6 @@ use samples::{Failure, Generator, Spread};
 use std::sync::ledger::Ledger;
 use std::time::Clock;
 
-/// Weights are below this, as in made scripts.
-const WEIGHTS: u32 = 1024;
-
 /// A kind of part, by its builder: of seeded items, with the questions that it answers.
 pub trait Kind: Builder {
     /// The next drawn item.
@@ -23,7 +20,7 @@ pub trait Kind: Builder {
     /// Asks each question of the kind.
     fn ask_each<T: Tried<Self>, R: Clock, L: Ledger>(
         trial: &mut Trial<Self, T>,
-        bench: &mut Bench<'_, R, L>,
+        bench: &mut Bench<R, L>,
     ) -> Result<(), Failure>;
 }
 
@@ -31,19 +28,13 @@ impl Kind for RangeBuilder {
     /// Three draws, for x, y and the weight. The identifier is the stamp.
     fn drawn(generator: &mut Generator, spread: Spread, stamp: u64) -> Point {
         let (x, y) = spread.place(generator);
-        let w = generator.below(WEIGHTS);
-        Point {
-            id: stamp,
-            x,
-            y,
-            w,
-            stamp,
-        }
+        let (id, w) = (stamp, generator.below(1024));
+        Point { id, x, y, w, stamp }
     }
 
     fn ask_each<T: Tried<RangeBuilder>, R: Clock, L: Ledger>(
         trial: &mut Trial<RangeBuilder, T>,
-        bench: &mut Bench<'_, R, L>,
+        bench: &mut Bench<R, L>,
     ) -> Result<(), Failure> {
         trial.ask::<CountIn, R, L>(bench)?;
         trial.ask::<ListIn, R, L>(bench)

@@ -1,4 +1,4 @@
-//! What parts, stacks and indexes of any kind cost, and their answers beside plain lists; a session beside a plain map; and text.
+//! What parts, stacks and indexes of any kind cost, and their answers beside plain lists; a session beside a plain list; and text.
 #![tactic(auto)]
 
 mod bench;
@@ -9,14 +9,13 @@ mod indexed;
 mod kind;
 mod made;
 mod marked;
-mod memory;
 mod script;
 mod stacked;
 mod text;
 mod trial;
 mod tried;
 
-pub use bench::{Bench, Seen};
+pub use bench::Bench;
 pub use driver::{Layer, check_kind, measure_layer};
 pub use examples::check_examples;
 pub use indexed::Indexed;

@@ -36,14 +36,12 @@ fn own_item<P: Part, L: Ledger>(part: &P, place: usize, steps: &mut Steps<L>) ->
 }
 
 impl<B: Builder> Tried<B> for Marked<B> {
-    fn word() -> &'static str {
-        "part"
-    }
+    const WORD: &'static str = "part";
+
+    const UPDATES: usize = 256;
 
     /// A part takes no items once it is built.
-    fn deletes() -> u32 {
-        8
-    }
+    const DELETES: u32 = 8;
 
     fn new(alloc: Global, most: usize) -> Result<Marked<B>, NoMemory> {
         Ok(Marked {

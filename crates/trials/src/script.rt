@@ -3,7 +3,7 @@ ghost use Rattle.map_io.specs.SinkTold.{told_by_faults};
 
 use crate::bench::Bench;
 use map_io::{Failed, Sink};
-use map_session::{Done, Session};
+use map_session::Session;
 use query_laws::step_ledger::Steps;
 use samples::{Costs, Failure};
 use script_lang::split_word;
@@ -11,9 +11,6 @@ use std::fs;
 use std::rt::Files;
 use std::sync::ledger::Ledger;
 use std::time::Clock;
-
-/// A session takes fewer lines than this.
-const MOST_LINES: u64 = 1 << 40;
 
 /// What lines are told of by: the command words in alphabetical order, and all updates together.
 const WORDS: &str =
@@ -36,7 +33,7 @@ impl Sink for NullSink {
 ///
 /// Lines that are refused count too, by their first words. Answers aren't kept.
 pub fn measure_script<R: Clock + Files + AllocGlobal, L: Ledger>(
-    bench: &mut Bench<'_, R, L>,
+    bench: &mut Bench<R, L>,
     path: &str,
 ) -> Result<(), Failure> {
     let script = fs::read(bench.rt, path)?;
@@ -54,17 +51,15 @@ pub fn measure_script<R: Clock + Files + AllocGlobal, L: Ledger>(
     Ok(())
 }
 
-/// Gives a line to a session, and takes in what it cost where it is told of: nowhere where it says nothing.
+/// Gives a line to a session, and takes in what it cost where it is told of.
 fn run_line<R: Clock, L: Ledger>(
-    bench: &mut Bench<'_, R, L>,
+    bench: &mut Bench<R, L>,
     session: &mut Session,
     line: &[u8],
     table: &mut [(&str, Costs)],
 ) -> Result<(), Failure> {
     let begun = bench.begin()?;
-    if give_line(session, line, &mut NullSink, &mut bench.steps)? == Done::Silent {
-        return Ok(());
-    }
+    give_line(session, line, &mut NullSink, &mut bench.steps)?;
     let Some((first, _)) = split_word(line) else {
         return Ok(());
     };
@@ -83,9 +78,10 @@ pub fn give_line<K: Sink, L: Ledger>(
     line: &[u8],
     sink: &mut K,
     steps: &mut Steps<L>,
-) -> Result<Done, Failure> {
-    if session.lines() >= MOST_LINES {
+) -> Result<(), Failure> {
+    if session.lines() >= 1 << 40 {
         return Err(Failure::Unfit);
     }
-    Ok(session.line(line, sink, steps)?)
+    session.line(line, sink, steps)?;
+    Ok(())
 }

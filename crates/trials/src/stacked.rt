@@ -32,13 +32,11 @@ impl<B: Builder> Model for Stacked<B> {
 }
 
 impl<B: Builder> Tried<B> for Stacked<B> {
-    fn word() -> &'static str {
-        "stack"
-    }
+    const WORD: &'static str = "stack";
 
-    fn deletes() -> u32 {
-        3
-    }
+    const UPDATES: usize = 0;
+
+    const DELETES: u32 = 3;
 
     fn new(alloc: Global, most: usize) -> Result<Stacked<B>, NoMemory> {
         Ok(Stacked {

@@ -8,16 +8,17 @@ use crate::{
     Bench, Layer, check_examples, check_kind, check_made_script, measure_layer, measure_script,
     measure_text,
 };
+use map_shapes::CountIn;
 use query_laws::step_ledger::{SHARES, blank};
 use range_tree::RangeBuilder;
-use samples::{Failure, PlainMap, Spread};
+use samples::{Failure, Spread};
 use std::fs;
 use std::marker::Brand;
 use std::sync::ledger::{Blank, Ledger};
 use std::test::Fail;
 
-/// Tries all of range parts, and tells whether a part differs from a list without items.
-fn try_parts<L: Ledger>(rt: &HostRuntime, blank: Blank) -> Result<bool, Failure>
+/// Tries all of range parts, and tells whether counts and updates of a part differ from those of a list without items.
+fn try_parts<L: Ledger>(rt: &HostRuntime, blank: Blank) -> Result<[bool; 2], Failure>
     requires name { blank.name ≡ L.name }
     requires parts { blank.parts ≡ L.parts }
     requires shares { blank.parts ≡ SHARES }
@@ -27,30 +28,19 @@ fn try_parts<L: Ledger>(rt: &HostRuntime, blank: Blank) -> Result<bool, Failure>
     for layer in [Layer::Part, Layer::Stack, Layer::Index] {
         measure_layer::<RangeBuilder, HostRuntime, L>(&mut bench, layer, 1, 33, Spread::Column)?;
     }
-    let plan = Plan {
-        seed: 1,
-        spread: Spread::Dense,
-        size: 64,
-        updates: 1,
-        is_oldest: false,
-        asked: 2,
-        is_compared: false,
-    };
-    let mut trial = Trial::<RangeBuilder, Marked<RangeBuilder>>::new(rt.alloc(), plan)?;
+    let mut trial = Trial::<RangeBuilder, Marked<RangeBuilder>>::new(
+        rt.alloc(),
+        Plan::compared(1, 64),
+    )?;
     trial.fill(&mut bench)?;
-    trial.plan.is_compared = true;
-    let differs = trial.update(&mut bench);
-    Ok(matches!(differs, Err(Failure::Differs(_))))
+    trial.items.clear();
+    let count = trial.ask::<CountIn, HostRuntime, L>(&mut bench);
+    let update = trial.update(&mut bench);
+    Ok([count, update].map(|found| matches!(found, Err(Failure::Differs(_)))))
 }
 
-#[test]
-fn tells_a_difference(rt: HostRuntime) -> Result<(), Fail> {
-    assert!(rt; try_parts::<Brand>(&rt, blank())?);
-    Ok(())
-}
-
-/// Tries scripts and text, and tells whether a wrong answer of an example differs, a map that has a layer before, and a line that
-/// the script language takes for no point.
+/// Tries scripts and text, and tells whether a wrong answer of an example differs, a list that has points before, and a line that the
+/// script language takes for no point.
 fn try_scripts<L: Ledger>(rt: &HostRuntime, blank: Blank) -> Result<[bool; 3], Failure>
     requires name { blank.name ≡ L.name }
     requires parts { blank.parts ≡ L.parts }
@@ -58,20 +48,16 @@ fn try_scripts<L: Ledger>(rt: &HostRuntime, blank: Blank) -> Result<[bool; 3], F
 {
     let mut bench = Bench::<HostRuntime, L>::new(rt, rt.alloc(), true, blank);
     fs::create_dir_all(rt, "examples")?;
-    fs::write(
-        rt,
-        "examples/one.livemap",
-        "#\ndrop a 1\nlayer a points range",
-    )?;
-    fs::write(rt, "examples/one.out", "no layer\nok\n")?;
+    fs::write(rt, "examples/one.livemap", "#\ndrop a 1\n")?;
+    fs::write(rt, "examples/one.out", "no layer\n")?;
     measure_script(&mut bench, "examples/one.livemap")?;
     check_examples(&mut bench, "examples")?;
-    fs::write(rt, "examples/one.out", "no layer\nno\n")?;
+    fs::write(rt, "examples/one.out", "no\n")?;
     let example = check_examples(&mut bench, "examples");
     fs::remove_dir_all(rt, "examples")?;
-    let mut map = PlainMap::new(rt.alloc());
-    check_made_script(&mut bench, &mut map, 0, 500)?;
-    let made = check_made_script(&mut bench, &mut map, 0, 500);
+    let mut points = Vec::new(rt.alloc());
+    check_made_script(&mut bench, &mut points, 0, 500)?;
+    let made = check_made_script(&mut bench, &mut points, 0, 500);
     measure_text(&mut bench, 1, 33)?;
     let line = String::from_str(rt.alloc(), "seg a 1 2 3 4")?;
     let text = compare_reading(&mut bench, &vec![in rt.alloc(); line]?);
@@ -79,7 +65,8 @@ fn try_scripts<L: Ledger>(rt: &HostRuntime, blank: Blank) -> Result<[bool; 3], F
 }
 
 #[test]
-fn others_differ(rt: HostRuntime) -> Result<(), Fail> {
+fn differences_are_told(rt: HostRuntime) -> Result<(), Fail> {
+    assert_eq!(rt; try_parts::<Brand>(&rt, blank())?, [true, true]);
     assert_eq!(rt; try_scripts::<Brand>(&rt, blank())?, [true, true, true]);
     Ok(())
 }

@@ -2,108 +2,57 @@
 use crate::bench::Bench;
 use answer_text::{Reply, write_reply};
 use map_io::{MemSink, Sink, WriteFault};
-use map_shapes::Asked;
 use samples::{Failure, Generator, expect_same};
 use script_lang::{Command, parse};
 use std::alloc::{AllocError, Global};
 use std::sync::ledger::Ledger;
 use std::time::Clock;
 
-/// Coordinates and weights are below this.
-const COORDINATES: u32 = 1 << 31;
-
-/// The most bytes of a count's reply: `count`, a space, 20 digits and a line feed.
-const LONGEST: usize = 27;
-
-/// What a reply says that it cost; without the ledger it isn't written.
-const ASKED: Asked = Asked {
-    parts: 0,
-    part_bound: 0,
-    touches: 0,
-};
-
 /// Reads so many seeded lines and writes so many replies, by the map's crates and by std alone.
 ///
-/// Tells of them, and where times are wanted of the nanoseconds for each, by both. `Differs` where the two come to other sums or other bytes.
+/// Tells of the mean nanoseconds of each way, which are 0 where times aren't wanted. `Differs` where the two come to other sums or other bytes.
 pub fn measure_text<R: Clock, L: Ledger>(
-    bench: &mut Bench<'_, R, L>,
+    bench: &mut Bench<R, L>,
     seed: u64,
     size: usize,
 ) -> Result<(), Failure> {
     let mut generator = Generator::new(seed);
     let mut lines = Vec::new(bench.alloc);
-    let mut numbers = Vec::new(bench.alloc);
     for _ in 0..size {
         lines.push(made_line(bench.alloc, &mut generator)?)?;
-        numbers.push(generator.state)?;
     }
     compare_reading(bench, &lines)?;
-    compare_writing(bench, &numbers)
+    compare_writing(bench, size as u64)
 }
 
-/// A line that adds a point.
+/// A line that adds a point, of coordinates and a weight below 2^31.
 fn made_line(alloc: Global, generator: &mut Generator) -> Result<String, AllocError> {
     let id = generator.draw();
-    let x = generator.below(COORDINATES);
-    let y = generator.below(COORDINATES);
-    let w = generator.below(COORDINATES);
+    let x = generator.below(1 << 31);
+    let y = generator.below(1 << 31);
+    let w = generator.below(1 << 31);
     format!(in alloc; "add a {id} {x} {y} {w}")
 }
 
 /// Adds up the numbers of lines, by the script language and by std.
 pub fn compare_reading<R: Clock, L: Ledger>(
-    bench: &mut Bench<'_, R, L>,
+    bench: &mut Bench<R, L>,
     lines: &[String],
 ) -> Result<(), Failure> {
-    let begun = bench.start()?;
+    let begun = bench.begin()?;
     let sum = sum_of_adds(lines);
     let time = bench.since(begun)?;
-    let begun = bench.start()?;
-    let wanted = sum_by_std(lines);
+    let begun = bench.begin()?;
+    let wanted = lines
+        .iter()
+        .flat_map(|line| line.split_ascii_whitespace())
+        .filter_map(|word| word.parse::<u64>().ok())
+        .fold(0, |sum: u64, number| sum.saturating_add(number));
     let time_by_std = bench.since(begun)?;
-    expect_same(bench.alloc, "the sum of lines", &[sum], &[wanted])?;
-    let count = lines.len() as u64;
-    bench
-        .report
-        .tell("read", &[("lines", count), ("sum", sum)])?;
-    tell_times(bench, "read", count, [time, time_by_std])
-}
-
-/// Writes a count's reply for each number, by the map's crates and by std.
-fn compare_writing<R: Clock, L: Ledger>(
-    bench: &mut Bench<'_, R, L>,
-    numbers: &[u64],
-) -> Result<(), Failure> {
-    let alloc = bench.alloc;
-    let size = numbers.len().saturating_mul(LONGEST);
-    let mut sink = MemSink::new(vec![in alloc; 0u8; size]?, usize::MAX, Vec::new(alloc));
-    let mut text = String::with_capacity(alloc, size)?;
-    let begun = bench.start()?;
-    write_counts(numbers, &mut sink)?;
-    let time = bench.since(begun)?;
-    let begun = bench.start()?;
-    write_by_std(numbers, &mut text)?;
-    let time_by_std = bench.since(begun)?;
-    let is_same = sink.written() == text.as_bytes();
-    expect_same(alloc, "the replies", &[u64::from(is_same)], &[1])?;
-    let count = numbers.len() as u64;
-    bench.report.tell("write", &[("replies", count), ("bytes", text.len() as u64)])?;
-    tell_times(bench, "write", count, [time, time_by_std])
-}
-
-/// Tells how many nanoseconds each of so many lines took, by the map's crates and by std, where times are wanted.
-fn tell_times<R: Clock, L: Ledger>(
-    bench: &mut Bench<'_, R, L>,
-    word: &str,
-    lines: u64,
-    times: [u64; 2],
-) -> Result<(), Failure> {
-    if bench.is_timed && lines > 0 {
-        let [time, by_std] = times;
-        let means = [("mean", time / lines), ("by std", by_std / lines)];
-        bench.report.tell(word, &means)?;
-    }
-    Ok(())
+    let each = (lines.len() as u64).max(1);
+    let told = [("nanoseconds", time / each), ("by std", time_by_std / each)];
+    bench.report.tell("read", &told)?;
+    expect_same(bench.alloc, "sum", &[sum], &[wanted])
 }
 
 /// The sum of the numbers of all points that the lines add, by the script language; 2^64 - 1 where it is more.
@@ -118,27 +67,41 @@ fn sum_of_adds(lines: &[String]) -> u64 {
     sum
 }
 
-/// The sum of all words that are numbers, by std alone.
-fn sum_by_std(lines: &[String]) -> u64 {
-    lines
-        .iter()
-        .flat_map(|line| line.split_ascii_whitespace())
-        .filter_map(|word| word.parse::<u64>().ok())
-        .fold(0, |sum: u64, number| sum.saturating_add(number))
+/// Writes the replies to so many sizes, by the map's crates and by std.
+fn compare_writing<R: Clock, L: Ledger>(
+    bench: &mut Bench<R, L>,
+    count: u64,
+) -> Result<(), Failure> {
+    let alloc = bench.alloc;
+    // A reply has `size`, a space, 20 digits at most and a line feed.
+    let size = (count as usize).saturating_mul(26);
+    let mut sink = MemSink::new(vec![in alloc; 0u8; size]?, usize::MAX, Vec::new(alloc));
+    let mut text = String::with_capacity(alloc, size)?;
+    let begun = bench.begin()?;
+    write_sizes(count, &mut sink)?;
+    let time = bench.since(begun)?;
+    let begun = bench.begin()?;
+    write_by_std(count, &mut text)?;
+    let time_by_std = bench.since(begun)?;
+    let each = count.max(1);
+    let told = [("nanoseconds", time / each), ("by std", time_by_std / each)];
+    bench.report.tell("write", &told)?;
+    let is_same = sink.written() == text.as_bytes();
+    expect_same(alloc, "replies", &[u64::from(is_same)], &[1])
 }
 
-/// Writes the reply to a count for each number.
-fn write_counts<K: Sink>(numbers: &[u64], sink: &mut K) -> Result<(), WriteFault> {
-    for n in numbers.iter().copied() {
-        write_reply(&Reply::Count { n, asked: ASKED }, false, sink)?;
+/// Writes the replies to sizes of 0, 1 and so on.
+fn write_sizes<K: Sink>(count: u64, sink: &mut K) -> Result<(), WriteFault> {
+    for n in 0..count {
+        write_reply(&Reply::Size { n }, false, sink)?;
     }
     Ok(())
 }
 
 /// Writes the same lines by `writeln!`.
-fn write_by_std(numbers: &[u64], text: &mut String) -> Result<(), AllocError> {
-    for number in numbers {
-        writeln!(text, "count {number}")?;
+fn write_by_std(count: u64, text: &mut String) -> Result<(), AllocError> {
+    for n in 0..count {
+        writeln!(text, "size {n}")?;
     }
     Ok(())
 }

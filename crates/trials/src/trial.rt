@@ -3,8 +3,8 @@ ghost use Rattle.std.specs.Prelude.{◌≡◌};
 
 use crate::bench::Bench;
 use crate::kind::Kind;
-use crate::tried::{Tried, answer};
-use builder_trait::{Answers, Builder};
+use crate::tried::Tried;
+use builder_trait::{Answers, Asking, Builder};
 use query_laws::step_ledger::Steps;
 use query_laws::{Item, NoMemory, Question};
 use samples::{Costs, Failure, Generator, Scanned, Spread, expect_same};
@@ -13,9 +13,6 @@ use std::mem;
 use std::sync::ledger::Ledger;
 use std::time::Clock;
 
-/// Questions come after each update whose number is a multiple of this one, where they are compared.
-const ROUND: usize = 10;
-
 /// How something is tried.
 #[derive(Clone, Copy)]
 pub struct Plan {
@@ -23,14 +20,20 @@ pub struct Plan {
     pub spread: Spread,
     /// The first inserts.
     pub size: usize,
-    /// The updates after them.
-    pub updates: usize,
-    /// Whether the item at the front is deleted, and no other.
-    pub is_oldest: bool,
-    /// How often each question is asked at a time.
-    pub asked: usize,
     /// Whether answers are compared with those of a plain list. Costs are told where they aren't.
     pub is_compared: bool,
+}
+
+impl Plan {
+    /// Of comparisons, with items that lie densely.
+    pub fn compared(seed: u64, size: usize) -> Plan {
+        Plan {
+            seed: seed.wrapping_add(size as u64),
+            spread: Spread::Dense,
+            size,
+            is_compared: true,
+        }
+    }
 }
 
 /// What is tried, beside a plain list of its live items, which is empty where nothing is compared.
@@ -48,7 +51,6 @@ pub struct Trial<B: Builder, T: Tried<B>> {
 #[derive(Clone, Copy)]
 enum Change<I> {
     Insert(I),
-    Settle,
     Delete(usize),
 }
 
@@ -68,39 +70,42 @@ impl<B: Builder, T: Tried<B>> Trial<B, T> {
     /// Asks drawn questions of a type. `Differs` where an answer isn't that of the plain list.
     pub fn ask<Q: Question<Item = B::Item> + Scanned, R: Clock, L: Ledger>(
         &mut self,
-        bench: &mut Bench<'_, R, L>,
+        bench: &mut Bench<R, L>,
     ) -> Result<(), Failure>
     where
         B::Part: Answers<Q>,
     {
-        for _ in 0..self.plan.asked {
+        let asked = if self.plan.is_compared { 2 } else { 256 };
+        for _ in 0..asked {
             let question = Q::drawn(&mut self.generator, self.plan.spread);
-            if let Err(Failure::NoMemory) = self.put(&question, bench) {
-                bench.seen.refused = bench.seen.refused.wrapping_add(1);
-                self.put(&question, bench)?;
+            match self.put(&question, bench) {
+                Err(Failure::NoMemory(_)) => bench.refused = bench.refused.wrapping_add(1),
+                done => done?,
             }
         }
-        self.tell_costs(Q::word(), bench)
+        self.tell_costs(Q::WORD, bench)
     }
 
     /// Puts a question, and compares the answer.
     fn put<Q: Question<Item = B::Item> + Scanned, R: Clock, L: Ledger>(
         &mut self,
         question: &Q,
-        bench: &mut Bench<'_, R, L>,
+        bench: &mut Bench<R, L>,
     ) -> Result<(), Failure>
     where
         B::Part: Answers<Q>,
     {
         let begun = bench.begin()?;
-        let (answer, parts) = answer(bench.alloc, &self.set, question, &mut bench.steps)?;
+        let mut asking = Asking::<B::Part, Q>::new(bench.alloc, question);
+        self.set.put(&mut asking, &mut bench.steps)?;
+        let answer = asking.finish()?.into_answer();
         bench.take_in(begun, &mut self.costs)?;
         let numbers = Q::numbers(bench.alloc, answer)?;
         if self.plan.is_compared {
             let wanted = question.scan(bench.alloc, &self.items)?;
-            expect_same(bench.alloc, Q::word(), &numbers, &wanted)?;
+            expect_same(bench.alloc, Q::WORD, &numbers, &wanted)?;
         }
-        bench.seen.take_answer(parts, &numbers);
+        bench.answers = bench.answers.wrapping_add(1);
         Ok(())
     }
 
@@ -108,11 +113,11 @@ impl<B: Builder, T: Tried<B>> Trial<B, T> {
     fn tell_costs<R: Clock, L: Ledger>(
         &mut self,
         word: &str,
-        bench: &mut Bench<'_, R, L>,
+        bench: &mut Bench<R, L>,
     ) -> Result<(), Failure> {
         let costs = mem::replace(&mut self.costs, Costs::new(bench.alloc));
         if !self.plan.is_compared {
-            let words = format!(in bench.alloc; "{} {word}", T::word())?;
+            let words = format!(in bench.alloc; "{} {word}", T::WORD)?;
             costs.tell(words.as_str(), &mut bench.report)?;
         }
         Ok(())
@@ -132,7 +137,6 @@ impl<B: Builder, T: Tried<B>> Trial<B, T> {
                     self.items.push(item)?;
                 }
             }
-            Change::Settle => self.set.settle(steps)?,
             Change::Delete(place) => {
                 if let Some(item) = self.set.delete(place, steps)? {
                     self.items.retain(|other| other.stamp() != item.stamp());
@@ -143,41 +147,42 @@ impl<B: Builder, T: Tried<B>> Trial<B, T> {
     }
 
     /// Compares how many items are live.
-    fn compare<R: Clock, L: Ledger>(&self, bench: &mut Bench<'_, R, L>) -> Result<(), Failure> {
+    fn compare(&self, alloc: Global) -> Result<(), Failure> {
         if !self.plan.is_compared {
             return Ok(());
         }
-        let live = self.set.live();
-        bench.seen.take_update(live);
-        expect_same(bench.alloc, "live", &[live], &[self.items.len() as u64])
+        let wanted = self.items.len() as u64;
+        expect_same(alloc, "live", &[self.set.live()], &[wanted])
     }
 }
 
 impl<B: Kind, T: Tried<B>> Trial<B, T> {
     /// Inserts the first items, and asks each question.
-    pub fn fill<R: Clock, L: Ledger>(
-        &mut self,
-        bench: &mut Bench<'_, R, L>,
-    ) -> Result<(), Failure> {
+    pub fn fill<R: Clock, L: Ledger>(&mut self, bench: &mut Bench<R, L>) -> Result<(), Failure> {
         for _ in 0..self.plan.size {
             let change = self.drawn_change(0);
             self.change(change, bench)?;
         }
         self.tell_costs("insert", bench)?;
-        self.change(Change::Settle, bench)?;
+        let begun = bench.begin()?;
+        if self.set.settle(&mut bench.steps).is_err() {
+            self.set.settle(&mut bench.steps)?;
+        }
+        bench.take_in(begun, &mut self.costs)?;
         self.tell_costs("settle", bench)?;
         B::ask_each(self, bench)
     }
 
     /// Makes the updates, and asks each question, after each tenth update too where answers are compared.
-    pub fn update<R: Clock, L: Ledger>(
-        &mut self,
-        bench: &mut Bench<'_, R, L>,
-    ) -> Result<(), Failure> {
-        for number in 0..self.plan.updates {
-            let change = self.drawn_change(T::deletes());
+    pub fn update<R: Clock, L: Ledger>(&mut self, bench: &mut Bench<R, L>) -> Result<(), Failure> {
+        let updates = match self.plan.is_compared {
+            true => self.plan.size.saturating_mul(6),
+            false => self.plan.size.saturating_mul(3).min(T::UPDATES),
+        };
+        for number in 0..updates {
+            let change = self.drawn_change(T::DELETES);
             self.change(change, bench)?;
-            if self.plan.is_compared && number % ROUND == 0 {
+            if self.plan.is_compared && number % 10 == 0 {
                 B::ask_each(self, bench)?;
             }
         }
@@ -185,19 +190,19 @@ impl<B: Kind, T: Tried<B>> Trial<B, T> {
         B::ask_each(self, bench)
     }
 
-    /// The next change, of eight of which so many are deletes on average. With nothing to delete it changes nothing.
+    /// The next change, of eight of which so many are deletes on average: where an even number of items is compared, of the one at the
+    /// front, and else of any. With nothing to delete it changes nothing.
     fn drawn_change(&mut self, deletes: u32) -> Change<B::Item> {
         if self.generator.below(8) >= deletes {
             let stamp = self.inserted;
             self.inserted = stamp.wrapping_add(1);
             return Change::Insert(B::drawn(&mut self.generator, self.plan.spread, stamp));
         }
-        match u32::try_from(self.set.places()) {
-            Ok(places) if places > 0 && !self.plan.is_oldest => {
-                Change::Delete(self.generator.below(places) as usize)
-            }
-            _ => Change::Delete(0),
+        let places = self.set.places() as u32;
+        if places == 0 || (self.plan.is_compared && self.plan.size % 2 == 0) {
+            return Change::Delete(0);
         }
+        Change::Delete(self.generator.below(places) as usize)
     }
 
     /// Makes a change. Where memory is refused, it compares, and asks for it once more.
@@ -206,18 +211,19 @@ impl<B: Kind, T: Tried<B>> Trial<B, T> {
     fn change<R: Clock, L: Ledger>(
         &mut self,
         change: Change<B::Item>,
-        bench: &mut Bench<'_, R, L>,
+        bench: &mut Bench<R, L>,
     ) -> Result<(), Failure> {
         let begun = bench.begin()?;
         let mut done = self.make(change, &mut bench.steps);
-        if matches!(done, Err(Failure::NoMemory)) {
-            bench.seen.refused = bench.seen.refused.wrapping_add(1);
-            self.compare(bench)?;
+        if matches!(done, Err(Failure::NoMemory(_))) {
+            bench.refused = bench.refused.wrapping_add(1);
+            self.compare(bench.alloc)?;
             B::ask_each(self, bench)?;
             done = self.make(change, &mut bench.steps);
         }
         done?;
         bench.take_in(begun, &mut self.costs)?;
-        self.compare(bench)
+        bench.updates = bench.updates.wrapping_add(1);
+        self.compare(bench.alloc)
     }
 }

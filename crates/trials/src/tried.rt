@@ -12,11 +12,13 @@ use std::sync::ledger::Ledger;
 ///
 /// `NoMemory` where memory isn't given; the items are as before then.
 pub trait Tried<B: Builder>: Drop + Sized {
-    /// Its word.
-    fn word() -> &'static str;
+    const WORD: &'static str;
 
-    /// Of eight updates after the first inserts so many are deletes, on average.
-    fn deletes() -> u32;
+    /// The most updates after the first inserts where nothing is compared.
+    const UPDATES: usize;
+
+    /// Of eight updates so many are deletes, on average.
+    const DELETES: u32;
 
     /// No items, with room in its own lists for so many.
     fn new(alloc: Global, most: usize) -> Result<Self, NoMemory>;
@@ -52,21 +54,4 @@ pub trait Tried<B: Builder>: Drop + Sized {
         requires going { asking.old.is_given_up ≡ false }
         requires first { asking.old.parts ≡ 0 }
         ensures { IfOk result (λ _. asking.new.is_given_up ≡ false) };
-}
-
-/// The answer to a question, and how many parts were consulted.
-pub fn answer<B: Builder, T: Tried<B>, Q: Question<Item = B::Item>, L: Ledger>(
-    alloc: Global,
-    set: &T,
-    question: &Q,
-    steps: &mut Steps<L>,
-) -> Result<(Q::Answer, u32), NoMemory>
-where
-    B::Part: Answers<Q>,
-{
-    let mut asking = Asking::<B::Part, Q>::new(alloc, question);
-    set.put(&mut asking, steps)?;
-    let given = asking.finish()?;
-    let parts = given.consulted();
-    Ok((given.into_answer(), parts))
 }
