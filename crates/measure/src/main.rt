@@ -7,7 +7,7 @@ ghost use Rattle.std.specs.Prelude.{◌≡◌};
 
 use crate::words::{Job, Work, command, job_of};
 use query_laws::step_ledger::{SHARES, blank};
-use range_tree::RangeBuilder;
+use range_tree::RangeRows;
 use samples::Failure;
 use std::env;
 use std::marker::Brand;
@@ -74,12 +74,12 @@ fn run_job<R: Clock + Files + AllocGlobal + Clone + Drop, L: Ledger>(
     let Job { seed, size, .. } = *job;
     match job.work {
         Work::Layer(layer, spread) => {
-            measure_layer::<RangeBuilder, R, L>(bench, layer, seed, size, spread)
+            measure_layer::<RangeRows, R, L>(bench, layer, seed, size, spread)
         }
         Work::Text => measure_text(bench, seed, size),
         Work::Script(path) => measure_script(bench, path),
         Work::Check(examples) => {
-            check_kind::<RangeBuilder, R, L>(bench, seed, size)?;
+            check_kind::<RangeRows, R, L>(bench, seed, size)?;
             check_made_script(bench, &mut Vec::new(bench.alloc), seed, 4_000)?;
             measure_text(bench, seed, size)?;
             examples.map_or(Ok(()), |folder| check_examples(bench, folder))

@@ -8,6 +8,7 @@ use crate::marked::Marked;
 use crate::stacked::Stacked;
 use crate::trial::{Plan, Trial};
 use crate::tried::Tried;
+use builder_trait::RowsBuilder;
 use samples::{Failure, Spread};
 use std::fs;
 use std::rt::Files;
@@ -26,7 +27,7 @@ pub enum Layer {
 }
 
 /// Measures a layer over so many items of a kind.
-pub fn measure_layer<B: Kind, R: Clock + Files + AllocGlobal, L: Ledger>(
+pub fn measure_layer<K: Kind, R: Clock + Files + AllocGlobal, L: Ledger>(
     bench: &mut Bench<R, L>,
     layer: Layer,
     seed: u64,
@@ -40,30 +41,30 @@ pub fn measure_layer<B: Kind, R: Clock + Files + AllocGlobal, L: Ledger>(
         is_compared: false,
     };
     match layer {
-        Layer::Part => run_trial::<B, Marked<B>, R, L>(bench, plan),
-        Layer::Stack => run_trial::<B, Stacked<B>, R, L>(bench, plan),
-        Layer::Index => run_trial::<B, Indexed<B>, R, L>(bench, plan),
+        Layer::Part => run_trial::<K, Marked<RowsBuilder<K>>, R, L>(bench, plan),
+        Layer::Stack => run_trial::<K, Stacked<RowsBuilder<K>>, R, L>(bench, plan),
+        Layer::Index => run_trial::<K, Indexed<RowsBuilder<K>>, R, L>(bench, plan),
     }
 }
 
 /// Compares parts, stacks and indexes of a kind with plain lists, of up to so many items.
-pub fn check_kind<B: Kind, R: Clock + Files + AllocGlobal, L: Ledger>(
+pub fn check_kind<K: Kind, R: Clock + Files + AllocGlobal, L: Ledger>(
     bench: &mut Bench<R, L>,
     seed: u64,
     most: usize,
 ) -> Result<(), Failure> {
-    check_sizes::<B, Marked<B>, R, L>(bench, seed, most)?;
-    check_sizes::<B, Stacked<B>, R, L>(bench, seed, most)?;
-    check_sizes::<B, Indexed<B>, R, L>(bench, seed, most)
+    check_sizes::<K, Marked<RowsBuilder<K>>, R, L>(bench, seed, most)?;
+    check_sizes::<K, Stacked<RowsBuilder<K>>, R, L>(bench, seed, most)?;
+    check_sizes::<K, Indexed<RowsBuilder<K>>, R, L>(bench, seed, most)
 }
 
 /// Tries something by a plan, and tells how much memory it holds where times are wanted and nothing is compared.
-fn run_trial<B: Kind, T: Tried<B>, R: Clock + Files + AllocGlobal, L: Ledger>(
+fn run_trial<K: Kind, T: Tried<RowsBuilder<K>>, R: Clock + Files + AllocGlobal, L: Ledger>(
     bench: &mut Bench<R, L>,
     plan: Plan,
 ) -> Result<(), Failure> {
     let before = bytes_held(bench)?;
-    let mut trial = Trial::<B, T>::new(bench.alloc, plan)?;
+    let mut trial = Trial::<RowsBuilder<K>, T>::new(bench.alloc, plan)?;
     trial.fill(bench)?;
     let bytes = bytes_held(bench)?.saturating_sub(before);
     if bytes > 0 && !plan.is_compared {
@@ -88,7 +89,7 @@ fn bytes_held<R: Clock + Files + AllocGlobal, L: Ledger>(
 }
 
 /// Compares something with a plain list, at each size up to `most` that is at most 1 away from a power of two. Tells what was seen.
-fn check_sizes<B: Kind, T: Tried<B>, R: Clock + Files + AllocGlobal, L: Ledger>(
+fn check_sizes<K: Kind, T: Tried<RowsBuilder<K>>, R: Clock + Files + AllocGlobal, L: Ledger>(
     bench: &mut Bench<R, L>,
     seed: u64,
     most: usize,
@@ -96,7 +97,7 @@ fn check_sizes<B: Kind, T: Tried<B>, R: Clock + Files + AllocGlobal, L: Ledger>(
     for size in 0..=most {
         let mut near = size.saturating_sub(1)..=size.saturating_add(1);
         if near.any(|n| n.is_power_of_two()) {
-            run_trial::<B, T, R, L>(bench, Plan::compared(seed, size))?;
+            run_trial::<K, T, R, L>(bench, Plan::compared(seed, size))?;
         }
     }
     Ok(bench.tell_seen(T::WORD)?)

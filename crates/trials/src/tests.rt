@@ -10,7 +10,7 @@ use crate::{
 };
 use map_shapes::CountIn;
 use query_laws::step_ledger::{SHARES, blank};
-use range_tree::RangeBuilder;
+use range_tree::{RangeBuilder, RangeRows};
 use samples::{Failure, Spread};
 use std::fs;
 use std::marker::Brand;
@@ -24,9 +24,9 @@ fn try_parts<L: Ledger>(rt: &HostRuntime, blank: Blank) -> Result<[bool; 2], Fai
     requires shares { blank.parts ≡ SHARES }
 {
     let mut bench = Bench::<HostRuntime, L>::new(rt, rt.alloc(), true, blank);
-    check_kind::<RangeBuilder, HostRuntime, L>(&mut bench, 1, 17)?;
+    check_kind::<RangeRows, HostRuntime, L>(&mut bench, 1, 17)?;
     for layer in [Layer::Part, Layer::Stack, Layer::Index] {
-        measure_layer::<RangeBuilder, HostRuntime, L>(&mut bench, layer, 1, 33, Spread::Column)?;
+        measure_layer::<RangeRows, HostRuntime, L>(&mut bench, layer, 1, 33, Spread::Column)?;
     }
     let mut trial = Trial::<RangeBuilder, Marked<RangeBuilder>>::new(
         rt.alloc(),

@@ -4,7 +4,7 @@ ghost use Rattle.std.specs.Prelude.{◌≡◌};
 use crate::bench::Bench;
 use crate::kind::Kind;
 use crate::tried::Tried;
-use builder_trait::{Answers, Asking, Builder};
+use builder_trait::{Answers, Asking, Builder, RowsBuilder};
 use query_laws::step_ledger::Steps;
 use query_laws::{Item, NoMemory, Question};
 use samples::{Costs, Failure, Generator, Scanned, Spread, expect_same};
@@ -156,7 +156,7 @@ impl<B: Builder, T: Tried<B>> Trial<B, T> {
     }
 }
 
-impl<B: Kind, T: Tried<B>> Trial<B, T> {
+impl<K: Kind, T: Tried<RowsBuilder<K>>> Trial<RowsBuilder<K>, T> {
     /// Inserts the first items, and asks each question.
     pub fn fill<R: Clock, L: Ledger>(&mut self, bench: &mut Bench<R, L>) -> Result<(), Failure> {
         for _ in 0..self.plan.size {
@@ -170,7 +170,7 @@ impl<B: Kind, T: Tried<B>> Trial<B, T> {
         }
         bench.take_in(begun, &mut self.costs)?;
         self.tell_costs("settle", bench)?;
-        B::ask_each(self, bench)
+        K::ask_each(self, bench)
     }
 
     /// Makes the updates, and asks each question, after each tenth update too where answers are compared.
@@ -183,22 +183,22 @@ impl<B: Kind, T: Tried<B>> Trial<B, T> {
             let change = self.drawn_change(T::DELETES);
             self.change(change, bench)?;
             if self.plan.is_compared && number % 10 == 0 {
-                B::ask_each(self, bench)?;
+                K::ask_each(self, bench)?;
             }
         }
         self.tell_costs("update", bench)?;
-        B::ask_each(self, bench)
+        K::ask_each(self, bench)
     }
 
     /// The next change, of eight of which so many are deletes on average: where an even number of items is compared, of the one at the
     /// front, and else of any. With nothing to delete it changes nothing.
-    fn drawn_change(&mut self, deletes: u32) -> Change<B::Item> {
+    fn drawn_change(&mut self, deletes: u32) -> Change<K::Item> {
         if self.generator.below(8) >= deletes {
             let stamp = self.inserted;
             self.inserted = stamp.wrapping_add(1);
-            return Change::Insert(B::drawn(&mut self.generator, self.plan.spread, stamp));
+            return Change::Insert(K::drawn(&mut self.generator, self.plan.spread, stamp));
         }
-        let places = self.set.places() as u32;
+        let places = u32::try_from(self.set.places()).unwrap_or(0);
         if places == 0 || (self.plan.is_compared && self.plan.size % 2 == 0) {
             return Change::Delete(0);
         }
@@ -210,7 +210,7 @@ impl<B: Kind, T: Tried<B>> Trial<B, T> {
     /// `NoMemory` where it is refused again.
     fn change<R: Clock, L: Ledger>(
         &mut self,
-        change: Change<B::Item>,
+        change: Change<K::Item>,
         bench: &mut Bench<R, L>,
     ) -> Result<(), Failure> {
         let begun = bench.begin()?;
@@ -218,7 +218,7 @@ impl<B: Kind, T: Tried<B>> Trial<B, T> {
         if matches!(done, Err(Failure::NoMemory(_))) {
             bench.refused = bench.refused.wrapping_add(1);
             self.compare(bench.alloc)?;
-            B::ask_each(self, bench)?;
+            K::ask_each(self, bench)?;
             done = self.make(change, &mut bench.steps);
         }
         done?;
