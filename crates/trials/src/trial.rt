@@ -198,7 +198,7 @@ impl<B: Kind, T: Tried<B>> Trial<B, T> {
             self.inserted = stamp.wrapping_add(1);
             return Change::Insert(B::drawn(&mut self.generator, self.plan.spread, stamp));
         }
-        let places = self.set.places() as u32;
+        let places = u32::try_from(self.set.places()).unwrap_or(0);
         if places == 0 || (self.plan.is_compared && self.plan.size % 2 == 0) {
             return Change::Delete(0);
         }
