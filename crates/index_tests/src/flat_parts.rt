@@ -1,40 +1,41 @@
 //! The flat kind through the traits, and questions put to its parts.
 ghost use Rattle.std.specs.Prelude.{◌≡◌, ◌≢◌, [], ◌∷◌, IsTrue, IfOk};
+ghost use Rattle.query_laws.specs.declared.item.Order.TheVariants.{First, Second};
 
 use crate::item::Pair;
 use crate::sums::SumOfX;
 use builder_trait::flat::{FlatBuilder, FlatPart};
 use builder_trait::{Asking, Builder, Given, Part, part_of_one};
 use query_laws::step_ledger::{SHARES, Steps, blank};
-use query_laws::{Item, NoMemory};
+use query_laws::{Item, NoMemory, Order};
 use std::alloc::Global;
 use std::marker::Brand;
 use std::sync::ledger::{Blank, Ledger};
 use std::test::Fail;
 
-/// A part of two items that stand the other way round in order 1; and how many turns were left after the seal.
+/// A part of two items that stand the other way round in the second order; and how many turns were left after the seal.
 fn pair<B: Builder, L: Ledger>(
     alloc: Global,
     first: B::Item,
     second: B::Item,
     steps: &mut Steps<L>,
 ) -> Result<(u64, B::Part), NoMemory>
-    requires rising { IsTrue (B.Item.before 0 first second) }
-    requires falling { IsTrue (B.Item.before 1 second first) }
+    requires rising { IsTrue (B.Item.before First first second) }
+    requires falling { IsTrue (B.Item.before Second second first) }
     ensures { IfOk result (λ made. (B.Part.Part.contents made.1).items ≡ first ∷ second ∷ []) }
 {
     let mut builder = B::room(alloc, 1)?;
-    builder.put(0, first, 0, steps);
-    builder.put(0, second, 1, steps);
-    builder.put(1, second, 1, steps);
-    builder.put(1, first, 0, steps);
+    builder.put(Order::First, first, 0, steps);
+    builder.put(Order::First, second, 1, steps);
+    builder.put(Order::Second, second, 1, steps);
+    builder.put(Order::Second, first, 0, steps);
     builder.seal();
     let left = builder.left();
     builder.turns(left, steps);
     Ok((left, builder.finish()))
 }
 
-/// The item at a place of order 0, if there is one: its stamp, its index in order 1 by the place there, and whether it is live.
+/// The item at a place of the first order, if there is one: its stamp, its index in the second order by the place there, and whether it is live.
 fn seen_at<P: Part, L: Ledger>(
     part: &P,
     place: usize,
@@ -43,8 +44,12 @@ fn seen_at<P: Part, L: Ledger>(
     if place >= part.len() {
         return None;
     }
-    let stamp = part.item(0, place, steps).stamp();
-    Some((stamp, part.place(1, place, steps), part.alive(place, steps)))
+    let stamp = part.item(Order::First, place, steps).stamp();
+    Some((
+        stamp,
+        part.place(Order::Second, place, steps),
+        part.alive(place, steps),
+    ))
 }
 
 /// What a part of two items, the first of which is marked, tells of both; and how many items a part of the second has, on the same memory.
@@ -69,8 +74,8 @@ fn pair_seen<B: Builder, L: Ledger>(
     requires parts { blank.parts ≡ L.parts }
     requires shares { blank.parts ≡ SHARES }
     requires stamps { B.Item.stamp first ≢ B.Item.stamp second }
-    requires rising { IsTrue (B.Item.before 0 first second) }
-    requires falling { IsTrue (B.Item.before 1 second first) }
+    requires rising { IsTrue (B.Item.before First first second) }
+    requires falling { IsTrue (B.Item.before Second second first) }
 {
     let mut steps = Steps::<L>::new(blank);
     let (left, mut part) = pair::<B, L>(alloc, first, second, &mut steps)?;

@@ -6,13 +6,13 @@ use builder_trait::flat::FlatBuilder;
 use builder_trait::{Builder, Part, part_of_one};
 use ordered_merge::Merge;
 use query_laws::step_ledger::{SHARES, Steps, blank};
-use query_laws::{Item, NoMemory};
+use query_laws::{Item, NoMemory, Order};
 use std::alloc::Global;
 use std::marker::Brand;
 use std::sync::ledger::{Blank, Ledger};
 use std::test::Fail;
 
-/// The parts of two items, merged: the turns left at the beginning, and once the merge is cleared; whether order 0 had passed the
+/// The parts of two items, merged: the turns left at the beginning, and once the merge is cleared; whether the first order had passed the
 /// first item after a turn, and whether all was done after the others; and the part of both.
 fn merged<B: Builder, L: Ledger>(
     alloc: Global,
@@ -42,12 +42,10 @@ fn merged<B: Builder, L: Ledger>(
 /// The stamps of a part in an order.
 fn stamps<P: Part, L: Ledger>(
     alloc: Global,
-    order: usize,
+    order: Order,
     part: &P,
     steps: &mut Steps<L>,
-) -> Result<Vec<u64>, NoMemory>
-    requires { order < 2 }
-{
+) -> Result<Vec<u64>, NoMemory> {
     let mut stamps = Vec::new(alloc);
     for k in 0..part.len() {
         stamps.push(part.item(order, k, steps).stamp())?;
@@ -76,8 +74,8 @@ fn merge_seen<B: Builder, L: Ledger>(
 {
     let mut steps = Steps::<L>::new(blank);
     let (left, passed_and_done, part) = merged::<B, L>(alloc, low, high, &mut steps)?;
-    let first = stamps(alloc, 0, &part, &mut steps)?;
-    let second = stamps(alloc, 1, &part, &mut steps)?;
+    let first = stamps(alloc, Order::First, &part, &mut steps)?;
+    let second = stamps(alloc, Order::Second, &part, &mut steps)?;
     Ok(Seen {
         left,
         passed_and_done,

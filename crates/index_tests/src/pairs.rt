@@ -1,9 +1,10 @@
 //! A part of two items.
 ghost use Rattle.std.specs.Prelude.{◌≡◌, [], ◌∷◌, true, IsTrue, IfOk};
+ghost use Rattle.query_laws.specs.declared.item.Order.TheVariants.{First, Second};
 
 use builder_trait::Builder;
 use query_laws::step_ledger::Steps;
-use query_laws::{Item, NoMemory};
+use query_laws::{Item, NoMemory, Order};
 use std::alloc::Global;
 use std::sync::ledger::Ledger;
 
@@ -14,8 +15,8 @@ pub fn rising_pair<B: Builder, L: Ledger>(
     high: B::Item,
     steps: &mut Steps<L>,
 ) -> Result<B::Part, NoMemory>
-    requires rising { IsTrue (B.Item.before 0 low high) }
-    requires rising_reordered { IsTrue (B.Item.before 1 low high) }
+    requires rising { IsTrue (B.Item.before First low high) }
+    requires rising_reordered { IsTrue (B.Item.before Second low high) }
     ensures { IfOk result (λ part. B.Part.Part.contents part ≡ record {
       items = low ∷ high ∷ [];
       flags = true ∷ true ∷ [];
@@ -25,10 +26,10 @@ pub fn rising_pair<B: Builder, L: Ledger>(
     }) }
 {
     let mut builder = B::room(alloc, 1)?;
-    builder.put(0, low, 0, steps);
-    builder.put(0, high, 1, steps);
-    builder.put(1, low, 0, steps);
-    builder.put(1, high, 1, steps);
+    builder.put(Order::First, low, 0, steps);
+    builder.put(Order::First, high, 1, steps);
+    builder.put(Order::Second, low, 0, steps);
+    builder.put(Order::Second, high, 1, steps);
     builder.seal();
     let left = builder.left();
     builder.turns(left, steps);
