@@ -330,18 +330,18 @@ module _ {P Item : Type 0} (contents : P → Contents Item) where
     enough-added [] n next h quiet = absurd quiet
     enough-added (lowest ∷ above) n next h quiet = quiet-added lowest above n (omega (arith, next, h.0)) h.2 quiet
 
-    same-added : (levels : List (Slots P Item)) (n : ℕ)
-        → (live_items contents (levels ++ unused n ∷ []) ≡ live_items contents levels)
-        × (all_items contents (levels ++ unused n ∷ []) ≡ all_items contents levels)
-        × (weight_of (levels ++ unused n ∷ []) ≡ weight_of levels) × (parts_of (levels ++ unused n ∷ []) ≡ parts_of levels)
-    same-added [] n = (refl, refl, omega arith, omega arith)
-    same-added (l ∷ above) n =
-        let rest = same-added above n in (
-          ap (λ xs. xs ++ live_in contents l) rest.0,
-          ap (λ xs. xs ++ items_in contents l) rest.1,
-          ap (λ m. weight_in l + m) rest.2,
-          ap (λ m. length l.parts + m) rest.3,
-        )
+  same-added : (levels : List (Slots P Item)) (n : ℕ)
+      → (live_items contents (levels ++ unused n ∷ []) ≡ live_items contents levels)
+      × (all_items contents (levels ++ unused n ∷ []) ≡ all_items contents levels)
+      × (weight_of (levels ++ unused n ∷ []) ≡ weight_of levels) × (parts_of (levels ++ unused n ∷ []) ≡ parts_of levels)
+  same-added [] n = (refl, refl, omega arith, omega arith)
+  same-added (l ∷ above) n =
+      let rest = same-added above n in (
+        ap (λ xs. xs ++ live_in contents l) rest.0,
+        ap (λ xs. xs ++ items_in contents l) rest.1,
+        ap (λ m. weight_in l + m) rest.2,
+        ap (λ m. length l.parts + m) rest.3,
+      )
 
   pub IsKept-added : (levels : List (Slots P Item)) (n : ℕ) → n ≡ length levels → n < 32
       → IsKept contents levels (levels ++ unused n ∷ [])
@@ -352,24 +352,25 @@ module _ {P Item : Type 0} (contents : P → Contents Item) where
         items = same.1;
         weight = same.2;
         parts = same.3;
-        levels = λ kind. all_levels-added kind.stamp kind.before levels n next;
-        punctual = λ kind h. All-push (IsPunctual kind.slope kind.base) levels (unused n) h (λ c is. absurd cc);
+        levels = λ stamp before. all_levels-added stamp before levels n next;
+        punctual = λ slope base h. All-push (IsPunctual slope base) levels (unused n) h (λ c is. absurd cc);
         few = λ few. omega (arith, less, next, length-append levels (unused n ∷ []));
         some = omega (arith, length-append levels (unused n ∷ []));
-        enough = λ kind. enough-added kind.stamp kind.before levels n next;
-        rooms = λ kind. rooms kind levels n;
-        rooms_ahead = λ kind. ahead kind levels n next;
+        enough = λ stamp before. enough-added stamp before levels n next;
+        rooms = λ stamp before. rooms stamp before levels n;
+        rooms_ahead = λ stamp before. ahead stamp before levels n next;
       }
     where
-      rooms : (kind : PartKind Item) (levels : List (Slots P Item)) (n : ℕ) → AreAllLevels contents kind.stamp kind.before levels → 0 < length levels → HaveRoomsAbove IsDue levels
+      rooms : (stamp : Item → ℕ) (before : Order → Item → Item → Bool) (levels : List (Slots P Item)) (n : ℕ)
+          → AreAllLevels contents stamp before levels → 0 < length levels → HaveRoomsAbove IsDue levels
           → HaveRoomsAbove IsDue (levels ++ unused n ∷ [])
-      rooms kind [] n h some r = absurd (omega (arith, some))
-      rooms kind (lowest ∷ above) n h some r = rooms-added kind.stamp kind.before lowest above n r
+      rooms stamp before [] n h some r = absurd (omega (arith, some))
+      rooms stamp before (lowest ∷ above) n h some r = rooms-added stamp before lowest above n r
 
-      ahead : (kind : PartKind Item) (levels : List (Slots P Item)) (n : ℕ) → n ≡ length levels → AreAllLevels contents kind.stamp kind.before levels → 0 < length levels
-          → HaveRoomsAbove IsDueSoon levels → HaveRoomsAbove IsDueSoon (levels ++ unused n ∷ [])
-      ahead kind [] n next h some r = absurd (omega (arith, some))
-      ahead kind (lowest ∷ above) n next h some r = rooms_ahead-added kind.stamp kind.before lowest above n (omega (arith, next, h.0)) h.2 r
+      ahead : (stamp : Item → ℕ) (before : Order → Item → Item → Bool) (levels : List (Slots P Item)) (n : ℕ) → n ≡ length levels
+          → AreAllLevels contents stamp before levels → 0 < length levels → HaveRoomsAbove IsDueSoon levels → HaveRoomsAbove IsDueSoon (levels ++ unused n ∷ [])
+      ahead stamp before [] n next h some r = absurd (omega (arith, some))
+      ahead stamp before (lowest ∷ above) n next h some r = rooms_ahead-added stamp before lowest above n (omega (arith, next, h.0)) h.2 r
 
   punctual-kept : (slope base : ℕ) (old new : List (Slots P Item)) → KeepRoomsAbove old new → All (IsPunctual slope base) old
       → All (IsPunctual slope base) new
@@ -385,13 +386,13 @@ module _ {P Item : Type 0} (contents : P → Contents Item) where
     items = refl;
     weight = refl;
     parts = refl;
-    levels = λ kind h. h;
-    punctual = λ kind h. h;
+    levels = λ stamp before h. h;
+    punctual = λ slope base h. h;
     few = λ h. h;
     some = omega arith;
-    enough = λ kind h quiet. quiet;
-    rooms = λ kind h some r. r;
-    rooms_ahead = λ kind h some r. r;
+    enough = λ stamp before h quiet. quiet;
+    rooms = λ stamp before h some r. r;
+    rooms_ahead = λ stamp before h some r. r;
   }
 
   pub IsKept-then : {a b c : List (Slots P Item)} → IsKept contents a b → IsKept contents b c
@@ -401,13 +402,13 @@ module _ {P Item : Type 0} (contents : P → Contents Item) where
     items = k.items ∙ h.items;
     weight = k.weight ∙ h.weight;
     parts = k.parts ∙ h.parts;
-    levels = λ kind l. k.levels kind (h.levels kind l);
-    punctual = λ kind l. k.punctual kind (h.punctual kind l);
+    levels = λ stamp before l. k.levels stamp before (h.levels stamp before l);
+    punctual = λ slope base l. k.punctual slope base (h.punctual slope base l);
     few = λ l. k.few (h.few l);
     some = omega (arith, h.some, k.some);
-    enough = λ kind l quiet. k.enough kind (h.levels kind l) (h.enough kind l quiet);
-    rooms = λ kind l some r. k.rooms kind (h.levels kind l) (omega (arith, some, h.some)) (h.rooms kind l some r);
-    rooms_ahead = λ kind l some r. k.rooms_ahead kind (h.levels kind l) (omega (arith, some, h.some)) (h.rooms_ahead kind l some r);
+    enough = λ stamp before l quiet. k.enough stamp before (h.levels stamp before l) (h.enough stamp before l quiet);
+    rooms = λ stamp before l some r. k.rooms stamp before (h.levels stamp before l) (omega (arith, some, h.some)) (h.rooms stamp before l some r);
+    rooms_ahead = λ stamp before l some r. k.rooms_ahead stamp before (h.levels stamp before l) (omega (arith, some, h.some)) (h.rooms_ahead stamp before l some r);
   }
 
   pub IsKept-rooms : (old new : List (Slots P Item)) → KeepRoomsAbove old new → IsKept contents old new
@@ -418,13 +419,13 @@ module _ {P Item : Type 0} (contents : P → Contents Item) where
         items = same.1;
         weight = same.2;
         parts = same.3;
-        levels = λ kind. all_levels-kept kind.stamp kind.before old new k;
-        punctual = λ kind. punctual-kept kind.slope kind.base old new k;
+        levels = λ stamp before. all_levels-kept stamp before old new k;
+        punctual = λ slope base. punctual-kept slope base old new k;
         few = λ few. omega (arith, few, same.4);
         some = omega (arith, same.4);
-        enough = λ kind h quiet. enough-kept old new k quiet;
-        rooms = λ kind h some r. rooms_above-kept IsDue due_is_soon due-back old new k r;
-        rooms_ahead = λ kind h some r. rooms_above-kept IsDueSoon (λ l d. d) soon-back old new k r;
+        enough = λ stamp before h quiet. enough-kept old new k quiet;
+        rooms = λ stamp before h some r. rooms_above-kept IsDue due_is_soon due-back old new k r;
+        rooms_ahead = λ stamp before h some r. rooms_above-kept IsDueSoon (λ l d. d) soon-back old new k r;
       }
 
   -- the lowest level alone changed
@@ -441,8 +442,8 @@ module _ {P Item : Type 0} (contents : P → Contents Item) where
         → (1 ≤ spare' → weight_of new < 2 ^ 31 → HaveRoomsAbove IsDue new) → (2 ≤ spare' → weight_of new < 2 ^ 31 → HaveRoomsAbove IsDueSoon new)
         → IsStack contents kind (record { levels = new; spare = spare'; starters = starters' })
     stack_of spare' starters' few enough lowest some rooms ahead = record {
-      levels = k.levels kind h.levels;
-      punctual = k.punctual kind h.punctual;
+      levels = k.levels _ _ h.levels;
+      punctual = k.punctual _ _ h.punctual;
       apart = subst (AllStampsDiffer kind.stamp) (sym k.items) h.apart;
       light = omega (arith, h.light, k.weight);
       small = omega (arith, h.small, k.weight, ap length k.items);
@@ -460,8 +461,8 @@ module _ {P Item : Type 0} (contents : P → Contents Item) where
         → IsStack contents kind (record { levels = new; spare = spare; starters = starters' })
     IsStack-kept starters' more few lowest =
         stack_of spare starters' few (omega (arith, h.spare_few, more)) lowest (λ s. omega (arith, h.some s, k.some))
-        (λ s light. k.rooms kind h.levels (h.some s) (h.rooms s (omega (arith, light, k.weight))))
-        (λ s light. k.rooms_ahead kind h.levels (h.some (omega (arith, s))) (h.rooms_ahead s (omega (arith, light, k.weight))))
+        (λ s light. k.rooms _ _ h.levels (h.some s) (h.rooms s (omega (arith, light, k.weight))))
+        (λ s light. k.rooms_ahead _ _ h.levels (h.some (omega (arith, s))) (h.rooms_ahead s (omega (arith, light, k.weight))))
 
     -- two ticks need no more
     pub IsStack-ready : 0 < length new → lowest_held new + 2 ≤ 5 → (weight_of new < 2 ^ 31 → HaveRoomsAbove IsDueSoon new)

@@ -9,12 +9,13 @@ use Rattle.stack_levels.proofs.Publishing.{higher}
 use Rattle.row_blocks.specs.Heights.{height_of, IsLeastHeight-height_of}
 use Rattle.range_tree.specs.Costs.{count_touches, list_touches, mark_touches-rise}
 use Rattle.map_model.specs.Shape as model
-use Rattle.map_model.specs.Found.{insert_by, sorted_by}
+use Rattle.map_model.specs.Found.{sorted_by}
 use Rattle.map_model.specs.State.{Item}
 use Rattle.map_model.specs.Answer.{ids_with}
 use Rattle.map_shapes.specs.declared.point.Point.{Point}
 use Rattle.map_shapes.specs.declared.rect.Rect.{Rect}
 use Rattle.map_shapes.specs.Ascending.{insert_sorted, sorted_ids}
+use Rattle.map_shapes.specs.AscendingLaws.{sorted_ids-sorted_by}
 use Rattle.map_shapes.specs.Questions.{is_in, count_in, weight_in, ids_in}
 use Rattle.map_shapes.specs.Rect.{rect_of}
 use Rattle.map_layers.specs.Layer.{items_of}
@@ -53,16 +54,8 @@ module _ (rect : Rect) where
   listed [] = refl
   listed (e ∷ es) = grind (arith, common_steps, listed es)
 
-inserted : (x : ℕ) (xs : List ℕ) → insert_sorted x xs ≡ insert_by nat_le x xs
-inserted x [] = refl
-inserted x (y ∷ ys) = grind (arith, common_steps, inserted x ys)
-
-sorted : (xs : List ℕ) → sorted_ids xs ≡ sorted_by nat_le xs
-sorted [] = refl
-sorted (x ∷ xs) = inserted x (sorted_ids xs) ∙ ap (insert_by nat_le x) (sorted xs)
-
 pub ids_in-scan : (rect : Rect) (es : List (Entry Point)) → ids_in rect (points_of es) ≡ ids_with (model.is_inside (rect_of rect)) (items_of es)
-ids_in-scan rect es = sorted (map (λ p. p.id) (filter (is_in rect) (points_of es))) ∙ ap (sorted_by nat_le) (listed rect es)
+ids_in-scan rect es = sorted_ids-sorted_by (map (λ p. p.id) (filter (is_in rect) (points_of es))) ∙ ap (sorted_by nat_le) (listed rect es)
 
 -- ---- what one part is touched, which has at most 2 ^ g points
 

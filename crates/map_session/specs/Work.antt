@@ -57,6 +57,7 @@ IsTold (Asking asked) old new = (new.turns ≡ old.turns) × (new.marks ≡ old.
 pub record IsCounted (work : Work) (cost : Cost) (old new : Counts) : Type 0 where
   pub turns_kept : old.turns ≤ new.turns
   pub marks_kept : old.marks ≤ new.marks
+  pub touches_kept : old.touches ≤ new.touches
   pub few_turns : new.turns ≤ old.turns + work.turns
   pub few_marks : new.marks ≤ old.marks + work.marks
   pub told : IsTold cost old new

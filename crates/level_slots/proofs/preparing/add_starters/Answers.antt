@@ -3,7 +3,7 @@ use Rattle.level_slots.proofs.Forecasting.{IsKept-then}
 use Rattle.level_slots.proofs.preparing.add_starters.Goals as goal
 
 pub add_starter-requires-clause-levels : goal.add_starter-requires-clause-levels
-add_starter-requires-clause-levels g c = c.loop-alloc.invariant.kept.levels c.requires.levels
+add_starter-requires-clause-levels g c = c.loop-alloc.invariant.kept.levels _ _ c.requires.levels
 
 pub loop-alloc-preserved : goal.loop-alloc-preserved
 loop-alloc-preserved g c =

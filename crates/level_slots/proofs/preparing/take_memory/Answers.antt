@@ -6,7 +6,7 @@ use Rattle.level_slots.proofs.preparing.take_memory.Given.{Over}
 use Rattle.level_slots.proofs.preparing.take_memory.Goals as goal
 
 pub fill_levels-requires-clause-levels : goal.fill_levels-requires-clause-levels
-fill_levels-requires-clause-levels g c = rw c.deref_mut.ensures.value (c.add_levels.ensures.kept.levels c.requires.levels)
+fill_levels-requires-clause-levels g c = rw c.deref_mut.ensures.value (c.add_levels.ensures.kept.levels _ _ c.requires.levels)
 
 pub fill_levels-requires-clause-lowest : goal.fill_levels-requires-clause-lowest
 fill_levels-requires-clause-lowest g c = omega (arith, c.requires.lowest, c.add_levels.ensures.lowest, ap lowest_held c.deref_mut.ensures.value)
@@ -30,8 +30,8 @@ returns-clause-some g c =
 pub returns-clause-ready : goal.returns-clause-ready
 returns-clause-ready g c =
     let kept = rw c.deref_mut.ensures.value at c.fill_levels.ensures.kept in
-    rw (whole g c) (when_ok c.fill_levels.result (λ f light. f (c.fill_levels.ensures.kept.enough
-    (rw c.deref_mut.ensures.value (c.add_levels.ensures.kept.levels c.requires.levels))
+    rw (whole g c) (when_ok c.fill_levels.result (λ f light. f (c.fill_levels.ensures.kept.enough g.B.Item.Item.stamp g.B.Item.Item.before
+    (rw c.deref_mut.ensures.value (c.add_levels.ensures.kept.levels _ _ c.requires.levels))
     (rw c.deref_mut.ensures.value (c.in_ok-add_levels.ensures.enough (omega (arith, light, kept.weight)))))) c.fill_levels.ensures.ready)
 
 pub returns-clause-few_rooms : goal.returns-clause-few_rooms
