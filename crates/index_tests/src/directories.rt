@@ -13,17 +13,17 @@ fn put(directory: &mut Directory<Point>, id: u64, rt: &impl Abort) -> Result<Han
     requires { directory.old.pending ≡ None }
     ensures { OnOk result (directory.new.pending ≡ None) }
 {
-    assert!(rt; directory.find(id).is_none());
     let stamp = directory.adds();
-    assert!(rt; stamp < 1_000_000);
+    assert!(rt; directory.find(id).is_none() && stamp < 1 << 40);
     directory.prepare_add(id)?;
-    Ok(directory.add(Point {
+    let point = Point {
         id,
         x: 0,
         y: 0,
         w: 0,
         stamp,
-    }))
+    };
+    Ok(directory.add(point))
 }
 
 #[test]

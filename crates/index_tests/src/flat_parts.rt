@@ -2,9 +2,10 @@
 ghost use Rattle.std.specs.Prelude.{◌≡◌, ◌≢◌, [], ◌∷◌, IsTrue, IfOk};
 
 use crate::item::Pair;
+use crate::pairs::{put_first, sealed};
 use crate::sums::SumOfX;
 use builder_trait::flat::{FlatBuilder, FlatPart};
-use builder_trait::{Asking, Builder, Given, Part, part_of_one};
+use builder_trait::{Asking, Builder, Part, part_of_one};
 use query_laws::step_ledger::{SHARES, Steps, blank};
 use query_laws::{Item, NoMemory};
 use std::alloc::Global;
@@ -23,15 +24,10 @@ fn pair<B: Builder, L: Ledger>(
     requires falling { IsTrue (B.Item.before 1 second first) }
     ensures { IfOk result (λ made. (B.Part.Part.contents made.1).items ≡ first ∷ second ∷ []) }
 {
-    let mut builder = B::room(alloc, 1)?;
-    builder.put(0, first, 0, steps);
-    builder.put(0, second, 1, steps);
+    let mut builder = put_first::<B, L>(alloc, first, second, steps)?;
     builder.put(1, second, 1, steps);
     builder.put(1, first, 0, steps);
-    builder.seal();
-    let left = builder.left();
-    builder.turns(left, steps);
-    Ok((left, builder.finish()))
+    Ok(sealed(builder, steps))
 }
 
 /// The item at a place of order 0, if there is one: its stamp, its index in order 1 by the place there, and whether it is live.
@@ -110,21 +106,37 @@ fn marks_one_of_two(rt: HostRuntime) -> Result<(), Fail> {
     Ok(())
 }
 
-/// The sum of `x` over three parts.
+/// A part of one item, which dies or not.
+fn single<B: Builder, L: Ledger>(
+    alloc: Global,
+    item: B::Item,
+    dies: bool,
+    steps: &mut Steps<L>,
+) -> Result<B::Part, NoMemory> {
+    let mut part: B::Part = part_of_one(B::room(alloc, 0)?, item, steps);
+    if dies {
+        part.mark(&item, steps);
+    }
+    Ok(part)
+}
+
+/// The sum of `x` over three parts, the parts consulted, and their live items.
 fn sum_of_three<L: Ledger>(
     alloc: Global,
-    parts: &[FlatPart<Pair>; 3],
+    parts: [&FlatPart<Pair>; 3],
     steps: &mut Steps<L>,
-) -> Result<Given<FlatPart<Pair>, SumOfX>, NoMemory> {
+) -> Result<(u64, u32, u128), NoMemory> {
     let mut asking = Asking::new(alloc, &SumOfX);
-    asking.part(&parts[0], steps)?;
-    asking.part(&parts[1], steps)?;
-    asking.part(&parts[2], steps)?;
-    asking.finish()
+    asking.part(parts[0], steps)?;
+    asking.part(parts[1], steps)?;
+    asking.part(parts[2], steps)?;
+    let given = asking.finish()?;
+    let (consulted, live) = (given.consulted(), given.live());
+    Ok((given.into_answer(), consulted, live))
 }
 
 /// Three parts of one point each, of which the second is marked: the sum of `x`, the parts consulted, their live items, and the turns.
-fn sum_seen<L: Ledger>(alloc: Global, blank: Blank) -> Result<(u64, u32, u128, u64), NoMemory>
+fn sum_seen<L: Ledger>(alloc: Global, blank: Blank) -> Result<((u64, u32, u128), u64), NoMemory>
     requires name { blank.name ≡ L.name }
     requires parts { blank.parts ≡ L.parts }
     requires shares { blank.parts ≡ SHARES }
@@ -145,21 +157,16 @@ fn sum_seen<L: Ledger>(alloc: Global, blank: Blank) -> Result<(u64, u32, u128, u
         y: 3,
         stamp: 2,
     };
-    let mut marked: FlatPart<Pair> = part_of_one(FlatBuilder::room(alloc, 0)?, other, &mut steps);
-    marked.mark(&other, &mut steps);
-    let parts = [
-        part_of_one(FlatBuilder::room(alloc, 0)?, one, &mut steps),
-        marked,
-        part_of_one(FlatBuilder::room(alloc, 0)?, third, &mut steps),
-    ];
-    let given = sum_of_three(alloc, &parts, &mut steps)?;
-    let (consulted, live) = (given.consulted(), given.live());
-    Ok((given.into_answer(), consulted, live, steps.lap_turns()))
+    let one = single::<FlatBuilder<Pair>, L>(alloc, one, false, &mut steps)?;
+    let other = single::<FlatBuilder<Pair>, L>(alloc, other, true, &mut steps)?;
+    let third = single::<FlatBuilder<Pair>, L>(alloc, third, false, &mut steps)?;
+    let sum = sum_of_three(alloc, [&one, &other, &third], &mut steps)?;
+    Ok((sum, steps.lap_turns()))
 }
 
 #[test]
 fn sums_over_parts(rt: HostRuntime) -> Result<(), Fail> {
     let seen = sum_seen::<Brand>(rt.alloc(), blank())?;
-    assert_eq!(rt; seen, (57, 3, 2, 9));
+    assert_eq!(rt; seen, ((57, 3, 2), 9));
     Ok(())
 }
