@@ -1,5 +1,5 @@
 -- What the flat kind keeps over a put and over the last turn.
-use Rattle.std.proofs.Common.{◌≡◌, ℕ, ◌<◌, ◌≤◌, ◌^◌, Bool, true, false, IsTrue, List, [], ◌∷◌, ◌++◌, length, map, replicate, get_or, refl, sym, ap, ◌∙◌, arith, subst, Some, slice_get, slice_index, pow_mono, ⊎_elim, ◌≢◌, ◌==◌, cond}
+use Rattle.std.proofs.Common.{◌≡◌, ℕ, ◌<◌, ◌≤◌, ◌^◌, Bool, true, false, IsTrue, List, [], ◌∷◌, ◌++◌, length, map, replicate, get_or, refl, sym, ap, ◌∙◌, arith, subst, Some, slice_get, slice_index, pow_mono, ⊎_elim}
 use Rattle.std.specs.List.{items_where_true}
 use Rattle.std.specs.Option.{option_to_list}
 use Rattle.std.proofs.lemmas.List.Concat.{flat_map-append}
@@ -8,8 +8,9 @@ use Rattle.std.proofs.lemmas.List.{map_push, length_push, nil_from_length}
 use Rattle.std.proofs.lemmas.List.Quantifiers.{all_pairs_push}
 use Rattle.query_laws.specs.Orders.{IsStrictTotalOrder}
 use Rattle.query_laws.specs.StepLedger.{Entries}
-use Rattle.std.proofs.lemmas.Bool.Decides.{nat_tests}
-use Rattle.builder_trait.specs.Parts.{Contents, IsPart, IsRising, in_order, place_of}
+use Rattle.query_laws.specs.declared.item.Order.{Order}
+use Rattle.query_laws.specs.declared.item.Order.TheVariants.{First, Second}
+use Rattle.builder_trait.specs.Parts.{Contents, IsPart, IsRising}
 use Rattle.builder_trait.specs.Builders.{Progress, FitsFirst, FitsSecond}
 use Rattle.builder_trait.specs.Flat.{items_at, IsFlatBuilding, IsFlagging}
 use Rattle.builder_trait.proofs.RebuildingLemmas.{length-reordered, placed-at}
@@ -22,9 +23,9 @@ module _ {Item : Type 0} (items : List Item) (places : List ℕ) where
       flat_map-append (λ (p : ℕ). option_to_list (slice_get items p)) places (at ∷ [])
       ∙ ap (λ o. items_at items places ++ (option_to_list o ++ [])) there
 
-module _ {Item : Type 0} {stamp : Item → ℕ} {before : ℕ → Item → Item → Bool} (order : IsStrictTotalOrder stamp (before 1))
+module _ {Item : Type 0} {stamp : Item → ℕ} {before : Order → Item → Item → Bool} (order : IsStrictTotalOrder stamp (before Second))
     {items : Entries Item} {places : Entries ℕ} {flags : Entries Bool} {n : ℕ} (kept : IsFlatBuilding before items places flags n)
-    {b : Progress Item} {item : Item} {at : ℕ} (fits : FitsSecond (before 1) b item at)
+    {b : Progress Item} {item : Item} {at : ℕ} (fits : FitsSecond (before Second) b item at)
     (same_items : b.items ≡ items.items) (same_reordered : b.reordered ≡ items_at items.items places.items) where
   there : slice_get items.items at ≡ Some item
   there = subst (λ l. slice_get l at ≡ Some item) same_items fits.at_place
@@ -36,7 +37,7 @@ module _ {Item : Type 0} {stamp : Item → ℕ} {before : ℕ → Item → Item 
       let bound : 2 ^ n ≤ 2 ^ 31 = pow_mono low in
       omega (arith, slice_get_within items.items at item there, kept.few, bound)
 
-  -- the item at it is put in order 1
+  -- the item at it is put in the second order
   reordered-put : items_at items.items (places.items ++ at ∷ []) ≡ items_at items.items places.items ++ item ∷ []
   reordered-put = items_at-push items.items places.items at item there
 
@@ -48,13 +49,13 @@ module _ {Item : Type 0} {stamp : Item → ℕ} {before : ℕ → Item → Item 
       ∙ sym (map_push Some (items_at items.items places.items) item)
       ∙ ap (map Some) (sym reordered-put)
 
-  rising-put : IsRising (before 1) (items_at items.items (places.items ++ at ∷ []))
+  rising-put : IsRising (before Second) (items_at items.items (places.items ++ at ∷ []))
   rising-put =
-      subst (IsRising (before 1)) (sym reordered-put)
-      (all_pairs_push (λ x y. IsTrue (before 1 x y)) (items_at items.items places.items) item kept.rising_reordered
-      (subst (λ l. (k : ℕ) (d : Item) → k < length l → IsTrue (before 1 (get_or l k d) item)) same_reordered fits.after))
+      subst (IsRising (before Second)) (sym reordered-put)
+      (all_pairs_push (λ x y. IsTrue (before Second x y)) (items_at items.items places.items) item kept.rising_reordered
+      (subst (λ l. (k : ℕ) (d : Item) → k < length l → IsTrue (before Second (get_or l k d) item)) same_reordered fits.after))
 
-  -- there is room for one more in order 1
+  -- there is room for one more in the second order
   pub room-put : length places.items < 2 ^ n
   room-put =
       let more = places.items ++ at ∷ [] in
@@ -83,11 +84,11 @@ module _ {Item : Type 0} {stamp : Item → ℕ} {before : ℕ → Item → Item 
         placed = placed-put;
       })
 
-module _ {Item : Type 0} {before : ℕ → Item → Item → Bool} {items : Entries Item} {places : Entries ℕ} {flags : Entries Bool} {n : ℕ}
+module _ {Item : Type 0} {before : Order → Item → Item → Bool} {items : Entries Item} {places : Entries ℕ} {flags : Entries Bool} {n : ℕ}
     (kept : IsFlatBuilding before items places flags n)
-    {b : Progress Item} {item : Item} {at : ℕ} (fits : FitsFirst (before 0) b item at)
+    {b : Progress Item} {item : Item} {at : ℕ} (fits : FitsFirst (before First) b item at)
     (same_items : b.items ≡ items.items) (same_reordered : b.reordered ≡ items_at items.items places.items) (same_level : b.at_level ≡ n) where
-  -- an item is put in order 0 before any in order 1
+  -- an item is put in the first order before any in the second order
   no_places : places.items ≡ []
   no_places =
       nil_from_length places.items
@@ -104,9 +105,9 @@ module _ {Item : Type 0} {before : ℕ → Item → Item → Bool} {items : Entr
           room_flags = kept.wide.room_flags;
         };
         few = omega (arith, fits.room, ap length same_items, ap (λ i. 2 ^ i) same_level, length_push items.items item);
-        rising = all_pairs_push (λ x y. IsTrue (before 0 x y)) items.items item kept.rising
-            (subst (λ l. (k : ℕ) (d : Item) → k < length l → IsTrue (before 0 (get_or l k d) item)) same_items fits.after);
-        rising_reordered = subst (λ (ps : List ℕ). IsRising (before 1) (items_at (items.items ++ item ∷ []) ps)) (sym no_places)
+        rising = all_pairs_push (λ x y. IsTrue (before First x y)) items.items item kept.rising
+            (subst (λ l. (k : ℕ) (d : Item) → k < length l → IsTrue (before First (get_or l k d) item)) same_items fits.after);
+        rising_reordered = subst (λ (ps : List ℕ). IsRising (before Second) (items_at (items.items ++ item ∷ []) ps)) (sym no_places)
             (λ i j d below within. absurd (omega arith));
         placed = subst (λ (ps : List ℕ). map (slice_get (items.items ++ item ∷ [])) ps ≡ map Some (items_at (items.items ++ item ∷ []) ps)) (sym no_places) refl;
       })
@@ -137,27 +138,16 @@ module _ {Item : Type 0} where
   items-ended {items} flagging closed ended =
       ap (λ l. items_where_true l items) (flags-ended flagging closed ended) ∙ items-all_true items
 
-  pub IsPart-ended : {stamp : Item → ℕ} {before : ℕ → Item → Item → Bool} {items : Entries Item} {places : Entries ℕ} {flags : Entries Bool}
-      {n : ℕ} {is_sealed : Bool} {left : ℕ} → IsStrictTotalOrder stamp (before 1) → IsFlatBuilding before items places flags n
+  pub IsPart-ended : {stamp : Item → ℕ} {before : Order → Item → Item → Bool} {items : Entries Item} {places : Entries ℕ} {flags : Entries Bool}
+      {n : ℕ} {is_sealed : Bool} {left : ℕ} → IsStrictTotalOrder stamp (before Second) → IsFlatBuilding before items places flags n
       → IsFlagging items.items (items_at items.items places.items) flags.items is_sealed left → is_sealed ≡ true → left ≡ 0
       → IsPart before (record { items = items.items; flags = flags.items; reordered = items_at items.items places.items; places = places.items; at_level = n })
   IsPart-ended order kept flagging closed ended =
       IsPart-from_rising _ order kept.rising kept.rising_reordered kept.placed (flagging.complete closed)
       (omega (arith, flagging.to_go closed))
 
-  -- in order 1 the place is the one that was put
-  pub place_of_second : (order : ℕ) (part : Contents Item) (k : ℕ) → order ≢ 0 → place_of order part k ≡ slice_index part.places k
-  place_of_second order part k other =
-      let test : (order == 0) ≡ false = grind (arith, nat_tests) in
-      ap (λ b. cond b k (slice_index part.places k)) test
-
-  pub in_order_second : (order : ℕ) (part : Contents Item) → order ≢ 0 → in_order order part ≡ part.reordered
-  in_order_second order part other =
-      let test : (order == 0) ≡ false = grind (arith, nat_tests) in
-      ap (λ b. cond b part.items part.reordered) test
-
-  -- the item at a place is that of its index in order 1
-  pub item_at_place : {before : ℕ → Item → Item → Bool} {part : Contents Item} → IsPart before part → (k : ℕ) (x : Item) → k < length part.items
+  -- the item at a place is that of its index in the second order
+  pub item_at_place : {before : Order → Item → Item → Bool} {part : Contents Item} → IsPart before part → (k : ℕ) (x : Item) → k < length part.items
       → slice_get part.items (slice_index part.places k) ≡ Some x → slice_get part.reordered k ≡ Some x
   item_at_place {part = part} valid k x below there =
       ⊎_elim

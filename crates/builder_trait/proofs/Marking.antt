@@ -6,7 +6,9 @@ use Rattle.std.proofs.lemmas.Bool.Decides.{nat_tests}
 use Rattle.std.proofs.lemmas.Option.{slice_get_within, get_or_from_slice_get, same_Some}
 use Rattle.std.proofs.lemmas.List.Elements.{All-head, All-tail}
 use Rattle.query_laws.specs.Orders.{IsStrictTotalOrder}
-use Rattle.builder_trait.specs.Parts.{Contents, IsPart, IsRising, OwnsStamp, has_stamp, without, marked}
+use Rattle.query_laws.specs.declared.item.Order.{Order}
+use Rattle.query_laws.specs.declared.item.Order.TheVariants.{First}
+use Rattle.builder_trait.specs.Parts.{Contents, IsPart, IsRising, OwnsStamp, has_stamp, without, marked, live_of}
 
 -- a test of two numbers that are, or aren't, the same
 test_same : (a b : ℕ) → a ≡ b → (a == b) ≡ true
@@ -166,13 +168,13 @@ module _ {Item : Type 0} (stamp : Item → ℕ) (item : Item) {part now : Conten
     pub marked-to : record part { flags = flags } ≡ marked stamp (stamp item) now
     marked-to = ap (λ l. record part { flags = l }) (sym falls) ∙ ap (marked stamp (stamp item)) view
 
-    pub live-to : items_where_true flags part.items ≡ without stamp (stamp item) (items_where_true now.flags now.items)
+    pub live-to : items_where_true flags part.items ≡ without stamp (stamp item) (live_of now)
     live-to =
         ap (λ l. items_where_true l part.items) (sym falls) ∙ items-fallen stamp (stamp item) part.items part.flags
-        ∙ ap (λ p. without stamp (stamp item) (items_where_true p.flags p.items)) view
+        ∙ ap (λ p. without stamp (stamp item) (live_of p)) view
 
   -- the mark of an item that has a place: its flag falls, and it is found where that flag stood
-  module _ {before : ℕ → Item → Item → Bool} (order : IsStrictTotalOrder stamp (before 0)) (valid : IsPart before part)
+  module _ {before : Order → Item → Item → Bool} (order : IsStrictTotalOrder stamp (before First)) (valid : IsPart before part)
       (owns : OwnsStamp stamp item now.items) (k : ℕ) (here : slice_get part.items k ≡ Some item) where
     only_here : StandsOnlyAt stamp (stamp item) part.items k
     only_here =
@@ -181,7 +183,7 @@ module _ {Item : Type 0} (stamp : Item → ℕ) (item : Item) {part now : Conten
     pub fallen_here : fallen stamp (stamp item) part.items part.flags ≡ set part.flags k false
     fallen_here = fallen_at stamp (stamp item) part.items part.flags k valid.flagged only_here
 
-    pub found_here : (flag : Bool) → slice_get part.flags k ≡ Some flag → flag ≡ has_stamp stamp (stamp item) (items_where_true now.flags now.items)
+    pub found_here : (flag : Bool) → slice_get part.flags k ≡ Some flag → flag ≡ has_stamp stamp (stamp item) (live_of now)
     found_here flag at =
         sym (has_stamp_at stamp (stamp item) part.items part.flags k flag at only_here)
-        ∙ ap (λ p. has_stamp stamp (stamp item) (items_where_true p.flags p.items)) view
+        ∙ ap (λ p. has_stamp stamp (stamp item) (live_of p)) view

@@ -12,6 +12,8 @@ use Rattle.std.proofs.lemmas.List.FromFn.{length-range_with_len, map-range_with_
 use Rattle.query_laws.specs.Orders.{IsStrictTotalOrder}
 use Rattle.query_laws.specs.Permuted.{Permuted, nothing, same_head, composed}
 use Rattle.query_laws.proofs.Permutations.{Permuted-map, Permuted-length, Permuted-partition, Permuted-sym, Permuted-append_comm}
+use Rattle.query_laws.specs.declared.item.Order.{Order}
+use Rattle.query_laws.specs.declared.item.Order.TheVariants.{First, Second}
 use Rattle.builder_trait.specs.Parts.{Contents, IsPart, IsRising}
 
 -- no two are equal
@@ -108,7 +110,7 @@ module _ {Item : Type 0} (items reordered : List Item) (places : List ℕ) (plac
   pub length-placed : length places ≡ length reordered
   length-placed = sym (length-map places (slice_get items)) ∙ ap length placed ∙ length-map reordered Some
 
-  -- the item at an index of order 1 stands at its place in order 0
+  -- the item at an index of the second order stands at its place in the first order
   pub slice_get-placed : (k : ℕ) (x : Item) → slice_get reordered k ≡ Some x → slice_get items (slice_index places k) ≡ Some x
   slice_get-placed k x at =
       let within : k < length places = omega (arith, slice_get_within reordered k x at, length-placed) in
@@ -186,8 +188,8 @@ module _ {Item : Type 0} where
       (subst (λ l. Permuted (map (λ o. unwrap_or o x) (map Some (x ∷ xs))) l) (unwrapped x ys) (Permuted-map (λ o. unwrap_or o x) p))
 
   -- what a builder of any kind has kept makes a part
-  pub IsPart-from_rising : {stamp : Item → ℕ} {before : ℕ → Item → Item → Bool} (part : Contents Item)
-      → IsStrictTotalOrder stamp (before 1) → IsRising (before 0) part.items → IsRising (before 1) part.reordered
+  pub IsPart-from_rising : {stamp : Item → ℕ} {before : Order → Item → Item → Bool} (part : Contents Item)
+      → IsStrictTotalOrder stamp (before Second) → IsRising (before First) part.items → IsRising (before Second) part.reordered
       → map (slice_get part.items) part.places ≡ map Some part.reordered → length part.reordered ≡ length part.items
       → length part.flags ≡ length part.items → IsPart before part
   IsPart-from_rising part order rising rising_reordered placed as_many flagged =

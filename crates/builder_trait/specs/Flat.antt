@@ -1,9 +1,11 @@
 -- What the flat kind keeps.
-use Rattle.std.specs.List.{flat_map, items_where_true}
+use Rattle.std.specs.List.{flat_map}
 use Rattle.std.specs.Option.{option_to_list}
 use Rattle.std.specs.Prelude.{◌≡◌, ℕ, ◌+◌, ◌<◌, ◌≤◌, ◌^◌, Bool, true, false, List, length, map, replicate, Some, slice_get}
 use Rattle.query_laws.specs.StepLedger.{Entries}
-use Rattle.builder_trait.specs.Parts.{IsRising, IsPart}
+use Rattle.query_laws.specs.declared.item.Order.{Order}
+use Rattle.query_laws.specs.declared.item.Order.TheVariants.{First, Second}
+use Rattle.builder_trait.specs.Parts.{Contents, IsRising, IsPart, live_of}
 
 module _ {Item : Type 0} where
   -- the items at some places
@@ -17,13 +19,13 @@ module _ {Item : Type 0} where
     pub room_places : 2 ^ at_level ≤ places.capacity
     pub room_flags : 2 ^ at_level ≤ flags.capacity
 
-  -- the rows of a builder: both orders rise, each place of order 1 is that of an item, and there is room for all
-  pub record IsFlatBuilding (before : ℕ → Item → Item → Bool) (items : Entries Item) (places : Entries ℕ) (flags : Entries Bool)
+  -- the rows of a builder: both orders rise, each place of the second order is that of an item, and there is room for all
+  pub record IsFlatBuilding (before : Order → Item → Item → Bool) (items : Entries Item) (places : Entries ℕ) (flags : Entries Bool)
       (at_level : ℕ) : Type 0 where
     pub wide : HasRoom items places flags at_level
     pub few : length items.items ≤ 2 ^ at_level
-    pub rising : IsRising (before 0) items.items
-    pub rising_reordered : IsRising (before 1) (items_at items.items places.items)
+    pub rising : IsRising (before First) items.items
+    pub rising_reordered : IsRising (before Second) (items_at items.items places.items)
     pub placed : map (slice_get items.items) places.items ≡ map Some (items_at items.items places.items)
 
   -- the flags that are written: none before the seal, and then one a turn, each true
@@ -33,15 +35,19 @@ module _ {Item : Type 0} where
     pub to_go : is_sealed ≡ true → length flags + left ≡ length items
     pub complete : is_sealed ≡ true → length reordered ≡ length items
 
+  -- what rows hold of a part
+  abbrev pub contents_of : List Item → List Bool → List ℕ → ℕ → Contents Item
+  contents_of items flags places at_level = record {
+    items = items;
+    flags = flags;
+    reordered = items_at items places;
+    places = places;
+    at_level = at_level;
+  }
+
   -- the rows of a part, which its next builder takes over
-  pub record IsFlatPart (before : ℕ → Item → Item → Bool) (items : Entries Item) (places : Entries ℕ) (flags : Entries Bool)
+  pub record IsFlatPart (before : Order → Item → Item → Bool) (items : Entries Item) (places : Entries ℕ) (flags : Entries Bool)
       (at_level live : ℕ) : Type 0 where
     pub wide : HasRoom items places flags at_level
-    pub valid : IsPart before (record {
-      items = items.items;
-      flags = flags.items;
-      reordered = items_at items.items places.items;
-      places = places.items;
-      at_level = at_level;
-    })
-    pub live_counted : live ≡ length (items_where_true flags.items items.items)
+    pub valid : IsPart before (contents_of items.items flags.items places.items at_level)
+    pub live_counted : live ≡ length (live_of (contents_of items.items flags.items places.items at_level))

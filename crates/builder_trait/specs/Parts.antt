@@ -1,10 +1,12 @@
 -- What contracts see of a part: a static structure whose items are only ever marked as dead (weak deletion, Overmars 1983).
-use Rattle.std.specs.Prelude.{◌≡◌, ℕ, ◌==◌, Bool, not, ◌&&◌, if◌then◌else◌, IsTrue, List, length, map, filter, zip, AllPairs, All, Some, slice_get, slice_index}
-use Rattle.std.specs.List.{range_with_len, list_any}
+use Rattle.std.specs.Prelude.{◌≡◌, ℕ, ◌==◌, Bool, not, ◌&&◌, IsTrue, List, length, map, filter, zip, AllPairs, All, Some, slice_get, slice_index}
+use Rattle.std.specs.List.{range_with_len, list_any, items_where_true}
 use Rattle.query_laws.specs.Permuted.{Permuted}
+use Rattle.query_laws.specs.declared.item.Order.{Order}
+use Rattle.query_laws.specs.declared.item.Order.TheVariants.{First, Second}
 
--- the items in order 0 with a flag for each, true while it is live; the same items in order 1, with the place that each has in
--- order 0; and the level, by which there was room for `2 ^ at_level` items
+-- the items in the first order with a flag for each, true while it is live; the same items in the second order, with the place that each has in
+-- the first order; and the level, by which there was room for `2 ^ at_level` items
 pub record Contents (Item : Type 0) : Type 0 where
   pub items : List Item
   pub flags : List Bool
@@ -18,21 +20,27 @@ module _ {Item : Type 0} where
   IsRising before xs = AllPairs (λ x y. IsTrue (before x y)) xs
 
   -- what is true of every part: both orders rise, and hold the same items, each place once
-  pub record IsPart (before : ℕ → Item → Item → Bool) (part : Contents Item) : Type 0 where
-    pub rising : IsRising (before 0) part.items
-    pub rising_reordered : IsRising (before 1) part.reordered
+  pub record IsPart (before : Order → Item → Item → Bool) (part : Contents Item) : Type 0 where
+    pub rising : IsRising (before First) part.items
+    pub rising_reordered : IsRising (before Second) part.reordered
     pub flagged : length part.flags ≡ length part.items
     pub placed : map (slice_get part.items) part.places ≡ map Some part.reordered
     pub each_place : Permuted part.places (range_with_len 0 (length part.items))
     pub same_items : Permuted part.reordered part.items
 
-  -- the items of an order
-  abbrev pub in_order : ℕ → Contents Item → List Item
-  in_order order part = if order == 0 then part.items else part.reordered
+  -- the live items, in the first order
+  abbrev pub live_of : Contents Item → List Item
+  live_of part = items_where_true part.flags part.items
 
-  -- the place in order 0 of the item at an index of an order
-  abbrev pub place_of : ℕ → Contents Item → ℕ → ℕ
-  place_of order part k = if order == 0 then k else slice_index part.places k
+  -- the items of an order
+  abbrev pub in_order : Order → Contents Item → List Item
+  in_order First part = part.items
+  in_order Second part = part.reordered
+
+  -- the place in the first order of the item at an index of an order
+  abbrev pub place_of : Order → Contents Item → ℕ → ℕ
+  place_of First part k = k
+  place_of Second part k = slice_index part.places k
 
   module _ (stamp : Item → ℕ) (dead : ℕ) where
     -- whether an item with a stamp is among the items

@@ -1,6 +1,7 @@
 //! A question put to several parts, and its sealed answer.
 ghost use Rattle.std.specs.Prelude.{◌≡◌, ◌+◌, ◌<◌, ◌^◌, false, true, length, IsTrue, IfOk, IsErr, OnErr};
 ghost use Rattle.query_laws.specs.StepLedger.{Spends};
+ghost use Rattle.builder_trait.specs.Parts.{live_of};
 
 use crate::part::{Answers, Part};
 use query_laws::step_ledger::Steps;
@@ -71,9 +72,9 @@ impl<P: Answers<Q>, Q: Question<Item = P::Item>> Asking<P, Q> {
         requires going { self.old.is_given_up ≡ false }
         requires room { self.old.parts + 1 < 2 ^ 32 }
         ensures joined { IfOk result (λ _. self.new ≡ record self.old {
-          so_far = Q.join self.old.question self.old.so_far (Q.value self.old.question (P.Part.live_items part.now));
+          so_far = Q.join self.old.question self.old.so_far (Q.value self.old.question (live_of (P.Part.contents part.now)));
           parts = self.old.parts + 1;
-          live = self.old.live + length (P.Part.live_items part.now);
+          live = self.old.live + length (live_of (P.Part.contents part.now));
         }) }
         ensures given_up { OnErr result (self.new ≡ record self.old { so_far = self.new.so_far; is_given_up = true }) }
         ensures refused { IsErr result → IsTrue self.old.refusable }

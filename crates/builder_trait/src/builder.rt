@@ -1,15 +1,17 @@
 //! Builders, which make a part turn by turn.
 ghost use Rattle.std.specs.Prelude.{◌≡◌, ◌<◌, ◌≤◌, ◌-◌, ◌*◌, ◌%◌, ℕ, false, true, IfOk, length};
 ghost use Rattle.query_laws.specs.StepLedger.{Spends};
+ghost use Rattle.query_laws.specs.declared.item.Order.TheVariants.{First, Second};
+ghost use Rattle.builder_trait.specs.Parts.{live_of};
 ghost use Rattle.builder_trait.specs.Builders.{Progress, begun, FitsFirst, FitsSecond, with_put, sealed_with, all_live, IsQuota};
 
 use crate::part::Part;
 use query_laws::step_ledger::Steps;
-use query_laws::{Item, NoMemory};
+use query_laws::{Item, NoMemory, Order};
 use std::alloc::Global;
 use std::sync::ledger::Ledger;
 
-/// A part under construction: first the items are put, in order 0 and then in order 1, then the builder is sealed, and then
+/// A part under construction: first the items are put, in the first order and then in the second order, then the builder is sealed, and then
 /// each turn does one unit of the work that is left (Overmars and van Leeuwen 1981).
 ///
 /// Only `room` takes memory. Once a part is of no use, `recycle` makes a builder of its memory.
@@ -36,12 +38,11 @@ pub trait Builder: Drop + Sized {
         requires { level < 32 }
         ensures { IfOk result (λ builder. progress builder ≡ begun level) };
 
-    /// Puts the next item of an order, with its place in order 0: one turn, and eight touches at most.
-    fn put<L: Ledger>(&mut self, order: usize, item: Self::Item, place: usize, steps: &mut Steps<L>)
-        requires order { order < 2 }
+    /// Puts the next item of an order, with its place in the first order: one turn, and eight touches at most.
+    fn put<L: Ledger>(&mut self, order: Order, item: Self::Item, place: usize, steps: &mut Steps<L>)
         requires open { (progress self.old).is_sealed ≡ false }
-        requires first { order ≡ 0 → FitsFirst (Self.Item.before 0) (progress self.old) item place }
-        requires second { order ≡ 1 → FitsSecond (Self.Item.before 1) (progress self.old) item place }
+        requires first { order ≡ First → FitsFirst (Self.Item.before First) (progress self.old) item place }
+        requires second { order ≡ Second → FitsSecond (Self.Item.before Second) (progress self.old) item place }
         ensures added { progress self.new ≡ with_put order item place (progress self.old) }
         ensures cost { Spends steps.old steps.new 1 0 8 };
 
@@ -80,7 +81,7 @@ pub trait Builder: Drop + Sized {
         requires closed { (progress self).is_sealed ≡ true }
         requires ended { (progress self).left ≡ 0 }
         ensures whole { Self.Part.contents result ≡ all_live (progress self) }
-        ensures live { Self.Part.live_items result ≡ (progress self).items };
+        ensures live { live_of (Self.Part.contents result) ≡ (progress self).items };
 
     /// A builder of the part's level to which nothing was put, on the memory of the part. It takes no memory, frees none, and
     /// counts nothing.

@@ -1,24 +1,24 @@
 //! The flat kind: rows, and a binary search.
 //!
-//! It keeps each item once, in order 0, with a flag, and order 1 as places; and it answers no question. It stands for any other kind where only
+//! It keeps each item once, in the first order, with a flag, and the second order as places; and it answers no question. It stands for any other kind where only
 //! the contract of parts and builders matters.
 ghost use Rattle.std.specs.Prelude.{◌≡◌, ◌+◌, ◌-◌, ◌*◌, ◌<◌, ◌≤◌, ◌^◌, ℕ, IfSome, IsNone, IsTrue, ◌↔◌, All, ◌≢◌, length, Some, slice_get, slice_set, refl, true, false};
-ghost use Rattle.std.specs.List.{items_where_true};
 ghost use Rattle.std.specs.Option.{is_some};
 ghost use Rattle.query_laws.specs.StepLedger.{Spends, one_touch};
-ghost use Rattle.builder_trait.specs.Parts.{IsRising, OwnsStamp, has_stamp, without, marked};
+ghost use Rattle.query_laws.specs.declared.item.Order.TheVariants.{First, Second};
+ghost use Rattle.builder_trait.specs.Parts.{IsRising, OwnsStamp, live_of, has_stamp, without, marked};
 ghost use Rattle.builder_trait.specs.Builders.{IsUnderway, IsQuota, FitsFirst, FitsSecond, with_put, sealed_with};
 
 use crate::builder::Builder;
 use crate::part::Part;
 use crate::search::{EntryTest, partition_point};
 use query_laws::step_ledger::{Row, Steps};
-use query_laws::{Item, NoMemory};
+use query_laws::{Item, NoMemory, Order};
 use std::alloc::Global;
 use std::marker::Model;
 use std::sync::ledger::Ledger;
 
-/// Items in order 0 with a flag for each, and the places of order 1, at which its items are read.
+/// Items in the first order with a flag for each, and the places of the second order, at which its items are read.
 #[derive(Drop)]
 pub struct FlatPart<I: Item> {
     items: Row<I>,
@@ -29,41 +29,33 @@ pub struct FlatPart<I: Item> {
 }
 
 impl<I: Item> Model for FlatPart<I> {
-    ghost use Rattle.std.specs.Prelude.{◌≡◌, length};
-    ghost use Rattle.std.specs.List.{items_where_true};
     ghost use Rattle.builder_trait.specs.Parts.{Contents};
-    ghost use Rattle.builder_trait.specs.Flat.{items_at, IsFlatPart};
+    ghost use Rattle.builder_trait.specs.Flat.{contents_of, IsFlatPart};
 
     ghost Value = { Contents I };
 
-    ghost view = { λ p. record {
-      items = p.items.items;
-      flags = p.flags.items;
-      reordered = items_at p.items.items p.places.items;
-      places = p.places.items;
-      at_level = p.level;
-    } };
+    ghost view = { λ p. contents_of p.items.items p.flags.items p.places.items p.level };
 
     ghost invariant = { λ p. IsFlatPart I.before p.items p.places p.flags p.level p.live };
 }
 
-/// Whether an item stands before another in order 0.
+/// Whether an item stands before another in the first order.
 #[derive(Drop)]
 struct StandsBefore<I: Item> {
     item: I,
 }
 
 impl<I: Item> EntryTest<I> for StandsBefore<I> {
-    ghost passes = { λ test entry. I.before 0 entry test.item };
+    ghost passes = { λ test entry. I.before First entry test.item };
 
     fn passes(&self, entry: &I) -> bool {
-        entry.before(0, &self.item)
+        entry.before(Order::First, &self.item)
     }
 }
 
 /// The place of an item in a rising row.
 fn place_of_item<I: Item, L: Ledger>(row: &Row<I>, item: &I, steps: &mut Steps<L>) -> Option<usize>
-    requires rising { IsRising (I.before 0) row.now.items }
+    requires rising { IsRising (I.before First) row.now.items }
     requires owner { OwnsStamp I.stamp item.now row.now.items }
     ensures found { IfSome result (λ k. slice_get row.now.items k ≡ Some item.now) }
     ensures missing { IsNone result → All (λ x. I.stamp x ≢ I.stamp item.now) row.now.items }
@@ -83,10 +75,10 @@ fn place_of_item<I: Item, L: Ledger>(row: &Row<I>, item: &I, steps: &mut Steps<L
 }
 
 impl<I: Item> FlatPart<I> {
-    /// The items in order 0.
+    /// The items in the first order.
     pub fn items(&self) -> &Row<I>
         ensures value { result.now.items ≡ self.now.items }
-        ensures rising { IsRising (I.before 0) result.now.items }
+        ensures rising { IsRising (I.before First) result.now.items }
     {
         &self.items
     }
@@ -95,10 +87,9 @@ impl<I: Item> FlatPart<I> {
     /// of up to `2^h` items.
     pub fn mark_placed<L: Ledger>(&mut self, item: &I, steps: &mut Steps<L>) -> Option<usize>
         requires { OwnsStamp I.stamp item.now self.old.items }
-        ensures found { is_some result ≡ has_stamp I.stamp (I.stamp item.now) (items_where_true self.old.flags self.old.items) }
+        ensures found { is_some result ≡ has_stamp I.stamp (I.stamp item.now) (live_of self.old) }
         ensures marked { self.new ≡ marked I.stamp (I.stamp item.now) self.old }
-        ensures live { items_where_true self.new.flags self.new.items
-            ≡ without I.stamp (I.stamp item.now) (items_where_true self.old.flags self.old.items) }
+        ensures live { live_of self.new ≡ without I.stamp (I.stamp item.now) (live_of self.old) }
         ensures place { IfSome result (λ k. slice_get self.old.items k ≡ Some item.now) }
         ensures was_live { IfSome result (λ k. slice_get self.old.flags k ≡ Some true) }
         ensures written { IfSome result (λ k. self.new ≡ record self.old { flags = slice_set self.old.flags k false }) }
@@ -117,15 +108,12 @@ impl<I: Item> FlatPart<I> {
 }
 
 impl<I: Item> Part for FlatPart<I> {
-    ghost use Rattle.std.specs.Prelude.{◌+◌, refl};
-    ghost use Rattle.std.specs.List.{items_where_true};
+    ghost use Rattle.std.specs.Prelude.{◌+◌};
     ghost use Rattle.std.proofs.Common.{arith};
 
     type Item = I;
 
     ghost contents = { λ p. p };
-
-    ghost live_items = { λ p. items_where_true p.flags p.items };
 
     ghost mark_touches = { λ h. h + 4 };
 
@@ -137,20 +125,20 @@ impl<I: Item> Part for FlatPart<I> {
         self.live
     }
 
-    fn item<L: Ledger>(&self, order: usize, k: usize, steps: &mut Steps<L>) -> I {
-        if order == 0 {
-            self.items.at(k, steps)
-        } else {
-            let place = self.places.at(k, steps) as usize;
-            self.items.at(place, steps)
+    fn item<L: Ledger>(&self, order: Order, k: usize, steps: &mut Steps<L>) -> I {
+        match order {
+            Order::First => self.items.at(k, steps),
+            Order::Second => {
+                let place = self.places.at(k, steps) as usize;
+                self.items.at(place, steps)
+            }
         }
     }
 
-    fn place<L: Ledger>(&self, order: usize, k: usize, steps: &mut Steps<L>) -> usize {
-        if order == 0 {
-            k
-        } else {
-            self.places.at(k, steps) as usize
+    fn place<L: Ledger>(&self, order: Order, k: usize, steps: &mut Steps<L>) -> usize {
+        match order {
+            Order::First => k,
+            Order::Second => self.places.at(k, steps) as usize,
         }
     }
 
@@ -161,8 +149,6 @@ impl<I: Item> Part for FlatPart<I> {
     fn mark<L: Ledger>(&mut self, item: &I, steps: &mut Steps<L>) -> bool {
         self.mark_placed(item, steps).is_some()
     }
-
-    ghost live_by_flags = { λ part. refl };
 
     ghost mark_touches_rise = { λ g h le. Prim.omega arith };
 }
@@ -198,7 +184,7 @@ impl<I: Item> Model for FlatBuilder<I> {
 }
 
 impl<I: Item> FlatBuilder<I> {
-    /// How many items were put in order 0. It counts nothing.
+    /// How many items were put in the first order. It counts nothing.
     pub fn len(&self) -> usize
         ensures value { result ≡ length self.now.items }
         ensures valid { IsUnderway I.before self.now }
@@ -206,14 +192,14 @@ impl<I: Item> FlatBuilder<I> {
         self.items.len()
     }
 
-    /// Whether no item was put in order 0. It counts nothing.
+    /// Whether no item was put in the first order. It counts nothing.
     pub fn is_empty(&self) -> bool
         ensures { IsTrue result ↔ (length self.now.items ≡ 0) }
     {
         self.items.is_empty()
     }
 
-    /// The item at a place of order 0: one touch.
+    /// The item at a place of the first order: one touch.
     pub fn at<L: Ledger>(&self, k: usize, steps: &mut Steps<L>) -> I
         requires { k < length self.now.items }
         ensures read { slice_get self.now.items k ≡ Some result }
@@ -254,19 +240,17 @@ impl<I: Item> Builder for FlatBuilder<I> {
     }
 
     /// Two touches at most.
-    fn put<L: Ledger>(&mut self, order: usize, item: I, place: usize, steps: &mut Steps<L>)
-        requires order { order < 2 }
+    fn put<L: Ledger>(&mut self, order: Order, item: I, place: usize, steps: &mut Steps<L>)
         requires open { self.old.is_sealed ≡ false }
-        requires first { order ≡ 0 → FitsFirst (I.before 0) self.old item place }
-        requires second { order ≡ 1 → FitsSecond (I.before 1) self.old item place }
+        requires first { order ≡ First → FitsFirst (I.before First) self.old item place }
+        requires second { order ≡ Second → FitsSecond (I.before Second) self.old item place }
         ensures added { self.new ≡ with_put order item place self.old }
         ensures cost { Spends steps.old steps.new 1 0 2 }
     {
         steps.turn();
-        if order == 0 {
-            self.items.push(item, steps);
-        } else {
-            self.places.push(place as u32, steps);
+        match order {
+            Order::First => self.items.push(item, steps),
+            Order::Second => self.places.push(place as u32, steps),
         }
     }
 

@@ -1,11 +1,10 @@
 //! Parts, and the questions that they answer.
 ghost use Rattle.std.specs.Prelude.{◌≡◌, ◌<◌, ◌≤◌, ◌^◌, ◌↔◌, ℕ, List, IsTrue, IfOk, IsErr, length, Some, slice_get};
-ghost use Rattle.std.specs.List.{items_where_true};
 ghost use Rattle.query_laws.specs.StepLedger.{Spends};
-ghost use Rattle.builder_trait.specs.Parts.{Contents, IsPart, in_order, place_of, has_stamp, without, marked, OwnsStamp};
+ghost use Rattle.builder_trait.specs.Parts.{Contents, IsPart, live_of, in_order, place_of, has_stamp, without, marked, OwnsStamp};
 
 use query_laws::step_ledger::Steps;
-use query_laws::{Item, NoMemory, Question, Tally};
+use query_laws::{Item, NoMemory, Order, Question, Tally};
 use std::sync::ledger::Ledger;
 
 /// A static structure over items in two orders, in which items can be marked as dead (weak deletion, Overmars 1983).
@@ -15,9 +14,6 @@ pub trait Part: Drop {
     type Item: Item;
 
     ghost contents: { Self → Contents Self.Item };
-
-    /// The live items, in order 0.
-    ghost live_items: { Self → List Self.Item };
 
     /// The most touches of one mark, at a part of at most `2 ^ h` items.
     ghost mark_touches: { ℕ → ℕ };
@@ -36,23 +32,21 @@ pub trait Part: Drop {
 
     /// How many live items there are. It counts nothing.
     fn live(&self) -> usize
-        ensures { result ≡ length (live_items self.now) };
+        ensures { result ≡ length (live_of (contents self.now)) };
 
     /// The item at an index of an order: two touches at most.
-    fn item<L: Ledger>(&self, order: usize, k: usize, steps: &mut Steps<L>) -> Self::Item
-        requires order { order < 2 }
-        requires index { k < length (contents self.now).items }
+    fn item<L: Ledger>(&self, order: Order, k: usize, steps: &mut Steps<L>) -> Self::Item
+        requires { k < length (contents self.now).items }
         ensures value { slice_get (in_order order (contents self.now)) k ≡ Some result }
         ensures cost { Spends steps.old steps.new 0 0 2 };
 
-    /// The place in order 0 of the item at an index of an order: two touches at most.
-    fn place<L: Ledger>(&self, order: usize, k: usize, steps: &mut Steps<L>) -> usize
-        requires order { order < 2 }
-        requires index { k < length (contents self.now).items }
+    /// The place in the first order of the item at an index of an order: two touches at most.
+    fn place<L: Ledger>(&self, order: Order, k: usize, steps: &mut Steps<L>) -> usize
+        requires { k < length (contents self.now).items }
         ensures value { result ≡ place_of order (contents self.now) k }
         ensures cost { Spends steps.old steps.new 0 0 2 };
 
-    /// Whether the item at a place of order 0 is live: two touches at most.
+    /// Whether the item at a place of the first order is live: two touches at most.
     fn alive<L: Ledger>(&self, k: usize, steps: &mut Steps<L>) -> bool
         requires { k < length (contents self.now).items }
         ensures value { slice_get (contents self.now).flags k ≡ Some result }
@@ -61,15 +55,12 @@ pub trait Part: Drop {
     /// Marks an item as dead, where it is there and live, and says whether it was. One mark either way.
     fn mark<L: Ledger>(&mut self, item: &Self::Item, steps: &mut Steps<L>) -> bool
         requires { OwnsStamp Self.Item.stamp item.now (contents self.old).items }
-        ensures found { result ≡ has_stamp Self.Item.stamp (Self.Item.stamp item.now) (live_items self.old) }
+        ensures found { result ≡ has_stamp Self.Item.stamp (Self.Item.stamp item.now) (live_of (contents self.old)) }
 
         // Where it isn't there and live, this is the part as it was.
         ensures marked { contents self.new ≡ marked Self.Item.stamp (Self.Item.stamp item.now) (contents self.old) }
-        ensures live { live_items self.new ≡ without Self.Item.stamp (Self.Item.stamp item.now) (live_items self.old) }
+        ensures live { live_of (contents self.new) ≡ without Self.Item.stamp (Self.Item.stamp item.now) (live_of (contents self.old)) }
         ensures cost { (h : ℕ) → length (contents self.old).items ≤ 2 ^ h → Spends steps.old steps.new 0 1 (mark_touches h) };
-
-    /// The live items are those whose flag stands.
-    ghost live_by_flags: { (part : Self) → live_items part ≡ items_where_true (contents part).flags (contents part).items };
 
     /// The bound doesn't fall where there may be more items.
     ghost mark_touches_rise: { (g h : ℕ) → g ≤ h → mark_touches g ≤ mark_touches h };
@@ -93,7 +84,7 @@ pub trait Answers<Q: Question<Item = Self::Item>>: Part {
         requires { Q.owns question.now tally.old }
         ensures owned { Q.owns question.now tally.new }
         ensures joined { IfOk result (λ _. Q.Tally.so_far tally.new
-            ≡ Q.join question.now (Q.Tally.so_far tally.old) (Q.value question.now (Self.live_items self.now))) }
+            ≡ Q.join question.now (Q.Tally.so_far tally.old) (Q.value question.now (live_of (Self.contents self.now)))) }
         ensures refused { IsErr result → IsTrue (Q.Tally.can_refuse tally.old) }
         ensures same_refusal { Q.Tally.can_refuse tally.new ≡ Q.Tally.can_refuse tally.old }
         ensures cost { Spends steps.old steps.new 0 0 (ask_touches question.now self.now) };

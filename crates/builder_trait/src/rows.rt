@@ -1,8 +1,8 @@
 //! Kinds that keep rows beside their items: a kind is its rows, and the items are those of the flat kind.
 ghost use Rattle.std.specs.Prelude.{◌≡◌, ◌+◌, ◌-◌, ◌<◌, ◌≤◌, ◌^◌, ◌%◌, ℕ, IfOk, IsErr, IsTrue, Some, length, slice_get};
-ghost use Rattle.std.specs.List.{items_where_true};
 ghost use Rattle.query_laws.specs.StepLedger.{Spends};
-ghost use Rattle.builder_trait.specs.Parts.{Contents};
+ghost use Rattle.query_laws.specs.declared.item.Order.TheVariants.{First, Second};
+ghost use Rattle.builder_trait.specs.Parts.{Contents, live_of};
 ghost use Rattle.builder_trait.specs.Builders.{Progress, begun, FitsFirst, FitsSecond, with_put, all_live, IsQuota};
 ghost use Rattle.builder_trait.specs.Rows.{AreBehind};
 
@@ -10,7 +10,7 @@ use crate::builder::Builder;
 use crate::flat::{FlatBuilder, FlatPart};
 use crate::part::{Answers, Part};
 use query_laws::step_ledger::Steps;
-use query_laws::{Item, NoMemory, Question, Tally};
+use query_laws::{Item, NoMemory, Order, Question, Tally};
 use std::alloc::Global;
 use std::marker::Model;
 use std::sync::ledger::Ledger;
@@ -54,7 +54,7 @@ pub trait Rows: Drop + Sized {
         requires { level < 32 }
         ensures { IfOk result (λ rows. IsPutting (begun level) rows) };
 
-    /// Takes the next item of order 0, which the items take after it: six touches at most.
+    /// Takes the next item of the first order, which the items take after it: six touches at most.
     fn put_first<L: Ledger>(
         &mut self,
         items: &FlatBuilder<Self::Item>,
@@ -63,11 +63,11 @@ pub trait Rows: Drop + Sized {
         steps: &mut Steps<L>,
     )
         requires putting { IsPutting items.now self.old }
-        requires fits { FitsFirst (Self.Item.before 0) items.now item.now place }
-        ensures putting { IsPutting (with_put 0 item.now place items.now) self.new }
+        requires fits { FitsFirst (Self.Item.before First) items.now item.now place }
+        ensures putting { IsPutting (with_put First item.now place items.now) self.new }
         ensures cost { Spends steps.old steps.new 0 0 6 };
 
-    /// Takes the next item of order 1, with its place in order 0, which the items take after it: six touches at most.
+    /// Takes the next item of the second order, with its place in the first order, which the items take after it: six touches at most.
     fn put_second<L: Ledger>(
         &mut self,
         items: &FlatBuilder<Self::Item>,
@@ -76,8 +76,8 @@ pub trait Rows: Drop + Sized {
         steps: &mut Steps<L>,
     )
         requires putting { IsPutting items.now self.old }
-        requires fits { FitsSecond (Self.Item.before 1) items.now item.now place }
-        ensures putting { IsPutting (with_put 1 item.now place items.now) self.new }
+        requires fits { FitsSecond (Self.Item.before Second) items.now item.now place }
+        ensures putting { IsPutting (with_put Second item.now place items.now) self.new }
         ensures cost { Spends steps.old steps.new 0 0 6 };
 
     /// Begins to grow, once all items were put in both orders. It counts nothing.
@@ -151,7 +151,7 @@ pub trait AnsweringRows<Q: Question<Item = Self::Item>>: Rows {
         requires done { Self.IsDone items.now self.now }
         ensures owned { Q.owns question.now tally.new }
         ensures joined { IfOk result (λ _. Q.Tally.so_far tally.new
-            ≡ Q.join question.now (Q.Tally.so_far tally.old) (Q.value question.now (items_where_true items.now.flags items.now.items))) }
+            ≡ Q.join question.now (Q.Tally.so_far tally.old) (Q.value question.now (live_of items.now))) }
         ensures refused { IsErr result → IsTrue (Q.Tally.can_refuse tally.old) }
         ensures same_refusal { Q.Tally.can_refuse tally.new ≡ Q.Tally.can_refuse tally.old }
         ensures cost { Spends steps.old steps.new 0 0 (ask_touches question.now items.now) };
@@ -173,13 +173,9 @@ impl<R: Rows> Model for RowsPart<R> {
 }
 
 impl<R: Rows> Part for RowsPart<R> {
-    ghost use Rattle.std.specs.Prelude.{refl};
-
     type Item = R::Item;
 
     ghost contents = { λ p. p };
-
-    ghost live_items = { λ p. items_where_true p.flags p.items };
 
     ghost mark_touches = { R.mark_touches };
 
@@ -191,11 +187,11 @@ impl<R: Rows> Part for RowsPart<R> {
         self.items.live()
     }
 
-    fn item<L: Ledger>(&self, order: usize, k: usize, steps: &mut Steps<L>) -> R::Item {
+    fn item<L: Ledger>(&self, order: Order, k: usize, steps: &mut Steps<L>) -> R::Item {
         self.items.item(order, k, steps)
     }
 
-    fn place<L: Ledger>(&self, order: usize, k: usize, steps: &mut Steps<L>) -> usize {
+    fn place<L: Ledger>(&self, order: Order, k: usize, steps: &mut Steps<L>) -> usize {
         self.items.place(order, k, steps)
     }
 
@@ -210,8 +206,6 @@ impl<R: Rows> Part for RowsPart<R> {
         self.rows.mark(&self.items, place, item, steps);
         true
     }
-
-    ghost live_by_flags = { λ part. refl };
 
     ghost mark_touches_rise = { R.mark_touches_rise };
 }
@@ -270,14 +264,12 @@ impl<R: Rows> Builder for RowsBuilder<R> {
         })
     }
 
-    fn put<L: Ledger>(&mut self, order: usize, item: R::Item, place: usize, steps: &mut Steps<L>) {
-        if order == 0 {
-            self.rows.put_first(&self.items, &item, place, steps);
-            self.items.put(0, item, place, steps);
-        } else {
-            self.rows.put_second(&self.items, &item, place, steps);
-            self.items.put(1, item, place, steps);
+    fn put<L: Ledger>(&mut self, order: Order, item: R::Item, place: usize, steps: &mut Steps<L>) {
+        match order {
+            Order::First => self.rows.put_first(&self.items, &item, place, steps),
+            Order::Second => self.rows.put_second(&self.items, &item, place, steps),
         }
+        self.items.put(order, item, place, steps);
     }
 
     fn seal(&mut self) {

@@ -1,5 +1,6 @@
 //! A construction of four items, one of which dies after it was read.
 ghost use Rattle.std.specs.Prelude.{◌≡◌, ◌≢◌, [], ◌∷◌, true, IsTrue, IfOk};
+ghost use Rattle.query_laws.specs.declared.item.Order.TheVariants.{First, Second};
 
 use crate::item::Pair;
 use crate::pairs::rising_pair;
@@ -27,8 +28,8 @@ fn construction_seen<B: Builder, L: Ledger>(
     requires name { blank.name ≡ L.name }
     requires parts { blank.parts ≡ L.parts }
     requires shares { blank.parts ≡ SHARES }
-    requires rising_a { IsTrue (B.Item.before 0 first third) × IsTrue (B.Item.before 1 first third) }
-    requires rising_b { IsTrue (B.Item.before 0 second fourth) × IsTrue (B.Item.before 1 second fourth) }
+    requires rising_a { IsTrue (B.Item.before First first third) × IsTrue (B.Item.before Second first third) }
+    requires rising_b { IsTrue (B.Item.before First second fourth) × IsTrue (B.Item.before Second second fourth) }
     requires apart_first { (B.Item.stamp first ≢ B.Item.stamp second) × (B.Item.stamp first ≢ B.Item.stamp fourth) }
     requires apart_third { (B.Item.stamp third ≢ B.Item.stamp second) × (B.Item.stamp third ≢ B.Item.stamp fourth) }
     requires within_a { B.Item.stamp first ≢ B.Item.stamp third }

@@ -4,7 +4,7 @@ ghost use Rattle.std.specs.Prelude.{◌≡◌, ◌<◌, ◌^◌, None, OnOk};
 use id_chain::Handle;
 use id_directory::Directory;
 use map_shapes::Point;
-use query_laws::{Item, NoMemory};
+use query_laws::{Item, NoMemory, Order};
 use std::process::Abort;
 use std::test::Fail;
 
@@ -53,8 +53,8 @@ fn finds_and_lists(rt: HostRuntime) -> Result<(), Fail> {
 /// Whether the first is before the second and the second not before the first, in each of the orders.
 fn stands_before<I: Item>(first: &I, second: &I) -> [bool; 2] {
     [
-        first.before(0, second) && !second.before(0, first),
-        first.before(1, second) && !second.before(1, first),
+        first.before(Order::First, second) && !second.before(Order::First, first),
+        first.before(Order::Second, second) && !second.before(Order::Second, first),
     ]
 }
 

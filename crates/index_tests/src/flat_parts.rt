@@ -1,36 +1,37 @@
 //! The flat kind through the traits, and questions put to its parts.
 ghost use Rattle.std.specs.Prelude.{◌≡◌, ◌≢◌, [], ◌∷◌, IsTrue, IfOk};
+ghost use Rattle.query_laws.specs.declared.item.Order.TheVariants.{First, Second};
 
 use crate::item::Pair;
 use crate::pairs::{put_first, sealed};
 use crate::sums::SumOfX;
-use builder_trait::flat::{FlatBuilder, FlatPart};
-use builder_trait::{Asking, Builder, Part, part_of_one};
+use builder_trait::flat::FlatBuilder;
+use builder_trait::{Answers, Asking, Builder, Part, part_of_one};
 use query_laws::step_ledger::{SHARES, Steps, blank};
-use query_laws::{Item, NoMemory};
+use query_laws::{Item, NoMemory, Order};
 use std::alloc::Global;
 use std::marker::Brand;
 use std::sync::ledger::{Blank, Ledger};
 use std::test::Fail;
 
-/// A part of two items that stand the other way round in order 1; and how many turns were left after the seal.
+/// A part of two items that stand the other way round in the second order; and how many turns were left after the seal.
 fn pair<B: Builder, L: Ledger>(
     alloc: Global,
     first: B::Item,
     second: B::Item,
     steps: &mut Steps<L>,
 ) -> Result<(u64, B::Part), NoMemory>
-    requires rising { IsTrue (B.Item.before 0 first second) }
-    requires falling { IsTrue (B.Item.before 1 second first) }
+    requires rising { IsTrue (B.Item.before First first second) }
+    requires falling { IsTrue (B.Item.before Second second first) }
     ensures { IfOk result (λ made. (B.Part.Part.contents made.1).items ≡ first ∷ second ∷ []) }
 {
     let mut builder = put_first::<B, L>(alloc, first, second, steps)?;
-    builder.put(1, second, 1, steps);
-    builder.put(1, first, 0, steps);
+    builder.put(Order::Second, second, 1, steps);
+    builder.put(Order::Second, first, 0, steps);
     Ok(sealed(builder, steps))
 }
 
-/// The item at a place of order 0, if there is one: its stamp, its index in order 1 by the place there, and whether it is live.
+/// The item at a place of the first order, if there is one: its stamp, its index in the second order by the place there, and whether it is live.
 fn seen_at<P: Part, L: Ledger>(
     part: &P,
     place: usize,
@@ -39,8 +40,12 @@ fn seen_at<P: Part, L: Ledger>(
     if place >= part.len() {
         return None;
     }
-    let stamp = part.item(0, place, steps).stamp();
-    Some((stamp, part.place(1, place, steps), part.alive(place, steps)))
+    let stamp = part.item(Order::First, place, steps).stamp();
+    Some((
+        stamp,
+        part.place(Order::Second, place, steps),
+        part.alive(place, steps),
+    ))
 }
 
 /// What a part of two items, the first of which is marked, tells of both; and how many items a part of the second has, on the same memory.
@@ -65,8 +70,8 @@ fn pair_seen<B: Builder, L: Ledger>(
     requires parts { blank.parts ≡ L.parts }
     requires shares { blank.parts ≡ SHARES }
     requires stamps { B.Item.stamp first ≢ B.Item.stamp second }
-    requires rising { IsTrue (B.Item.before 0 first second) }
-    requires falling { IsTrue (B.Item.before 1 second first) }
+    requires rising { IsTrue (B.Item.before First first second) }
+    requires falling { IsTrue (B.Item.before Second second first) }
 {
     let mut steps = Steps::<L>::new(blank);
     let (left, mut part) = pair::<B, L>(alloc, first, second, &mut steps)?;
@@ -121,12 +126,12 @@ fn single<B: Builder, L: Ledger>(
 }
 
 /// The sum of `x` over three parts, the parts consulted, and their live items.
-fn sum_of_three<L: Ledger>(
+fn sum_of_three<P: Answers<SumOfX, Item = Pair>, L: Ledger>(
     alloc: Global,
-    parts: [&FlatPart<Pair>; 3],
+    parts: [&P; 3],
     steps: &mut Steps<L>,
 ) -> Result<(u64, u32, u128), NoMemory> {
-    let mut asking = Asking::new(alloc, &SumOfX);
+    let mut asking = Asking::<P, SumOfX>::new(alloc, &SumOfX);
     asking.part(parts[0], steps)?;
     asking.part(parts[1], steps)?;
     asking.part(parts[2], steps)?;
@@ -136,37 +141,27 @@ fn sum_of_three<L: Ledger>(
 }
 
 /// Three parts of one point each, of which the second is marked: the sum of `x`, the parts consulted, their live items, and the turns.
-fn sum_seen<L: Ledger>(alloc: Global, blank: Blank) -> Result<((u64, u32, u128), u64), NoMemory>
+fn sum_seen<B: Builder<Item = Pair>, L: Ledger>(
+    alloc: Global,
+    blank: Blank,
+) -> Result<((u64, u32, u128), u64), NoMemory>
+where
+    B::Part: Answers<SumOfX>,
     requires name { blank.name ≡ L.name }
     requires parts { blank.parts ≡ L.parts }
     requires shares { blank.parts ≡ SHARES }
 {
     let mut steps = Steps::<L>::new(blank);
-    let one = Pair {
-        x: 7,
-        y: 1,
-        stamp: 0,
-    };
-    let other = Pair {
-        x: 100,
-        y: 2,
-        stamp: 1,
-    };
-    let third = Pair {
-        x: 50,
-        y: 3,
-        stamp: 2,
-    };
-    let one = single::<FlatBuilder<Pair>, L>(alloc, one, false, &mut steps)?;
-    let other = single::<FlatBuilder<Pair>, L>(alloc, other, true, &mut steps)?;
-    let third = single::<FlatBuilder<Pair>, L>(alloc, third, false, &mut steps)?;
-    let sum = sum_of_three(alloc, [&one, &other, &third], &mut steps)?;
+    let one = single::<B, L>(alloc, Pair::new(7, 1, 0), false, &mut steps)?;
+    let other = single::<B, L>(alloc, Pair::new(100, 2, 1), true, &mut steps)?;
+    let third = single::<B, L>(alloc, Pair::new(50, 3, 2), false, &mut steps)?;
+    let sum = sum_of_three::<B::Part, L>(alloc, [&one, &other, &third], &mut steps)?;
     Ok((sum, steps.lap_turns()))
 }
 
 #[test]
 fn sums_over_parts(rt: HostRuntime) -> Result<(), Fail> {
-    let seen = sum_seen::<Brand>(rt.alloc(), blank())?;
+    let seen = sum_seen::<FlatBuilder<Pair>, Brand>(rt.alloc(), blank())?;
     assert_eq!(rt; seen, ((57, 3, 2), 9));
     Ok(())
 }

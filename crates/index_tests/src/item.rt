@@ -1,9 +1,9 @@
 //! Two numbers and a stamp.
-ghost use Rattle.std.specs.Prelude.{refl};
+ghost use Rattle.std.specs.Prelude.{◌≡◌};
 ghost use Rattle.query_laws.specs.Orders.{before_in};
 ghost use Rattle.query_laws.specs.OrderLaws.{IsStrictTotalOrder-before_in};
 
-use query_laws::Item;
+use query_laws::{Item, Order};
 
 #[derive(Clone, Copy)]
 pub struct Pair {
@@ -12,11 +12,15 @@ pub struct Pair {
     pub stamp: u64,
 }
 
+impl Pair {
+    pub fn new(x: u32, y: u32, stamp: u64) -> Pair
+        ensures { result ≡ record { x = x; y = y; stamp = stamp } }
+    {
+        Pair { x, y, stamp }
+    }
+}
+
 impl Item for Pair {
-    const ORDERS: usize = 2;
-
-    ghost ORDERS = { 2 };
-
     ghost stamp = { λ pair. pair.stamp };
 
     ghost before = { before_in (λ pair. pair.x) (λ pair. pair.y) (λ pair. pair.stamp) };
@@ -25,20 +29,17 @@ impl Item for Pair {
         self.stamp
     }
 
-    fn before(&self, order: usize, other: &Self) -> bool {
+    fn before(&self, order: Order, other: &Self) -> bool {
         let by_x = self.x < other.x;
         let by_y = self.y < other.y;
         let by_stamp = self.stamp < other.stamp;
         let same_x = self.x == other.x;
         let same_y = self.y == other.y;
-        if order == 0 {
-            by_x || (same_x && (by_y || (same_y && by_stamp)))
-        } else {
-            by_y || (same_y && (by_x || (same_x && by_stamp)))
+        match order {
+            Order::First => by_x || (same_x && (by_y || (same_y && by_stamp))),
+            Order::Second => by_y || (same_y && (by_x || (same_x && by_stamp))),
         }
     }
 
-    ghost two_orders = { refl };
-
-    ghost ordered = { λ order below. IsStrictTotalOrder-before_in (λ pair. pair.x) (λ pair. pair.y) (λ pair. pair.stamp) order };
+    ghost ordered = { λ order. IsStrictTotalOrder-before_in (λ pair. pair.x) (λ pair. pair.y) (λ pair. pair.stamp) order };
 }

@@ -9,13 +9,13 @@ use builder_trait::flat::FlatBuilder;
 use builder_trait::{Builder, Part, part_of_one};
 use ordered_merge::Merge;
 use query_laws::step_ledger::{SHARES, Steps, blank};
-use query_laws::{Item, NoMemory};
+use query_laws::{Item, NoMemory, Order};
 use std::alloc::Global;
 use std::marker::Brand;
 use std::sync::ledger::{Blank, Ledger};
 use std::test::Fail;
 
-/// Takes all turns of a merge: whether order 0 had passed an item after the first of them, and whether all was done after the others.
+/// Takes all turns of a merge: whether the first order had passed an item after the first of them, and whether all was done after the others.
 fn run<B: Builder, L: Ledger>(
     merge: &mut Merge<B>,
     a: &B::Part,
@@ -37,7 +37,7 @@ fn run<B: Builder, L: Ledger>(
     [passed, merge.done()]
 }
 
-/// The parts of two items, merged: the turns left at the beginning, and once the merge is cleared; whether order 0 had passed the
+/// The parts of two items, merged: the turns left at the beginning, and once the merge is cleared; whether the first order had passed the
 /// first item after a turn, and whether all was done after the others; and the part of both.
 fn merged<B: Builder, L: Ledger>(
     alloc: Global,
@@ -62,19 +62,17 @@ fn merged<B: Builder, L: Ledger>(
 /// Adds the stamps of a part in an order.
 fn add_stamps<P: Part, L: Ledger>(
     stamps: &mut Vec<u64>,
-    order: usize,
+    order: Order,
     part: &P,
     steps: &mut Steps<L>,
-) -> Result<(), NoMemory>
-    requires { order < 2 }
-{
+) -> Result<(), NoMemory> {
     for k in 0..part.len() {
         stamps.push(part.item(order, k, steps).stamp())?;
     }
     Ok(())
 }
 
-/// What a merge of two items told, and the stamps of its part in order 0 and then in order 1.
+/// What a merge of two items told, and the stamps of its part in the first order and then in the second.
 #[derive(Drop)]
 struct Seen {
     left: [u64; 2],
@@ -96,8 +94,8 @@ fn merge_seen<B: Builder, L: Ledger>(
     let mut steps = Steps::<L>::new(blank);
     let (left, passed_and_done, part) = merged::<B, L>(alloc, low, high, &mut steps)?;
     let mut stamps = Vec::new(alloc);
-    add_stamps(&mut stamps, 0, &part, &mut steps)?;
-    add_stamps(&mut stamps, 1, &part, &mut steps)?;
+    add_stamps(&mut stamps, Order::First, &part, &mut steps)?;
+    add_stamps(&mut stamps, Order::Second, &part, &mut steps)?;
     Ok(Seen {
         left,
         passed_and_done,

@@ -1,21 +1,22 @@
 //! A part of two items.
 ghost use Rattle.std.specs.Prelude.{◌≡◌, [], ◌∷◌, true, false, IsTrue, IfOk, length};
+ghost use Rattle.query_laws.specs.declared.item.Order.TheVariants.{First, Second};
 ghost use Rattle.builder_trait.specs.Builders.{all_live};
 
 use builder_trait::Builder;
 use query_laws::step_ledger::Steps;
-use query_laws::{Item, NoMemory};
+use query_laws::{Item, NoMemory, Order};
 use std::alloc::Global;
 use std::sync::ledger::Ledger;
 
-/// A builder to which two items are put in order 0.
+/// A builder to which two items are put in the first order.
 pub fn put_first<B: Builder, L: Ledger>(
     alloc: Global,
     low: B::Item,
     high: B::Item,
     steps: &mut Steps<L>,
 ) -> Result<B, NoMemory>
-    requires rising { IsTrue (B.Item.before 0 low high) }
+    requires rising { IsTrue (B.Item.before First low high) }
     ensures { IfOk result (λ builder. B.progress builder ≡ record {
       items = low ∷ high ∷ [];
       reordered = [];
@@ -26,8 +27,8 @@ pub fn put_first<B: Builder, L: Ledger>(
     }) }
 {
     let mut builder = B::room(alloc, 1)?;
-    builder.put(0, low, 0, steps);
-    builder.put(0, high, 1, steps);
+    builder.put(Order::First, low, 0, steps);
+    builder.put(Order::First, high, 1, steps);
     Ok(builder)
 }
 
@@ -50,8 +51,8 @@ pub fn rising_pair<B: Builder, L: Ledger>(
     high: B::Item,
     steps: &mut Steps<L>,
 ) -> Result<B::Part, NoMemory>
-    requires rising { IsTrue (B.Item.before 0 low high) }
-    requires rising_reordered { IsTrue (B.Item.before 1 low high) }
+    requires rising { IsTrue (B.Item.before First low high) }
+    requires rising_reordered { IsTrue (B.Item.before Second low high) }
     ensures { IfOk result (λ part. B.Part.Part.contents part ≡ record {
       items = low ∷ high ∷ [];
       flags = true ∷ true ∷ [];
@@ -61,7 +62,7 @@ pub fn rising_pair<B: Builder, L: Ledger>(
     }) }
 {
     let mut builder = put_first::<B, L>(alloc, low, high, steps)?;
-    builder.put(1, low, 0, steps);
-    builder.put(1, high, 1, steps);
+    builder.put(Order::Second, low, 0, steps);
+    builder.put(Order::Second, high, 1, steps);
     Ok(sealed(builder, steps).1)
 }

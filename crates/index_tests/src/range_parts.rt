@@ -1,6 +1,7 @@
 //! A part of two points, one of which lies at the last coordinates and dies, and a part of one on its memory.
 ghost use Rattle.range_tree.specs.Rows.{before};
 ghost use Rattle.std.specs.Prelude.{◌≡◌, ◌≢◌, ◌≤◌, ◌<◌, ◌^◌, ◌∷◌, [], IsTrue, IfOk};
+ghost use Rattle.query_laws.specs.declared.item.Order.TheVariants.{First, Second};
 
 use crate::pairs::rising_pair;
 use builder_trait::{Answers, Asking, Builder, Part, part_of_one};
@@ -64,8 +65,8 @@ fn seen<L: Ledger>(
     requires name { blank.name ≡ L.name }
     requires parts { blank.parts ≡ L.parts }
     requires shares { blank.parts ≡ SHARES }
-    requires first { IsTrue (before 0 low high) }
-    requires second { IsTrue (before 1 low high) }
+    requires first { IsTrue (before First low high) }
+    requires second { IsTrue (before Second low high) }
     requires stamps { low.stamp ≢ high.stamp }
 {
     let mut steps = Steps::<L>::new(blank);

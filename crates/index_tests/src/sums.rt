@@ -10,7 +10,7 @@ use crate::item::Pair;
 use builder_trait::flat::FlatPart;
 use builder_trait::{Answers, Part};
 use query_laws::step_ledger::Steps;
-use query_laws::{Item, NoMemory, Question, Total};
+use query_laws::{Item, NoMemory, Order, Question, Total};
 use std::alloc::Global;
 use std::sync::ledger::Ledger;
 
@@ -56,7 +56,7 @@ fn live_x<L: Ledger>(part: &FlatPart<Pair>, k: usize, steps: &mut Steps<L>) -> u
     if !part.alive(k, steps) {
         return 0;
     }
-    part.item(0, k, steps).x as u64
+    part.item(Order::First, k, steps).x as u64
 }
 
 impl Answers<SumOfX> for FlatPart<Pair> {

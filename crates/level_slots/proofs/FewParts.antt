@@ -2,8 +2,8 @@
 use Rattle.std.proofs.Common.{ℕ, suc, ◌+◌, ◌-◌, ◌*◌, ◌^◌, ◌<◌, ◌≤◌, Bool, true, false, List, [], ◌∷◌, All, length, if◌then◌else◌, ⊎_elim, arith}
 use Rattle.std.proofs.lemmas.Bool.{cases_lt}
 use Rattle.std.proofs.lemmas.List.Elements.{All-cons, All-nil}
-use Rattle.builder_trait.specs.Parts.{Contents, has_stamp}
-use Rattle.partial_build.specs.Construction.{live_of}
+use Rattle.query_laws.specs.declared.item.Order.{Order}
+use Rattle.builder_trait.specs.Parts.{Contents, has_stamp, live_of}
 use Rattle.stack_levels.specs.Slots.{Slots, asked_in}
 use Rattle.stack_levels.specs.Levels.{weight_of, parts_of, live_items, asked}
 use Rattle.level_slots.specs.Height.{HaveAtMost}
@@ -53,7 +53,7 @@ module _ {P Item : Type 0} (contents : P → Contents Item) where
       (small_level l g (weight_of above) (of_level 0 l (omega arith)) light)
       (parts-small above (λ k d within. of_level (suc k) d (omega (arith, within))) g (omega (arith, light)))
 
-  module _ (stamp : Item → ℕ) (before : ℕ → Item → Item → Bool) where
+  module _ (stamp : Item → ℕ) (before : Order → Item → Item → Bool) where
     tower-few : (l : Slots P Item) (above : List (Slots P Item)) → IsTower contents stamp before l above → (g : ℕ)
         → weight_of (l ∷ above) < 2 ^ (g + 1) → parts_of (l ∷ above) ≤ 3 * (g + 1 - l.level)
     tower-few l [] tower g light =

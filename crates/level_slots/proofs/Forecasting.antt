@@ -6,7 +6,9 @@ use Rattle.std.proofs.lemmas.List.{length-append}
 use Rattle.std.proofs.lemmas.Nat.{pow_pos}
 use Rattle.std.proofs.lemmas.List.Elements.{All-cons, All-head, All-push, All-tail}
 use Rattle.query_laws.specs.Orders.{AllStampsDiffer}
+use Rattle.query_laws.specs.declared.item.Order.{Order}
 use Rattle.builder_trait.specs.Parts.{Contents}
+use Rattle.builder_trait.specs.Builders.{PartKind}
 use Rattle.stack_levels.specs.Slots.{Slots, ticks_of, held_in, weight_in, live_in, items_in}
 use Rattle.stack_levels.specs.Levels.{held_of, lowest_held, weight_of, parts_of, live_items, all_items}
 use Rattle.stack_levels.specs.Neighbours.{IsBelow, IsPunctual}
@@ -196,7 +198,7 @@ module _ {P Item : Type 0} (contents : P → Contents Item) where
         ap suc rest.4,
       )
 
-  module _ (stamp : Item → ℕ) (before : ℕ → Item → Item → Bool) where
+  module _ (stamp : Item → ℕ) (before : Order → Item → Item → Bool) where
     pub numbered-tower : (lower : Slots P Item) (above : List (Slots P Item)) → IsTower contents stamp before lower above → AreNumbered lower above
     numbered-tower lower [] tower = tt
     numbered-tower lower (next ∷ above) tower = (tower.0.next_level, numbered-tower next above tower.1)
@@ -341,128 +343,128 @@ module _ {P Item : Type 0} (contents : P → Contents Item) where
           ap (λ m. length l.parts + m) rest.3,
         )
 
-    module _ (slope base : ℕ) where
-      pub IsKept-added : (levels : List (Slots P Item)) (n : ℕ) → n ≡ length levels → n < 32
-          → IsKept contents stamp before slope base levels (levels ++ unused n ∷ [])
-      IsKept-added levels n next less =
-          let same = same-added levels n in
-          record {
-            live = same.0;
-            items = same.1;
-            weight = same.2;
-            parts = same.3;
-            levels = all_levels-added levels n next;
-            punctual = λ h. All-push (IsPunctual slope base) levels (unused n) h (λ c is. absurd cc);
-            few = λ few. omega (arith, less, next, length-append levels (unused n ∷ []));
-            some = omega (arith, length-append levels (unused n ∷ []));
-            enough = enough-added levels n next;
-            rooms = rooms levels n;
-            rooms_ahead = ahead levels n next;
-          }
-        where
-          rooms : (levels : List (Slots P Item)) (n : ℕ) → AreAllLevels contents stamp before levels → 0 < length levels → HaveRoomsAbove IsDue levels
-              → HaveRoomsAbove IsDue (levels ++ unused n ∷ [])
-          rooms [] n h some r = absurd (omega (arith, some))
-          rooms (lowest ∷ above) n h some r = rooms-added lowest above n r
+  pub IsKept-added : (levels : List (Slots P Item)) (n : ℕ) → n ≡ length levels → n < 32
+      → IsKept contents levels (levels ++ unused n ∷ [])
+  IsKept-added levels n next less =
+      let same = same-added levels n in
+      record {
+        live = same.0;
+        items = same.1;
+        weight = same.2;
+        parts = same.3;
+        levels = λ kind. all_levels-added kind.stamp kind.before levels n next;
+        punctual = λ kind h. All-push (IsPunctual kind.slope kind.base) levels (unused n) h (λ c is. absurd cc);
+        few = λ few. omega (arith, less, next, length-append levels (unused n ∷ []));
+        some = omega (arith, length-append levels (unused n ∷ []));
+        enough = λ kind. enough-added kind.stamp kind.before levels n next;
+        rooms = λ kind. rooms kind levels n;
+        rooms_ahead = λ kind. ahead kind levels n next;
+      }
+    where
+      rooms : (kind : PartKind Item) (levels : List (Slots P Item)) (n : ℕ) → AreAllLevels contents kind.stamp kind.before levels → 0 < length levels → HaveRoomsAbove IsDue levels
+          → HaveRoomsAbove IsDue (levels ++ unused n ∷ [])
+      rooms kind [] n h some r = absurd (omega (arith, some))
+      rooms kind (lowest ∷ above) n h some r = rooms-added kind.stamp kind.before lowest above n r
 
-          ahead : (levels : List (Slots P Item)) (n : ℕ) → n ≡ length levels → AreAllLevels contents stamp before levels → 0 < length levels
-              → HaveRoomsAbove IsDueSoon levels → HaveRoomsAbove IsDueSoon (levels ++ unused n ∷ [])
-          ahead [] n next h some r = absurd (omega (arith, some))
-          ahead (lowest ∷ above) n next h some r = rooms_ahead-added lowest above n (omega (arith, next, h.0)) h.2 r
+      ahead : (kind : PartKind Item) (levels : List (Slots P Item)) (n : ℕ) → n ≡ length levels → AreAllLevels contents kind.stamp kind.before levels → 0 < length levels
+          → HaveRoomsAbove IsDueSoon levels → HaveRoomsAbove IsDueSoon (levels ++ unused n ∷ [])
+      ahead kind [] n next h some r = absurd (omega (arith, some))
+      ahead kind (lowest ∷ above) n next h some r = rooms_ahead-added kind.stamp kind.before lowest above n (omega (arith, next, h.0)) h.2 r
 
-      punctual-kept : (old new : List (Slots P Item)) → KeepRoomsAbove old new → All (IsPunctual slope base) old → All (IsPunctual slope base) new
-      punctual-kept [] new k h = subst (All (IsPunctual slope base)) (sym k) h
-      punctual-kept (l ∷ old) [] k h = absurd k
-      punctual-kept (l ∷ old) (l' ∷ new) k h =
-          All-cons (IsPunctual slope base) l' new (subst (IsPunctual slope base) (sym k.0) (All-head (IsPunctual slope base) l old h))
-          (punctual-kept old new (above_kept l old new k.1) (All-tail (IsPunctual slope base) l old h))
+  punctual-kept : (slope base : ℕ) (old new : List (Slots P Item)) → KeepRoomsAbove old new → All (IsPunctual slope base) old
+      → All (IsPunctual slope base) new
+  punctual-kept slope base [] new k h = subst (All (IsPunctual slope base)) (sym k) h
+  punctual-kept slope base (l ∷ old) [] k h = absurd k
+  punctual-kept slope base (l ∷ old) (l' ∷ new) k h =
+      All-cons (IsPunctual slope base) l' new (subst (IsPunctual slope base) (sym k.0) (All-head (IsPunctual slope base) l old h))
+      (punctual-kept slope base old new (above_kept l old new k.1) (All-tail (IsPunctual slope base) l old h))
 
-      pub IsKept-refl : (levels : List (Slots P Item)) → IsKept contents stamp before slope base levels levels
-      IsKept-refl levels = record {
-        live = refl;
-        items = refl;
-        weight = refl;
-        parts = refl;
-        levels = λ h. h;
-        punctual = λ h. h;
-        few = λ h. h;
-        some = omega arith;
-        enough = λ h quiet. quiet;
-        rooms = λ h some r. r;
-        rooms_ahead = λ h some r. r;
+  pub IsKept-refl : (levels : List (Slots P Item)) → IsKept contents levels levels
+  IsKept-refl levels = record {
+    live = refl;
+    items = refl;
+    weight = refl;
+    parts = refl;
+    levels = λ kind h. h;
+    punctual = λ kind h. h;
+    few = λ h. h;
+    some = omega arith;
+    enough = λ kind h quiet. quiet;
+    rooms = λ kind h some r. r;
+    rooms_ahead = λ kind h some r. r;
+  }
+
+  pub IsKept-then : {a b c : List (Slots P Item)} → IsKept contents a b → IsKept contents b c
+      → IsKept contents a c
+  IsKept-then {a} {b} {c} h k = record {
+    live = k.live ∙ h.live;
+    items = k.items ∙ h.items;
+    weight = k.weight ∙ h.weight;
+    parts = k.parts ∙ h.parts;
+    levels = λ kind l. k.levels kind (h.levels kind l);
+    punctual = λ kind l. k.punctual kind (h.punctual kind l);
+    few = λ l. k.few (h.few l);
+    some = omega (arith, h.some, k.some);
+    enough = λ kind l quiet. k.enough kind (h.levels kind l) (h.enough kind l quiet);
+    rooms = λ kind l some r. k.rooms kind (h.levels kind l) (omega (arith, some, h.some)) (h.rooms kind l some r);
+    rooms_ahead = λ kind l some r. k.rooms_ahead kind (h.levels kind l) (omega (arith, some, h.some)) (h.rooms_ahead kind l some r);
+  }
+
+  pub IsKept-rooms : (old new : List (Slots P Item)) → KeepRoomsAbove old new → IsKept contents old new
+  IsKept-rooms old new k =
+      let same = same-kept old new k in
+      record {
+        live = same.0;
+        items = same.1;
+        weight = same.2;
+        parts = same.3;
+        levels = λ kind. all_levels-kept kind.stamp kind.before old new k;
+        punctual = λ kind. punctual-kept kind.slope kind.base old new k;
+        few = λ few. omega (arith, few, same.4);
+        some = omega (arith, same.4);
+        enough = λ kind h quiet. enough-kept old new k quiet;
+        rooms = λ kind h some r. rooms_above-kept IsDue due_is_soon due-back old new k r;
+        rooms_ahead = λ kind h some r. rooms_above-kept IsDueSoon (λ l d. d) soon-back old new k r;
       }
 
-      pub IsKept-then : {a b c : List (Slots P Item)} → IsKept contents stamp before slope base a b → IsKept contents stamp before slope base b c
-          → IsKept contents stamp before slope base a c
-      IsKept-then {a} {b} {c} h k = record {
-        live = k.live ∙ h.live;
-        items = k.items ∙ h.items;
-        weight = k.weight ∙ h.weight;
-        parts = k.parts ∙ h.parts;
-        levels = λ l. k.levels (h.levels l);
-        punctual = λ l. k.punctual (h.punctual l);
-        few = λ l. k.few (h.few l);
-        some = omega (arith, h.some, k.some);
-        enough = λ l quiet. k.enough (h.levels l) (h.enough l quiet);
-        rooms = λ l some r. k.rooms (h.levels l) (omega (arith, some, h.some)) (h.rooms l some r);
-        rooms_ahead = λ l some r. k.rooms_ahead (h.levels l) (omega (arith, some, h.some)) (h.rooms_ahead l some r);
-      }
+  -- the lowest level alone changed
+  pub IsKept-lowest : (levels : List (Slots P Item)) (l l' : Slots P Item) → 0 < length levels → l ≡ get_or levels 0 l → IsSame l l'
+      → IsKept contents levels (set levels 0 l')
+  IsKept-lowest [] l l' some is same = absurd (omega (arith, some))
+  IsKept-lowest (x ∷ above) l l' some is same =
+      IsKept-rooms (x ∷ above) (l' ∷ above) (subst (λ v. IsSame v l') is same, KeepRooms-refl x above)
 
-      pub IsKept-rooms : (old new : List (Slots P Item)) → KeepRoomsAbove old new → IsKept contents stamp before slope base old new
-      IsKept-rooms old new k =
-          let same = same-kept old new k in
-          record {
-            live = same.0;
-            items = same.1;
-            weight = same.2;
-            parts = same.3;
-            levels = all_levels-kept old new k;
-            punctual = punctual-kept old new k;
-            few = λ few. omega (arith, few, same.4);
-            some = omega (arith, same.4);
-            enough = λ h quiet. enough-kept old new k quiet;
-            rooms = λ h some r. rooms_above-kept IsDue due_is_soon due-back old new k r;
-            rooms_ahead = λ h some r. rooms_above-kept IsDueSoon (λ l d. d) soon-back old new k r;
-          }
+  module _ {kind : PartKind Item} {old new : List (Slots P Item)} {spare starters : ℕ}
+      (h : IsStack contents kind (record { levels = old; spare = spare; starters = starters }))
+      (k : IsKept contents old new) where
+    stack_of : (spare' starters' : ℕ) → starters' ≤ 2 → spare' ≤ starters' → lowest_held new + starters' ≤ 5 → (1 ≤ spare' → 0 < length new)
+        → (1 ≤ spare' → weight_of new < 2 ^ 31 → HaveRoomsAbove IsDue new) → (2 ≤ spare' → weight_of new < 2 ^ 31 → HaveRoomsAbove IsDueSoon new)
+        → IsStack contents kind (record { levels = new; spare = spare'; starters = starters' })
+    stack_of spare' starters' few enough lowest some rooms ahead = record {
+      levels = k.levels kind h.levels;
+      punctual = k.punctual kind h.punctual;
+      apart = subst (AllStampsDiffer kind.stamp) (sym k.items) h.apart;
+      light = omega (arith, h.light, k.weight);
+      small = omega (arith, h.small, k.weight, ap length k.items);
+      few = k.few h.few;
+      starters_few = few;
+      spare_few = enough;
+      lowest_few = lowest;
+      some = some;
+      rooms = rooms;
+      rooms_ahead = ahead;
+    }
 
-      -- the lowest level alone changed
-      pub IsKept-lowest : (levels : List (Slots P Item)) (l l' : Slots P Item) → 0 < length levels → l ≡ get_or levels 0 l → IsSame l l'
-          → IsKept contents stamp before slope base levels (set levels 0 l')
-      IsKept-lowest [] l l' some is same = absurd (omega (arith, some))
-      IsKept-lowest (x ∷ above) l l' some is same =
-          IsKept-rooms (x ∷ above) (l' ∷ above) (subst (λ v. IsSame v l') is same, KeepRooms-refl x above)
+    -- not all memory was given
+    pub IsStack-kept : (starters' : ℕ) → starters ≤ starters' → starters' ≤ 2 → lowest_held new + starters' ≤ 5
+        → IsStack contents kind (record { levels = new; spare = spare; starters = starters' })
+    IsStack-kept starters' more few lowest =
+        stack_of spare starters' few (omega (arith, h.spare_few, more)) lowest (λ s. omega (arith, h.some s, k.some))
+        (λ s light. k.rooms kind h.levels (h.some s) (h.rooms s (omega (arith, light, k.weight))))
+        (λ s light. k.rooms_ahead kind h.levels (h.some (omega (arith, s))) (h.rooms_ahead s (omega (arith, light, k.weight))))
 
-      module _ {old new : List (Slots P Item)} {spare starters : ℕ}
-          (h : IsStack contents stamp before slope base (record { levels = old; spare = spare; starters = starters }))
-          (k : IsKept contents stamp before slope base old new) where
-        stack_of : (spare' starters' : ℕ) → starters' ≤ 2 → spare' ≤ starters' → lowest_held new + starters' ≤ 5 → (1 ≤ spare' → 0 < length new)
-            → (1 ≤ spare' → weight_of new < 2 ^ 31 → HaveRoomsAbove IsDue new) → (2 ≤ spare' → weight_of new < 2 ^ 31 → HaveRoomsAbove IsDueSoon new)
-            → IsStack contents stamp before slope base (record { levels = new; spare = spare'; starters = starters' })
-        stack_of spare' starters' few enough lowest some rooms ahead = record {
-          levels = k.levels h.levels;
-          punctual = k.punctual h.punctual;
-          apart = subst (AllStampsDiffer stamp) (sym k.items) h.apart;
-          light = omega (arith, h.light, k.weight);
-          small = omega (arith, h.small, k.weight, ap length k.items);
-          few = k.few h.few;
-          starters_few = few;
-          spare_few = enough;
-          lowest_few = lowest;
-          some = some;
-          rooms = rooms;
-          rooms_ahead = ahead;
-        }
-
-        -- not all memory was given
-        pub IsStack-kept : (starters' : ℕ) → starters ≤ starters' → starters' ≤ 2 → lowest_held new + starters' ≤ 5
-            → IsStack contents stamp before slope base (record { levels = new; spare = spare; starters = starters' })
-        IsStack-kept starters' more few lowest =
-            stack_of spare starters' few (omega (arith, h.spare_few, more)) lowest (λ s. omega (arith, h.some s, k.some))
-            (λ s light. k.rooms h.levels (h.some s) (h.rooms s (omega (arith, light, k.weight))))
-            (λ s light. k.rooms_ahead h.levels (h.some (omega (arith, s))) (h.rooms_ahead s (omega (arith, light, k.weight))))
-
-        -- two ticks need no more
-        pub IsStack-ready : 0 < length new → lowest_held new + 2 ≤ 5 → (weight_of new < 2 ^ 31 → HaveRoomsAbove IsDueSoon new)
-            → IsStack contents stamp before slope base (record { levels = new; spare = 2; starters = 2 })
-        IsStack-ready some lowest ready =
-            stack_of 2 2 (omega arith) (omega arith) lowest (λ s. some) (λ s light. due_above-from_soon new (ready light)) (λ s light. ready light)
+    -- two ticks need no more
+    pub IsStack-ready : 0 < length new → lowest_held new + 2 ≤ 5 → (weight_of new < 2 ^ 31 → HaveRoomsAbove IsDueSoon new)
+        → IsStack contents kind (record { levels = new; spare = 2; starters = 2 })
+    IsStack-ready some lowest ready =
+        stack_of 2 2 (omega arith) (omega arith) lowest (λ s. some) (λ s light. due_above-from_soon new (ready light)) (λ s light. ready light)

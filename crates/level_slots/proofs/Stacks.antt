@@ -7,6 +7,7 @@ use Rattle.query_laws.specs.Orders.{AllStampsDiffer}
 use Rattle.query_laws.specs.StepLedger.{Counts}
 use Rattle.query_laws.proofs.Permutations.{Permuted-length}
 use Rattle.builder_trait.specs.Parts.{Contents}
+use Rattle.builder_trait.specs.Builders.{PartKind}
 use Rattle.partial_build.specs.Quota.{quota}
 use Rattle.stack_levels.specs.Slots.{Slots, IsPartOf, items_in}
 use Rattle.stack_levels.specs.Levels.{weight_of, all_items, lowest_held}
@@ -17,11 +18,11 @@ use Rattle.stack_levels.specs.Neighbours.{IsPunctual}
 use Rattle.stack_levels.specs.Towers.{IsDue, IsDueSoon, HaveRoomsAbove, AreAllLevels}
 use Rattle.stack_levels.proofs.Spending.{IsWithin-then, quotas-first}
 
-module _ {P Item : Type 0} {contents : P → Contents Item} {stamp : Item → ℕ} {before : ℕ → Item → Item → Bool} {slope base : ℕ} where
-  pub IsStack-empty : IsStack contents stamp before slope base (record { levels = []; spare = 0; starters = 0 })
+module _ {P Item : Type 0} {contents : P → Contents Item} {kind : PartKind Item} where
+  pub IsStack-empty : IsStack contents kind (record { levels = []; spare = 0; starters = 0 })
   IsStack-empty = record {
     levels = tt;
-    punctual = All-nil (IsPunctual slope base);
+    punctual = All-nil (IsPunctual kind.slope kind.base);
     apart = λ i j d below within. absurd (omega (arith, within));
     light = omega arith;
     small = omega arith;
@@ -34,12 +35,12 @@ module _ {P Item : Type 0} {contents : P → Contents Item} {stamp : Item → �
     rooms_ahead = λ two still. absurd (omega (arith, two));
   }
 
-  pub IsStack-ticked : {s s' : Stacked P Item} → IsStack contents stamp before slope base s → AreAllLevels contents stamp before s'.levels
-      → All (IsPunctual slope base) s'.levels → AllStampsDiffer stamp (all_items contents s'.levels)
+  pub IsStack-ticked : {s s' : Stacked P Item} → IsStack contents kind s → AreAllLevels contents kind.stamp kind.before s'.levels
+      → All (IsPunctual kind.slope kind.base) s'.levels → AllStampsDiffer kind.stamp (all_items contents s'.levels)
       → weight_of s.levels ≤ weight_of s'.levels → weight_of s'.levels ≤ 2 ^ 31 → length s'.levels ≡ length s.levels
       → s'.spare + 1 ≡ s.spare → s'.starters ≤ 2 → s'.spare ≤ s'.starters → lowest_held s'.levels + s'.starters ≤ 5
       → length (all_items contents s'.levels) ≤ weight_of s'.levels
-      → (HaveRoomsAbove IsDueSoon s.levels → HaveRoomsAbove IsDue s'.levels) → IsStack contents stamp before slope base s'
+      → (HaveRoomsAbove IsDueSoon s.levels → HaveRoomsAbove IsDue s'.levels) → IsStack contents kind s'
   IsStack-ticked h levels punctual apart heavier light as_many fewer few spare lowest small rooms = record {
     levels = levels;
     punctual = punctual;

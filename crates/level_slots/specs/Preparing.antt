@@ -1,5 +1,6 @@
 -- What a preparation keeps, and what it makes ready.
 use Rattle.std.specs.Prelude.{◌≡◌, ℕ, ◌+◌, ◌*◌, ◌^◌, ◌<◌, ◌≤◌, Bool, true, List, [], ◌∷◌, All, length, nat_le}
+use Rattle.builder_trait.specs.Builders.{PartKind}
 use Rattle.builder_trait.specs.Parts.{Contents}
 use Rattle.stack_levels.specs.Slots.{Slots, ticks_of}
 use Rattle.stack_levels.specs.Levels.{live_items, all_items, weight_of, parts_of}
@@ -56,17 +57,18 @@ module _ {P Item : Type 0} where
   IsBounded k [] n = n ≡ 0
   IsBounded k (l ∷ above) n = n + k * 2 ^ l.level ≤ k * 2 ^ 32
 
-  module _ (contents : P → Contents Item) (stamp : Item → ℕ) (before : ℕ → Item → Item → Bool) (slope base : ℕ) where
-    -- levels hold what they held, and the rooms that were due
+  module _ (contents : P → Contents Item) where
+    -- levels hold what they held, and the rooms that were due, by any kind
     pub record IsKept (old new : List (Slots P Item)) : Type 0 where
       pub live : live_items contents new ≡ live_items contents old
       pub items : all_items contents new ≡ all_items contents old
       pub weight : weight_of new ≡ weight_of old
       pub parts : parts_of new ≡ parts_of old
-      pub levels : AreAllLevels contents stamp before old → AreAllLevels contents stamp before new
-      pub punctual : All (IsPunctual slope base) old → All (IsPunctual slope base) new
+      pub levels : (kind : PartKind Item) → AreAllLevels contents kind.stamp kind.before old → AreAllLevels contents kind.stamp kind.before new
+      pub punctual : (kind : PartKind Item) → All (IsPunctual kind.slope kind.base) old → All (IsPunctual kind.slope kind.base) new
       pub few : length old ≤ 32 → length new ≤ 32
       pub some : length old ≤ length new
-      pub enough : AreAllLevels contents stamp before old → AreEnough old → AreEnough new
-      pub rooms : AreAllLevels contents stamp before old → 0 < length old → HaveRoomsAbove IsDue old → HaveRoomsAbove IsDue new
-      pub rooms_ahead : AreAllLevels contents stamp before old → 0 < length old → HaveRoomsAbove IsDueSoon old → HaveRoomsAbove IsDueSoon new
+      pub enough : (kind : PartKind Item) → AreAllLevels contents kind.stamp kind.before old → AreEnough old → AreEnough new
+      pub rooms : (kind : PartKind Item) → AreAllLevels contents kind.stamp kind.before old → 0 < length old → HaveRoomsAbove IsDue old → HaveRoomsAbove IsDue new
+      pub rooms_ahead : (kind : PartKind Item) → AreAllLevels contents kind.stamp kind.before old → 0 < length old
+          → HaveRoomsAbove IsDueSoon old → HaveRoomsAbove IsDueSoon new

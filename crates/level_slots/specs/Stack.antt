@@ -1,6 +1,7 @@
 -- What contracts see of a stack, and what holds of it between two ticks.
 use Rattle.std.specs.Prelude.{ℕ, ◌+◌, ◌^◌, ◌<◌, ◌≤◌, Bool, List, ◌∷◌, All, length, map, drop}
 use Rattle.query_laws.specs.Orders.{AllStampsDiffer}
+use Rattle.builder_trait.specs.Builders.{PartKind}
 use Rattle.builder_trait.specs.Parts.{Contents}
 use Rattle.stack_levels.specs.Slots.{Slots, held_in}
 use Rattle.stack_levels.specs.Levels.{weight_of, all_items, lowest_held, held_of}
@@ -22,11 +23,11 @@ module _ {P Item : Type 0} where
   abbrev pub held_by_level : Stacked P Item → List ℕ
   held_by_level s = (s.starters + lowest_held s.levels) ∷ drop 1 (map held_in s.levels)
 
-  module _ (contents : P → Contents Item) (stamp : Item → ℕ) (before : ℕ → Item → Item → Bool) where
-    pub record IsStack (slope base : ℕ) (s : Stacked P Item) : Type 0 where
-      pub levels : AreAllLevels contents stamp before s.levels
-      pub punctual : All (IsPunctual slope base) s.levels
-      pub apart : AllStampsDiffer stamp (all_items contents s.levels)
+  module _ (contents : P → Contents Item) (kind : PartKind Item) where
+    pub record IsStack (s : Stacked P Item) : Type 0 where
+      pub levels : AreAllLevels contents kind.stamp kind.before s.levels
+      pub punctual : All (IsPunctual kind.slope kind.base) s.levels
+      pub apart : AllStampsDiffer kind.stamp (all_items contents s.levels)
       pub light : weight_of s.levels ≤ 2 ^ 31
       pub small : length (all_items contents s.levels) ≤ weight_of s.levels
       pub few : length s.levels ≤ 32

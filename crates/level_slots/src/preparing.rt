@@ -31,7 +31,7 @@ pub(crate) fn take_memory<B: Builder>(
     requires begun { All (λ b. B.progress b ≡ begun 0) starters.old.items }
     requires few_starters { length starters.old.items ≤ 2 }
     requires lowest { lowest_held levels.old.items + length starters.old.items ≤ 5 }
-    ensures kept { IsKept B.Part.Part.contents B.Item.stamp B.Item.before B.SLOPE B.BASE levels.old.items levels.new.items }
+    ensures kept { IsKept B.Part.Part.contents levels.old.items levels.new.items }
     ensures lowest { lowest_held levels.new.items + length starters.new.items ≤ 5 }
     ensures no_less { held_of levels.old.items + length starters.old.items ≤ held_of levels.new.items + length starters.new.items }
     ensures begun { All (λ b. B.progress b ≡ begun 0) starters.new.items }
@@ -59,7 +59,7 @@ fn fill_levels<B: Builder>(
     requires begun { All (λ b. B.progress b ≡ begun 0) starters.old.items }
     requires few_starters { length starters.old.items ≤ 2 }
     requires lowest { lowest_held levels.old + length starters.old.items ≤ 5 }
-    ensures kept { IsKept B.Part.Part.contents B.Item.stamp B.Item.before B.SLOPE B.BASE levels.old levels.new }
+    ensures kept { IsKept B.Part.Part.contents levels.old levels.new }
     ensures lowest { lowest_held levels.new + length starters.new.items ≤ 5 }
     ensures no_less { held_of levels.old + length starters.old.items ≤ held_of levels.new + length starters.new.items }
     ensures begun { All (λ b. B.progress b ≡ begun 0) starters.new.items }
@@ -79,7 +79,7 @@ fn fill_levels<B: Builder>(
 fn add_levels<B: Builder>(levels: &mut Vec<Level<B>>, alloc: Global) -> Result<(), NoMemory>
     requires levels { AreAllLevels B.Part.Part.contents B.Item.stamp B.Item.before levels.old.items }
     requires few { length levels.old.items ≤ 32 }
-    ensures kept { IsKept B.Part.Part.contents B.Item.stamp B.Item.before B.SLOPE B.BASE levels.old.items levels.new.items }
+    ensures kept { IsKept B.Part.Part.contents levels.old.items levels.new.items }
     ensures some { IfOk result (λ _. 0 < length levels.new.items) }
     ensures enough { IfOk result (λ _. weight_of levels.new.items < 2 ^ 31 → AreEnough levels.new.items) }
     ensures held { held_of levels.new.items ≡ held_of levels.old.items }
@@ -111,7 +111,7 @@ fn is_short<B: Builder>(levels: &[Level<B>]) -> bool
 fn add_level<B: Builder>(levels: &mut Vec<Level<B>>, alloc: Global) -> Result<(), NoMemory>
     requires levels { AreAllLevels B.Part.Part.contents B.Item.stamp B.Item.before levels.old.items }
     requires few { length levels.old.items < 32 }
-    ensures kept { IsKept B.Part.Part.contents B.Item.stamp B.Item.before B.SLOPE B.BASE levels.old.items levels.new.items }
+    ensures kept { IsKept B.Part.Part.contents levels.old.items levels.new.items }
     ensures more { IfOk result (λ _. length levels.new.items ≡ length levels.old.items + 1) }
     ensures held { held_of levels.new.items ≡ held_of levels.old.items }
     ensures lowest { lowest_held levels.new.items ≡ lowest_held levels.old.items }
@@ -137,7 +137,7 @@ fn add_starters<B: Builder>(
     requires lowest { lowest_held levels.old + length starters.old.items ≤ 5 }
     ensures lowest { lowest_held levels.new + length starters.new.items ≤ 5 }
     ensures no_less { held_of levels.old + length starters.old.items ≤ held_of levels.new + length starters.new.items }
-    ensures kept { IsKept B.Part.Part.contents B.Item.stamp B.Item.before B.SLOPE B.BASE levels.old levels.new }
+    ensures kept { IsKept B.Part.Part.contents levels.old levels.new }
     ensures begun { All (λ b. B.progress b ≡ begun 0) starters.new.items }
     ensures few { length starters.new.items ≤ 2 }
     ensures more { length starters.old.items ≤ length starters.new.items }
@@ -160,7 +160,7 @@ fn add_starter<B: Builder>(
     requires begun { All (λ b. B.progress b ≡ begun 0) starters.old.items }
     requires few { length starters.old.items < 2 }
     requires lowest { lowest_held levels.old + length starters.old.items ≤ 5 }
-    ensures kept { IsKept B.Part.Part.contents B.Item.stamp B.Item.before B.SLOPE B.BASE levels.old levels.new }
+    ensures kept { IsKept B.Part.Part.contents levels.old levels.new }
     ensures lowest { lowest_held levels.new + length starters.new.items ≤ 5 }
     ensures no_less { held_of levels.old + length starters.old.items ≤ held_of levels.new + length starters.new.items }
     ensures begun { All (λ b. B.progress b ≡ begun 0) starters.new.items }
@@ -178,7 +178,7 @@ fn take_starter<B: Builder>(levels: &mut [Level<B>], alloc: Global) -> Result<B,
     requires some { 0 < length levels.old }
     requires levels { AreAllLevels B.Part.Part.contents B.Item.stamp B.Item.before levels.old }
     ensures begun { IfOk result (λ builder. B.progress builder ≡ begun 0) }
-    ensures kept { IsKept B.Part.Part.contents B.Item.stamp B.Item.before B.SLOPE B.BASE levels.old levels.new }
+    ensures kept { IsKept B.Part.Part.contents levels.old levels.new }
 
     // Below any bound that held there, of four or more, there is a place for the builder.
     ensures lowest { (most : ℕ) → 4 ≤ most → lowest_held levels.old ≤ most → lowest_held levels.new + 1 ≤ most }
@@ -196,7 +196,7 @@ fn take_starter<B: Builder>(levels: &mut [Level<B>], alloc: Global) -> Result<B,
 /// `NoMemory` where memory for a room isn't given; no room that is due soon was given back then.
 fn forecast_rooms<B: Builder>(levels: &mut [Level<B>], alloc: Global) -> Result<(), NoMemory>
     requires { AreAllLevels B.Part.Part.contents B.Item.stamp B.Item.before levels.old }
-    ensures kept { IsKept B.Part.Part.contents B.Item.stamp B.Item.before B.SLOPE B.BASE levels.old levels.new }
+    ensures kept { IsKept B.Part.Part.contents levels.old levels.new }
     ensures ready { IfOk result (λ _. AreEnough levels.new → HaveRoomsAbove IsDueSoon levels.new) }
     ensures few { IfOk result (λ _. rooms_in levels.new ≤ forecast_of levels.new) }
     ensures no_less { held_of levels.old ≤ held_of levels.new }

@@ -105,7 +105,7 @@ pub(crate) fn keep<B: Builder>(levels: &mut Vec<Level<B>>, number: u32, builder:
     requires begun { B.progress builder ≡ begun number }
     requires few { reserved ≤ 2 }
     requires lowest { lowest_held levels.old.items + reserved ≤ 5 }
-    ensures kept { IsKept B.Part.Part.contents B.Item.stamp B.Item.before B.SLOPE B.BASE levels.old.items levels.new.items }
+    ensures kept { IsKept B.Part.Part.contents levels.old.items levels.new.items }
     ensures lowest { lowest_held levels.new.items + reserved ≤ 5 }
     ensures no_less { held_of levels.old.items ≤ held_of levels.new.items }
     ensures no_more { held_of levels.new.items ≤ held_of levels.old.items + 1 }

@@ -2,9 +2,8 @@
 ghost use Rattle.std.specs.Prelude.{◌≡◌, ◌≢◌, ℕ, ◌+◌, ◌-◌, ◌*◌, ◌^◌, ◌<◌, ◌≤◌, true, false, [], ◌∷◌, All, Contains, IsTrue, IfOk, IsErr, OnOk, OnErr, length};
 ghost use Rattle.query_laws.specs.Permuted.{Permuted};
 ghost use Rattle.query_laws.specs.StepLedger.{Spends};
-ghost use Rattle.builder_trait.specs.Parts.{without};
+ghost use Rattle.builder_trait.specs.Parts.{without, live_of};
 ghost use Rattle.builder_trait.specs.Builders.{begun};
-ghost use Rattle.partial_build.specs.Construction.{live_of};
 ghost use Rattle.partial_build.specs.Quota.{quota};
 ghost use Rattle.stack_levels.specs.Slots.{IsPartOf, held_in};
 ghost use Rattle.stack_levels.specs.Levels.{live_items, all_items, weight_of, parts_of, asked, touches_of};
@@ -51,7 +50,7 @@ impl<B: Builder> Model for Stack<B> {
     ghost view = { λ s. record { levels = s.levels.items; spare = s.spare; starters = length s.starters.items } };
 
     ghost invariant = { λ s.
-        IsStack B.Part.Part.contents B.Item.stamp B.Item.before B.SLOPE B.BASE
+        IsStack B.Part.Part.contents (record { stamp = B.Item.stamp; before = B.Item.before; slope = B.SLOPE; base = B.BASE })
         (record { levels = s.levels.items; spare = s.spare; starters = length s.starters.items })
         × (s.weight ≡ weight_of s.levels.items)
         × (s.live ≡ length (live_items B.Part.Part.contents s.levels.items))

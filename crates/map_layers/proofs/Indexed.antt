@@ -5,8 +5,7 @@ use Rattle.std.specs.Option.{is_some}
 use Rattle.std.proofs.lemmas.Bool.{cases_lt}
 use Rattle.std.proofs.lemmas.List.{length-append}
 use Rattle.query_laws.specs.StepLedger.{Counts}
-use Rattle.builder_trait.specs.Parts.{Contents}
-use Rattle.partial_build.specs.Construction.{live_of}
+use Rattle.builder_trait.specs.Parts.{Contents, live_of}
 use Rattle.stack_levels.specs.Slots.{Slots, live_in}
 use Rattle.stack_levels.specs.Levels.{parts_of, live_items}
 use Rattle.stack_levels.specs.Cost.{IsWithin}

@@ -9,9 +9,8 @@ use Rattle.std.proofs.lemmas.List.{length-map}
 use Rattle.std.proofs.lemmas.List.Sums.{sum_by-cons}
 use Rattle.query_laws.proofs.Permutations.{Permuted-filter, Permuted-length}
 use Rattle.query_laws.specs.StepLedger.{Counts, Spends, lap_of}
-use Rattle.builder_trait.specs.Parts.{Contents}
+use Rattle.builder_trait.specs.Parts.{Contents, live_of}
 use Rattle.id_chain.specs.Chain.{Entry}
-use Rattle.partial_build.specs.Construction.{live_of}
 use Rattle.stack_levels.specs.Slots.{Slots, live_in}
 use Rattle.stack_levels.specs.Levels.{parts_of, live_items, touches_of}
 use Rattle.level_slots.specs.Height.{HaveAtMost}

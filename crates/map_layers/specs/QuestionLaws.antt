@@ -3,9 +3,8 @@ use Rattle.std.proofs.Common.{◌≡◌, ℕ, ◌+◌, ◌*◌, ◌^◌, ◌<◌
 use Rattle.std.specs.Prelude.{count_by, sum_by, nat_le}
 use Rattle.std.proofs.lemmas.Grind.{common_steps}
 use Rattle.std.proofs.lemmas.List.{length-map}
-use Rattle.builder_trait.specs.Parts.{Contents}
+use Rattle.builder_trait.specs.Parts.{Contents, live_of}
 use Rattle.id_chain.specs.Chain.{Entry}
-use Rattle.partial_build.specs.Construction.{live_of}
 use Rattle.stack_levels.proofs.Publishing.{higher}
 use Rattle.row_blocks.specs.Heights.{height_of, IsLeastHeight-height_of}
 use Rattle.range_tree.specs.Costs.{count_touches, list_touches, mark_touches-rise}

@@ -1,9 +1,8 @@
 //! The questions of the map that an index for rectangles answers.
 ghost use Rattle.std.specs.Prelude.{◌≡◌, ℕ, ◌+◌, ◌*◌, ◌<◌, ◌≤◌, ◌^◌, Bool, false, List, length, filter, map};
 ghost use Rattle.std.proofs.Common.{refl, ap};
-ghost use Rattle.builder_trait.specs.Parts.{Contents};
+ghost use Rattle.builder_trait.specs.Parts.{Contents, live_of};
 ghost use Rattle.id_chain.specs.Chain.{Entry};
-ghost use Rattle.partial_build.specs.Construction.{live_of};
 ghost use Rattle.map_model.specs.Answer as answers;
 ghost use Rattle.map_model.specs.Command.{lists_ids};
 ghost use Rattle.map_model.specs.Index.{Range};

@@ -1,17 +1,12 @@
 //! A point as an item of an index.
-ghost use Rattle.std.specs.Prelude.{refl};
 ghost use Rattle.query_laws.specs.Orders.{before_in};
 ghost use Rattle.query_laws.specs.OrderLaws.{IsStrictTotalOrder-before_in};
 
 use crate::Point;
-use query_laws::{Item, Named};
+use query_laws::{Item, Named, Order};
 
-/// Order 0 is by `x`, `y` and the stamp, and order 1 by `y`, `x` and the stamp.
+/// The first order is by `x`, `y` and the stamp, and the second order by `y`, `x` and the stamp.
 impl Item for Point {
-    const ORDERS: usize = 2;
-
-    ghost ORDERS = { 2 };
-
     ghost stamp = { λ p. p.stamp };
 
     ghost before = { before_in (λ p. p.x) (λ p. p.y) (λ p. p.stamp) };
@@ -20,22 +15,19 @@ impl Item for Point {
         self.stamp
     }
 
-    fn before(&self, order: usize, other: &Self) -> bool {
+    fn before(&self, order: Order, other: &Self) -> bool {
         let by_x = self.x < other.x;
         let by_y = self.y < other.y;
         let by_stamp = self.stamp < other.stamp;
         let same_x = self.x == other.x;
         let same_y = self.y == other.y;
-        if order == 0 {
-            by_x || (same_x && (by_y || (same_y && by_stamp)))
-        } else {
-            by_y || (same_y && (by_x || (same_x && by_stamp)))
+        match order {
+            Order::First => by_x || (same_x && (by_y || (same_y && by_stamp))),
+            Order::Second => by_y || (same_y && (by_x || (same_x && by_stamp))),
         }
     }
 
-    ghost two_orders = { refl };
-
-    ghost ordered = { λ order below. IsStrictTotalOrder-before_in (λ p. p.x) (λ p. p.y) (λ p. p.stamp) order };
+    ghost ordered = { λ order. IsStrictTotalOrder-before_in (λ p. p.x) (λ p. p.y) (λ p. p.stamp) order };
 }
 
 impl Named for Point {

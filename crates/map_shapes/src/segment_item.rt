@@ -1,17 +1,12 @@
 //! A segment as an item of an index.
-ghost use Rattle.std.specs.Prelude.{refl};
 ghost use Rattle.query_laws.specs.Orders.{before_in};
 ghost use Rattle.query_laws.specs.OrderLaws.{IsStrictTotalOrder-before_in};
 
 use crate::Segment;
-use query_laws::{Item, Named};
+use query_laws::{Item, Named, Order};
 
-/// Order 0 is by `lo`, `hi` and the stamp, and order 1 by `hi`, `lo` and the stamp.
+/// The first order is by `lo`, `hi` and the stamp, and the second order by `hi`, `lo` and the stamp.
 impl Item for Segment {
-    const ORDERS: usize = 2;
-
-    ghost ORDERS = { 2 };
-
     ghost stamp = { λ s. s.stamp };
 
     ghost before = { before_in (λ s. s.lo) (λ s. s.hi) (λ s. s.stamp) };
@@ -20,22 +15,19 @@ impl Item for Segment {
         self.stamp
     }
 
-    fn before(&self, order: usize, other: &Self) -> bool {
+    fn before(&self, order: Order, other: &Self) -> bool {
         let by_lo = self.lo < other.lo;
         let by_hi = self.hi < other.hi;
         let by_stamp = self.stamp < other.stamp;
         let same_lo = self.lo == other.lo;
         let same_hi = self.hi == other.hi;
-        if order == 0 {
-            by_lo || (same_lo && (by_hi || (same_hi && by_stamp)))
-        } else {
-            by_hi || (same_hi && (by_lo || (same_lo && by_stamp)))
+        match order {
+            Order::First => by_lo || (same_lo && (by_hi || (same_hi && by_stamp))),
+            Order::Second => by_hi || (same_hi && (by_lo || (same_lo && by_stamp))),
         }
     }
 
-    ghost two_orders = { refl };
-
-    ghost ordered = { λ order below. IsStrictTotalOrder-before_in (λ s. s.lo) (λ s. s.hi) (λ s. s.stamp) order };
+    ghost ordered = { λ order. IsStrictTotalOrder-before_in (λ s. s.lo) (λ s. s.hi) (λ s. s.stamp) order };
 }
 
 impl Named for Segment {

@@ -1,5 +1,5 @@
 -- Two rising lists that are read in order: what stands before what, and what is put of them.
-use Rattle.std.proofs.Common.{◌≡◌, ℕ, ◌+◌, ◌<◌, ◌≤◌, Bool, true, false, not, IsTrue, List, [], ◌∷◌, ◌++◌, length, take, get_or, refl, sym, ap, ◌∙◌, arith, subst, append_assoc, Some, slice_get, All, ⊎_elim, ◌==◌, if◌then◌else◌, Option, ◌↔◌}
+use Rattle.std.proofs.Common.{◌≡◌, ℕ, ◌+◌, ◌<◌, ◌≤◌, Bool, true, false, not, IsTrue, List, [], ◌∷◌, ◌++◌, length, take, get_or, refl, sym, ap, ◌∙◌, arith, subst, append_assoc, Some, slice_get, All, ⊎_elim, Option, ◌↔◌}
 use Rattle.std.proofs.lemmas.Bool.{cases_lt}
 use Rattle.std.proofs.lemmas.Option.{slice_get-get_or, slice_get_within, get_or_from_slice_get, same_Some}
 use Rattle.std.proofs.lemmas.List.{get_or-take, length-take}
@@ -8,6 +8,8 @@ use Rattle.std.proofs.lemmas.List.Quantifiers.{all_pairs_push}
 use Rattle.query_laws.specs.Orders.{IsStrictTotalOrder}
 use Rattle.query_laws.specs.Permuted.{Permuted, nothing, same_head, swapped_heads, composed}
 use Rattle.query_laws.proofs.Permutations.{Permuted-sym, Permuted-append_left, Permuted-append_right, Permuted-append_comm}
+use Rattle.query_laws.specs.declared.item.Order.{Order}
+use Rattle.query_laws.specs.declared.item.Order.TheVariants.{First, Second}
 use Rattle.builder_trait.specs.Parts.{Contents, IsPart, IsRising, in_order}
 use Rattle.builder_trait.proofs.RebuildingLemmas.{length-reordered}
 use Rattle.builder_trait.specs.Builders.{IsAfter}
@@ -137,13 +139,10 @@ pub IsNext-past : {Item : Type 0} {before : Item → Item → Bool} (j : ℕ) (y
 IsNext-past j ys i xs x at past = record { here = at; earlier = λ y there. absurd (omega (arith, slice_get_within xs i y there)) }
 
 -- both orders are as long as one another
-pub length-in_order : {Item : Type 0} {before : ℕ → Item → Item → Bool} (part : Contents Item) (order : ℕ) → IsPart before part
+pub length-in_order : {Item : Type 0} {before : Order → Item → Item → Bool} (part : Contents Item) (order : Order) → IsPart before part
     → length (in_order order part) ≡ length part.items
-length-in_order {Item} part order valid = by (order == 0)
-  where
-    by : (b : Bool) → length (if b then part.items else part.reordered) ≡ length part.items
-    by true = refl
-    by false = length-reordered valid
+length-in_order part First valid = refl
+length-in_order part Second valid = length-reordered valid
 
 -- of the items of a list those below a place are passed, and no other
 pub Passed-at : {Item : Type 0} (before : Item → Item → Bool) (reached : Option Item) {i : ℕ} (xs : List Item) → PassedBelow before reached i xs

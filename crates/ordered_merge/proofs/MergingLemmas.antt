@@ -7,6 +7,8 @@ use Rattle.std.proofs.lemmas.List.{length_push, map-append, nil_from_length}
 use Rattle.query_laws.specs.Orders.{IsStrictTotalOrder}
 use Rattle.query_laws.specs.Permuted.{nothing}
 use Rattle.query_laws.proofs.Permutations.{Permuted-length}
+use Rattle.query_laws.specs.declared.item.Order.{Order}
+use Rattle.query_laws.specs.declared.item.Order.TheVariants.{First, Second}
 use Rattle.builder_trait.specs.Parts.{Contents, IsPart, marked}
 use Rattle.builder_trait.specs.Builders.{Progress, begun, FitsFirst, FitsSecond, with_put}
 use Rattle.builder_trait.specs.Rebuilding.{live_before, live_reordered_before, flags_reordered}
@@ -26,7 +28,7 @@ read_a live x m = record m {
   left = m.left - 1;
 }
 
--- one item more of a in order 1
+-- one item more of a in the second order
 abbrev pub reread_a : {Item : Type 0} → Merging Item → Merging Item
 reread_a m = record m { a = record { table = m.a.table; reread = m.a.reread + 1 }; left = m.left - 1 }
 
@@ -80,7 +82,7 @@ pub HasRead-swap : {Item : Type 0} {n : ℕ} {m new : Merging Item} {part other 
     → HasRead n m new part other b fresh → HasRead n (swapped m) (swapped new) other part b fresh
 HasRead-swap h = record { left = h.left; capacity = h.capacity; taken = h.other_taken; other_taken = h.taken; level = h.level }
 
--- nothing is taken in order 1
+-- nothing is taken in the second order
 pub HasRead-reread : {Item : Type 0} {n capacity left : ℕ} (m : Merging Item) {reread other_reread : ℕ} {part other : Contents Item} {b fresh : Progress Item}
     → capacity ≡ m.capacity → left + n ≡ m.left → fresh.at_level ≡ b.at_level
     → HasRead n m (record m {
@@ -97,7 +99,7 @@ HasRead-reread m as_wide left level = record {
   level = level;
 }
 
-module _ {Item : Type 0} {stamp : Item → ℕ} {before : ℕ → Item → Item → Bool} where
+module _ {Item : Type 0} {stamp : Item → ℕ} {before : Order → Item → Item → Bool} where
   -- what contracts see of it, as the fields are
   pub Merges-of : {m seen : Merging Item} {part other : Contents Item} {b : Progress Item} → m ≡ seen → Merges stamp before seen part other b
       → Merges stamp before m part other b
@@ -111,8 +113,8 @@ module _ {Item : Type 0} {stamp : Item → ℕ} {before : ℕ → Item → Item 
     unsealed = refl;
     to_go = omega arith;
     taking = record {
-      front = none_read (before 0) part.items other.items;
-      put = none_put (before 0);
+      front = none_read (before First) part.items other.items;
+      put = none_put (before First);
       new_places = λ k n at. absurd cc;
       other_new_places = λ k n at. absurd cc;
       counted = refl;
@@ -120,9 +122,9 @@ module _ {Item : Type 0} {stamp : Item → ℕ} {before : ℕ → Item → Item 
       other_passed = λ k x at. (λ below. absurd (omega arith), λ from. refl);
     };
     retaking = record {
-      front = none_read (before 1) part.reordered other.reordered;
+      front = none_read (before Second) part.reordered other.reordered;
       in_turn = λ some. absurd (omega arith);
-      put = none_put (before 1);
+      put = none_put (before Second);
       placed = refl;
     };
   }
@@ -200,8 +202,8 @@ module _ {Item : Type 0} {stamp : Item → ℕ} {before : ℕ → Item → Item 
         )
 
   module _ {m : Merging Item} {part other : Contents Item} {b : Progress Item} (h : Merges stamp before m part other b)
-      (order : IsStrictTotalOrder stamp (before 0)) (valid : IsPart before part) (other_valid : IsPart before other)
-      (x : Item) (next : IsNext (before 0) (length m.a.table) part.items (length m.b.table) other.items x) where
+      (order : IsStrictTotalOrder stamp (before First)) (valid : IsPart before part) (other_valid : IsPart before other)
+      (x : Item) (next : IsNext (before First) (length m.a.table) part.items (length m.b.table) other.items x) where
     unfinished : m.a.reread + m.b.reread ≡ 0
     unfinished = by (m.a.reread + m.b.reread) refl
       where
@@ -229,8 +231,8 @@ module _ {Item : Type 0} {stamp : Item → ℕ} {before : ℕ → Item → Item 
     none_placed : b.places ≡ []
     none_placed = nil_from_length b.places (length-placed b.items b.reordered b.places h.retaking.placed ∙ ap length none_reordered)
 
-    -- the next item of order 0 may be put
-    pub FitsFirst-next : FitsFirst (before 0) b x m.taken
+    -- the next item of the first order may be put
+    pub FitsFirst-next : FitsFirst (before First) b x m.taken
     FitsFirst-next = record {
       room = omega (
         arith,
@@ -246,14 +248,14 @@ module _ {Item : Type 0} {stamp : Item → ℕ} {before : ℕ → Item → Item 
     }
 
     -- what does not depend on whether it is live
-    front_more : (e : Option ℕ) → IsFront (before 0) (length (m.a.table ++ e ∷ [])) part.items (length m.b.table) other.items
+    front_more : (e : Option ℕ) → IsFront (before First) (length (m.a.table ++ e ∷ [])) part.items (length m.b.table) other.items
     front_more e =
-        subst (λ n. IsFront (before 0) n part.items (length m.b.table) other.items) (sym (length_push m.a.table e))
+        subst (λ n. IsFront (before First) n part.items (length m.b.table) other.items) (sym (length_push m.a.table e))
         (IsFront-more order valid.rising other_valid.rising h.taking.front next)
 
-    passed_more : (e : Option ℕ) → PassedBelow (before 0) (Some x) (length (m.a.table ++ e ∷ [])) part.items
+    passed_more : (e : Option ℕ) → PassedBelow (before First) (Some x) (length (m.a.table ++ e ∷ [])) part.items
     passed_more e =
-        subst (λ n. PassedBelow (before 0) (Some x) n part.items) (sym (length_push m.a.table e))
+        subst (λ n. PassedBelow (before First) (Some x) n part.items) (sym (length_push m.a.table e))
         (PassedBelow-read order valid.rising other_valid.rising h.taking.front next)
 
     to_go_more : (e : Option ℕ) → m.left - 1 + (length (m.a.table ++ e ∷ []) + length m.b.table + (m.a.reread + m.b.reread))
@@ -262,25 +264,25 @@ module _ {Item : Type 0} {stamp : Item → ℕ} {before : ℕ → Item → Item 
         omega (arith, h.to_go, unfinished, length_push m.a.table e, slice_get_within part.items (length m.a.table) x next.here, h.taking.front.within_other)
 
     retaking_same : (e : Option ℕ) (items : List Item) → map (slice_get items) b.places ≡ map Some b.reordered
-        → HasRetaken (before 1) (record { table = m.a.table ++ e ∷ []; reread = m.a.reread }) m.b part other (record b { items = items })
+        → HasRetaken (before Second) (record { table = m.a.table ++ e ∷ []; reread = m.a.reread }) m.b part other (record b { items = items })
     retaking_same e items placed = record {
       front = h.retaking.front;
       in_turn = λ some. absurd (omega (arith, unfinished));
-      put = subst (λ l. IsMerged (before 1) b.reordered l (live_reordered_before m.b.reread (chosen m.b.table other)))
+      put = subst (λ l. IsMerged (before Second) b.reordered l (live_reordered_before m.b.reread (chosen m.b.table other)))
           (reread_none m.a.reread (chosen m.a.table part) (chosen (m.a.table ++ e ∷ []) part) (omega (arith, unfinished)))
           h.retaking.put;
       placed = placed;
     }
 
     -- the item is put, and has its new place
-    Merges-taken : Merges stamp before (read_a true x m) part other (with_put 0 x m.taken b)
+    Merges-taken : Merges stamp before (read_a true x m) part other (with_put First x m.taken b)
     Merges-taken = record {
       sources = h.sources;
       unsealed = h.unsealed;
       to_go = to_go_more (Some m.taken);
       taking = record {
         front = front_more (Some m.taken);
-        put = subst (λ l. IsMerged (before 0) (b.items ++ x ∷ []) l (live_before (length m.b.table) (chosen m.b.table other)))
+        put = subst (λ l. IsMerged (before First) (b.items ++ x ∷ []) l (live_before (length m.b.table) (chosen m.b.table other)))
             (sym (live_before-taken m.a.table (Some m.taken) part x refl next.here))
             (IsMerged-more h.taking.put x FitsFirst-next.after);
         new_places = subst (λ n. HasNewPlaces (m.a.table ++ Some n ∷ []) part.items (b.items ++ x ∷ [])) (sym h.taking.counted)
@@ -302,7 +304,7 @@ module _ {Item : Type 0} {stamp : Item → ℕ} {before : ℕ → Item → Item 
       to_go = to_go_more None;
       taking = record {
         front = front_more None;
-        put = subst (λ l. IsMerged (before 0) b.items l (live_before (length m.b.table) (chosen m.b.table other)))
+        put = subst (λ l. IsMerged (before First) b.items l (live_before (length m.b.table) (chosen m.b.table other)))
             (sym (live_before-skipped m.a.table None part refl)) h.taking.put;
         new_places = HasNewPlaces-skipped m.a.table part.items b.items h.taking.front.within h.taking.new_places;
         other_new_places = h.taking.other_new_places;
@@ -313,15 +315,15 @@ module _ {Item : Type 0} {stamp : Item → ℕ} {before : ℕ → Item → Item 
       retaking = retaking_same None b.items h.retaking.placed;
     }
 
-    -- a turn in order 0, at an item of a
-    pub Merges-read : (live : Bool) → Merges stamp before (read_a live x m) part other (if live then with_put 0 x m.taken b else b)
+    -- a turn in the first order, at an item of a
+    pub Merges-read : (live : Bool) → Merges stamp before (read_a live x m) part other (if live then with_put First x m.taken b else b)
     Merges-read true = Merges-taken
     Merges-read false = Merges-skipped
 
     -- the same, as the fields are written
     pub Merges-written : (live : Bool) (room : ℕ) (table : List (Option ℕ)) (n : ℕ) (fresh : Progress Item)
         → room ≡ m.capacity → table ≡ m.a.table ++ new_place live m.taken ∷ [] → n ≡ (if live then m.taken + 1 else m.taken)
-        → fresh ≡ (if live then with_put 0 x m.taken b else b) → Merges stamp before (written_a room table n x m) part other fresh
+        → fresh ≡ (if live then with_put First x m.taken b else b) → Merges stamp before (written_a room table n x m) part other fresh
     Merges-written live room table n fresh as_wide noted counted put =
         subst (λ p. Merges stamp before (written_a room table n x m) part other p) (sym put)
         (Merges-of
@@ -330,10 +332,10 @@ module _ {Item : Type 0} {stamp : Item → ℕ} {before : ℕ → Item → Item 
         (Merges-read live))
 
   module _ {m : Merging Item} {part other : Contents Item} {b : Progress Item} (h : Merges stamp before m part other b)
-      (order : IsStrictTotalOrder stamp (before 1)) (valid : IsPart before part) (other_valid : IsPart before other)
+      (order : IsStrictTotalOrder stamp (before Second)) (valid : IsPart before part) (other_valid : IsPart before other)
       (full : length m.a.table + length m.b.table ≡ length part.items + length other.items)
-      (x : Item) (next : IsNext (before 1) m.a.reread part.reordered m.b.reread other.reordered x) where
-    -- where order 0 has read all, the table speaks of the item's place
+      (x : Item) (next : IsNext (before Second) m.a.reread part.reordered m.b.reread other.reordered x) where
+    -- where the first order has read all, the table speaks of the item's place
     full_a : length m.a.table ≡ length part.items
     full_a = omega (arith, full, h.taking.front.within, h.taking.front.within_other)
 
@@ -347,8 +349,8 @@ module _ {Item : Type 0} {stamp : Item → ℕ} {before : ℕ → Item → Item 
         → slice_get (map is_some m.a.table) (slice_index part.places m.a.reread) ≡ Some (is_some e)
     chosen_at e at = slice_get-map is_some m.a.table (slice_index part.places m.a.reread) ∙ ap (option_map is_some) at
 
-    -- the item that order 0 took may be put, with its new place
-    pub FitsSecond-next : (n : ℕ) → slice_get m.a.table (slice_index part.places m.a.reread) ≡ Some (Some n) → FitsSecond (before 1) b x n
+    -- the item that the first order took may be put, with its new place
+    pub FitsSecond-next : (n : ℕ) → slice_get m.a.table (slice_index part.places m.a.reread) ≡ Some (Some n) → FitsSecond (before Second) b x n
     FitsSecond-next n at = record {
       at_place = h.taking.new_places (slice_index part.places m.a.reread) n at ∙ placed-at valid m.a.reread x next.here;
       after = IsAfter-merged order valid.rising_reordered other_valid.rising_reordered h.retaking.front next
@@ -356,7 +358,7 @@ module _ {Item : Type 0} {stamp : Item → ℕ} {before : ℕ → Item → Item 
     }
 
     Merges-reread_to : (fresh : Progress Item) → fresh.items ≡ b.items → fresh.at_level ≡ b.at_level → fresh.is_sealed ≡ b.is_sealed
-        → IsMerged (before 1) fresh.reordered (live_reordered_before (m.a.reread + 1) (chosen m.a.table part))
+        → IsMerged (before Second) fresh.reordered (live_reordered_before (m.a.reread + 1) (chosen m.a.table part))
         (live_reordered_before m.b.reread (chosen m.b.table other))
         → map (slice_get fresh.items) fresh.places ≡ map Some fresh.reordered
         → Merges stamp before (reread_a m) part other fresh
@@ -364,7 +366,7 @@ module _ {Item : Type 0} {stamp : Item → ℕ} {before : ℕ → Item → Item 
       sources = subst (λ n. AreSources stamp m.capacity n part.items other.items) (sym level) h.sources;
       unsealed = sealed ∙ h.unsealed;
       to_go = omega (arith, h.to_go, full, reread_below, h.retaking.front.within_other, length-reordered other_valid);
-      taking = subst (λ l. HasTaken (before 0) m.a.table m.b.table m.taken m.reached part.items other.items l) (sym items) h.taking;
+      taking = subst (λ l. HasTaken (before First) m.a.table m.b.table m.taken m.reached part.items other.items l) (sym items) h.taking;
       retaking = record {
         front = IsFront-more order valid.rising_reordered other_valid.rising_reordered h.retaking.front next;
         in_turn = λ some. full;
@@ -374,10 +376,10 @@ module _ {Item : Type 0} {stamp : Item → ℕ} {before : ℕ → Item → Item 
     }
 
     Merges-retaken : (n : ℕ) → slice_get m.a.table (slice_index part.places m.a.reread) ≡ Some (Some n)
-        → Merges stamp before (reread_a m) part other (with_put 1 x n b)
+        → Merges stamp before (reread_a m) part other (with_put Second x n b)
     Merges-retaken n at =
-        Merges-reread_to (with_put 1 x n b) refl refl refl
-        (subst (λ l. IsMerged (before 1) (b.reordered ++ x ∷ []) l (live_reordered_before m.b.reread (chosen m.b.table other)))
+        Merges-reread_to (with_put Second x n b) refl refl refl
+        (subst (λ l. IsMerged (before Second) (b.reordered ++ x ∷ []) l (live_reordered_before m.b.reread (chosen m.b.table other)))
         (sym (live_reordered-more (IsPart-chosen m.a.table valid full_a) m.a.reread x reread_below (chosen_at (Some n) at) next.here))
         (IsMerged-more h.retaking.put x (FitsSecond-next n at).after))
         (map-append (slice_get b.items) b.places (n ∷ []) ∙ ap (λ l. l ++ slice_get b.items n ∷ []) h.retaking.placed
@@ -386,14 +388,14 @@ module _ {Item : Type 0} {stamp : Item → ℕ} {before : ℕ → Item → Item 
     Merges-reskipped : slice_get m.a.table (slice_index part.places m.a.reread) ≡ Some None → Merges stamp before (reread_a m) part other b
     Merges-reskipped at =
         Merges-reread_to b refl refl refl
-        (subst (λ l. IsMerged (before 1) b.reordered l (live_reordered_before m.b.reread (chosen m.b.table other)))
+        (subst (λ l. IsMerged (before Second) b.reordered l (live_reordered_before m.b.reread (chosen m.b.table other)))
         (sym (live_reordered-same (IsPart-chosen m.a.table valid full_a) m.a.reread reread_below (chosen_at None at)))
         h.retaking.put)
         h.retaking.placed
 
-    -- a turn in order 1, at an item of a: put as the table says
+    -- a turn in the second order, at an item of a: put as the table says
     module _ (fresh : Progress Item)
-        (put : (n : ℕ) → slice_get m.a.table (slice_index part.places m.a.reread) ≡ Some (Some n) → fresh ≡ with_put 1 x n b)
+        (put : (n : ℕ) → slice_get m.a.table (slice_index part.places m.a.reread) ≡ Some (Some n) → fresh ≡ with_put Second x n b)
         (skipped : slice_get m.a.table (slice_index part.places m.a.reread) ≡ Some None → fresh ≡ b) where
       reread_at : (o : Option ℕ) → slice_get m.a.table (slice_index part.places m.a.reread) ≡ Some o
           → Merges stamp before (reread_a m) part other fresh × (fresh.at_level ≡ b.at_level)
@@ -435,11 +437,11 @@ module _ {Item : Type 0} {stamp : Item → ℕ} {before : ℕ → Item → Item 
       reordered_all_other =
           ap (λ n. live_reordered_before n (chosen m.b.table other)) read_whole.3 ∙ live_reordered_before-all (IsPart-chosen m.b.table other_valid read_whole.1)
 
-      items_all : IsMerged (before 0) b.items (taken_of m.a.table part) (taken_of m.b.table other)
+      items_all : IsMerged (before First) b.items (taken_of m.a.table part) (taken_of m.b.table other)
       items_all =
-          subst (λ l. IsMerged (before 0) b.items l (taken_of m.b.table other))
+          subst (λ l. IsMerged (before First) b.items l (taken_of m.b.table other))
           (ap (λ n. live_before n (chosen m.a.table part)) read_whole.0 ∙ live_before-all (IsPart-chosen m.a.table valid read_whole.0))
-          (subst (λ l. IsMerged (before 0) b.items (live_before (length m.a.table) (chosen m.a.table part)) l)
+          (subst (λ l. IsMerged (before First) b.items (live_before (length m.a.table) (chosen m.a.table part)) l)
           (ap (λ n. live_before n (chosen m.b.table other)) read_whole.1 ∙ live_before-all (IsPart-chosen m.b.table other_valid read_whole.1))
           h.taking.put)
 
@@ -449,8 +451,8 @@ module _ {Item : Type 0} {stamp : Item → ℕ} {before : ℕ → Item → Item 
         read = read_whole.0;
         other_read = read_whole.1;
         items = items_all;
-        reordered = subst (λ l. IsMerged (before 1) b.reordered l (taken_reordered m.b.table other)) reordered_all
-            (subst (λ l. IsMerged (before 1) b.reordered (live_reordered_before m.a.reread (chosen m.a.table part)) l) reordered_all_other h.retaking.put);
+        reordered = subst (λ l. IsMerged (before Second) b.reordered l (taken_reordered m.b.table other)) reordered_all
+            (subst (λ l. IsMerged (before Second) b.reordered (live_reordered_before m.a.reread (chosen m.a.table part)) l) reordered_all_other h.retaking.put);
         placed = h.retaking.placed;
         as_many = omega (
           arith,

@@ -5,6 +5,7 @@ use Rattle.std.specs.Option.{is_some, option_map}
 use Rattle.std.proofs.lemmas.Bool.{cases_lt}
 use Rattle.std.proofs.lemmas.Option.{slice_get-get_or, slice_get-map, slice_get_within}
 use Rattle.std.proofs.lemmas.List.{length-map, length_push, map-append, take-append-le}
+use Rattle.query_laws.specs.declared.item.Order.{Order}
 use Rattle.builder_trait.specs.Parts.{Contents, IsPart}
 use Rattle.builder_trait.specs.Rebuilding.{live_before, live_reordered_before}
 use Rattle.builder_trait.proofs.Kept.{kept, kept-more_live, kept-more_dead}
@@ -83,12 +84,12 @@ module _ {Item : Type 0} (table : List (Option ℕ)) (xs merged : List Item) (wi
       (cases_lt k (length table))
 
 module _ {Item : Type 0} where
-  -- where order 1 has read nothing, the table says nothing of it
+  -- where the second order has read nothing, the table says nothing of it
   pub reread_none : (r : ℕ) (part other : Contents Item) → r ≡ 0 → live_reordered_before r part ≡ live_reordered_before r other
   reread_none r part other e = ap (λ n. live_reordered_before n part) e ∙ sym (ap (λ n. live_reordered_before n other) e)
 
   -- a full table chooses a part
-  pub IsPart-chosen : {before : ℕ → Item → Item → Bool} {part : Contents Item} (table : List (Option ℕ)) → IsPart before part
+  pub IsPart-chosen : {before : Order → Item → Item → Bool} {part : Contents Item} (table : List (Option ℕ)) → IsPart before part
       → length table ≡ length part.items → IsPart before (chosen table part)
   IsPart-chosen table valid full = record {
     rising = valid.rising;

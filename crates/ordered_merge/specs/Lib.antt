@@ -1,1 +1,2 @@
+pub mod NewPlaces
 pub mod Merging

@@ -3,17 +3,19 @@ use Rattle.std.specs.Prelude.{◌≡◌, ◌≢◌, ℕ, ◌+◌, ◌*◌, ◌^�
 use Rattle.std.specs.List.{items_where_true}
 use Rattle.std.specs.Option.{is_some}
 use Rattle.query_laws.specs.Permuted.{Permuted}
-use Rattle.builder_trait.specs.Parts.{Contents, IsRising}
+use Rattle.query_laws.specs.declared.item.Order.{Order}
+use Rattle.query_laws.specs.declared.item.Order.TheVariants.{First, Second}
+use Rattle.builder_trait.specs.Parts.{Contents, IsRising, live_of}
 use Rattle.builder_trait.specs.Builders.{Progress}
 use Rattle.builder_trait.specs.Rebuilding.{live_reordered_before, flags_reordered}
 
--- of one part: for each item that order 0 has read its new place, or none where it was skipped; and how many items order 1
+-- of one part: for each item that the first order has read its new place, or none where it was skipped; and how many items the second order
 -- has read
 pub record Reading : Type 0 where
   pub table : List (Option ℕ)
   pub reread : ℕ
 
--- room for so many items of each part; what was read of each; how many items were taken; the item that order 0 read last; and
+-- room for so many items of each part; what was read of each; how many items were taken; the item that the first order read last; and
 -- how many turns are left
 pub record Merging (Item : Type 0) : Type 0 where
   pub capacity : ℕ
@@ -96,7 +98,7 @@ module _ {Item : Type 0} where
   abbrev pub taken_among : List (Option ℕ) → List Item → List Item
   taken_among table xs = items_where_true (take (length table) (map is_some table)) (take (length table) xs)
 
-  -- in order 0 the builder holds, of the items that were read, those that the tables took
+  -- in the first order the builder holds, of the items that were read, those that the tables took
   pub record HasTaken (before : Item → Item → Bool) (table other_table : List (Option ℕ)) (taken : ℕ) (reached : Option Item)
       (xs ys items : List Item) : Type 0 where
     pub front : IsFront before (length table) xs (length other_table) ys
@@ -107,7 +109,7 @@ module _ {Item : Type 0} where
     pub passed : PassedBelow before reached (length table) xs
     pub other_passed : PassedBelow before reached (length other_table) ys
 
-  -- and in order 1, which begins once order 0 has read all
+  -- and in the second order, which begins once the first order has read all
   pub record HasRetaken (before : Item → Item → Bool) (a b : Reading) (part other : Contents Item) (builder : Progress Item) : Type 0 where
     pub front : IsFront before a.reread part.reordered b.reread other.reordered
     pub in_turn : 0 < a.reread + b.reread → length a.table + length b.table ≡ length part.items + length other.items
@@ -116,13 +118,13 @@ module _ {Item : Type 0} where
     pub placed : map (slice_get builder.items) builder.places ≡ map Some builder.reordered
 
   -- the builder holds in both orders what the items read so far give: those that the tables took
-  pub record Merges (stamp : Item → ℕ) (before : ℕ → Item → Item → Bool) (m : Merging Item) (part other : Contents Item)
+  pub record Merges (stamp : Item → ℕ) (before : Order → Item → Item → Bool) (m : Merging Item) (part other : Contents Item)
       (b : Progress Item) : Type 0 where
     pub sources : AreSources stamp m.capacity b.at_level part.items other.items
     pub unsealed : b.is_sealed ≡ false
     pub to_go : m.left + (length m.a.table + length m.b.table + (m.a.reread + m.b.reread)) ≡ 2 * (length part.items + length other.items)
-    pub taking : HasTaken (before 0) m.a.table m.b.table m.taken m.reached part.items other.items b.items
-    pub retaking : HasRetaken (before 1) m.a m.b part other b
+    pub taking : HasTaken (before First) m.a.table m.b.table m.taken m.reached part.items other.items b.items
+    pub retaking : HasRetaken (before Second) m.a m.b part other b
 
   -- n items were read, and each that was live was taken
   pub record HasRead (n : ℕ) (old new : Merging Item) (part other : Contents Item) (b fresh : Progress Item) : Type 0 where
@@ -134,24 +136,24 @@ module _ {Item : Type 0} where
 
   -- the items that a table took
   abbrev pub taken_of : List (Option ℕ) → Contents Item → List Item
-  taken_of table part = items_where_true (map is_some table) part.items
+  taken_of table part = live_of (chosen table part)
 
-  -- the same in order 1
+  -- the same in the second order
   abbrev pub taken_reordered : List (Option ℕ) → Contents Item → List Item
   taken_reordered table part = items_where_true (flags_reordered (chosen table part)) part.reordered
 
-  -- all is read, and the builder holds in both orders exactly what the tables took, each item of order 1 with its place
-  pub record IsWhole (before : ℕ → Item → Item → Bool) (m : Merging Item) (part other : Contents Item) (b : Progress Item) : Type 0 where
+  -- all is read, and the builder holds in both orders exactly what the tables took, each item of the second order with its place
+  pub record IsWhole (before : Order → Item → Item → Bool) (m : Merging Item) (part other : Contents Item) (b : Progress Item) : Type 0 where
     pub read : length m.a.table ≡ length part.items
     pub other_read : length m.b.table ≡ length other.items
-    pub items : IsMerged (before 0) b.items (taken_of m.a.table part) (taken_of m.b.table other)
-    pub reordered : IsMerged (before 1) b.reordered (taken_reordered m.a.table part) (taken_reordered m.b.table other)
+    pub items : IsMerged (before First) b.items (taken_of m.a.table part) (taken_of m.b.table other)
+    pub reordered : IsMerged (before Second) b.reordered (taken_reordered m.a.table part) (taken_reordered m.b.table other)
     pub placed : map (slice_get b.items) b.places ≡ map Some b.reordered
     pub as_many : length b.reordered ≡ length b.items
 
 module _ {Item Part Builder : Type 0} (contents : Part → Contents Item) (progress : Builder → Progress Item) where
   -- the same of parts and builders, by what contracts see of them
-  abbrev pub MergesInto : (Item → ℕ) → (ℕ → Item → Item → Bool) → Merging Item → Part → Part → Builder → Type 0
+  abbrev pub MergesInto : (Item → ℕ) → (Order → Item → Item → Bool) → Merging Item → Part → Part → Builder → Type 0
   MergesInto stamp before m a b builder = Merges stamp before m (contents a) (contents b) (progress builder)
 
   abbrev pub ReadsInto : ℕ → Merging Item → Merging Item → Part → Part → Builder → Builder → Type 0

@@ -1,11 +1,12 @@
 //! Two parts merged into a builder, an item a turn.
 //!
 //! A new part is made of two older ones while these are still in use (Overmars and van Leeuwen 1981), so items of theirs may
-//! die in between. Each part keeps its items in two orders. Order 0 decides which of them are taken, and order 1 takes the
+//! die in between. Each part keeps its items in two orders. The first order decides which of them are taken, and the second order takes the
 //! same.
 #![tactic(auto)]
 
 mod merge;
+mod new_place;
 mod steps;
 
 pub use merge::Merge;

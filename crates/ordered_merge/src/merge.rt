@@ -1,23 +1,25 @@
 //! The merge, with its tables of new places.
 ghost use Rattle.std.specs.Prelude.{◌≡◌, ◌+◌, ◌-◌, ◌*◌, ◌<◌, ◌≤◌, ◌^◌, ℕ, [], IsTrue, ◌↔◌, IfOk, length, Some, slice_get};
 ghost use Rattle.query_laws.specs.StepLedger.{Spends};
+ghost use Rattle.query_laws.specs.declared.item.Order.TheVariants.{First};
 ghost use Rattle.builder_trait.specs.Builders.{Progress, begun};
 ghost use Rattle.builder_trait.specs.Parts.{Contents, IsPart};
 ghost use Rattle.ordered_merge.specs.Merging.{Merges, MergesInto, ReadsInto, IsWhole, StampsDiffer, unbegun, is_passed};
 
+use crate::new_place::NewPlace;
 use crate::steps::{is_within, next_item, put_again, take_or_skip};
 use builder_trait::{Builder, Part};
 use query_laws::step_ledger::{Row, Steps};
-use query_laws::{Item, NoMemory};
+use query_laws::{Item, NoMemory, Order};
 use std::alloc::Global;
 use std::marker::Model;
 use std::sync::ledger::Ledger;
 
-/// How far one part is read: for each item that order 0 has read its new place, or `None` where it was skipped, and how many
-/// items order 1 has read.
+/// How far one part is read: for each item that the first order has read its new place, or `None` where it was skipped, and how many
+/// items the second order has read.
 #[derive(Drop)]
 struct Source {
-    table: Row<Option<usize>>,
+    table: Row<NewPlace>,
     reread: usize,
 }
 
@@ -39,9 +41,9 @@ impl Source {
     }
 }
 
-/// Two parts, a and b, on their way into a builder: all their items in order 0, and then the same in order 1.
+/// Two parts, a and b, on their way into a builder: all their items in the first order, and then the same in the second order.
 ///
-/// An item that is dead when order 0 reads it is skipped. Order 1 takes exactly the items that order 0 took, also where one of
+/// An item that is dead when the first order reads it is skipped. The second order takes exactly the items that the first order took, also where one of
 /// them died in between. What the builder then holds is said by `Merges` of `specs/Merging.antt`, which each turn keeps.
 #[derive(Drop)]
 pub struct Merge<B: Builder> {
@@ -166,7 +168,7 @@ impl<B: Builder> Merge<B> {
         }
     }
 
-    /// A turn in order 0.
+    /// A turn in the first order.
     fn read_next<L: Ledger>(
         &mut self,
         a: &B::Part,
@@ -183,7 +185,14 @@ impl<B: Builder> Merge<B> {
         ensures read { ReadsInto B.Part.Part.contents B.progress 1 self.old self.new a.now b.now builder.old builder.new }
         ensures cost { Spends steps.old steps.new 1 0 16 }
     {
-        let (is_a, item) = next_item(0, a, self.a.table.len(), b, self.b.table.len(), steps);
+        let (is_a, item) = next_item(
+            Order::First,
+            a,
+            self.a.table.len(),
+            b,
+            self.b.table.len(),
+            steps,
+        );
         self.left -= 1;
         self.reached = Some(item);
         if is_a {
@@ -193,7 +202,7 @@ impl<B: Builder> Merge<B> {
         }
     }
 
-    /// A turn in order 1, once order 0 has read all.
+    /// A turn in the second order, once the first order has read all.
     fn reread_next<L: Ledger>(
         &mut self,
         a: &B::Part,
@@ -211,7 +220,7 @@ impl<B: Builder> Merge<B> {
         ensures read { ReadsInto B.Part.Part.contents B.progress 1 self.old self.new a.now b.now builder.old builder.new }
         ensures cost { Spends steps.old steps.new 1 0 16 }
     {
-        let (is_a, item) = next_item(1, a, self.a.reread, b, self.b.reread, steps);
+        let (is_a, item) = next_item(Order::Second, a, self.a.reread, b, self.b.reread, steps);
         self.left -= 1;
         if is_a {
             put_again(&self.a.table, a, self.a.reread, item, builder, steps);
@@ -233,16 +242,16 @@ impl<B: Builder> Merge<B> {
     pub fn done(&self) -> bool
         ensures value { IsTrue result ↔ (self.now.left ≡ 0) }
 
-        // The builder then holds exactly what the tables took, which is what was live when order 0 read it.
+        // The builder then holds exactly what the tables took, which is what was live when the first order read it.
         ensures whole { (a b : Contents B.Item) (builder : Progress B.Item) → IsTrue result → IsPart B.Item.before a → IsPart B.Item.before b
             → Merges B.Item.stamp B.Item.before self.now a b builder → IsWhole B.Item.before self.now a b builder }
     {
         self.left == 0
     }
 
-    /// Whether order 0 has read an item, which is one of the two parts'. It counts nothing.
+    /// Whether the first order has read an item, which is one of the two parts'. It counts nothing.
     pub fn passed(&self, item: &B::Item) -> bool
-        ensures value { result ≡ is_passed (B.Item.before 0) self.now.reached item.now }
+        ensures value { result ≡ is_passed (B.Item.before First) self.now.reached item.now }
 
         // At the item at a place of either part: exactly where that place is among those read.
         ensures of_a { (a b : Contents B.Item) (builder : Progress B.Item) (k : ℕ)

@@ -11,7 +11,9 @@ use Rattle.std.proofs.lemmas.List.Folds.{list_any_none}
 use Rattle.query_laws.specs.Orders.{IsStrictTotalOrder}
 use Rattle.query_laws.specs.Permuted.{Permuted, composed}
 use Rattle.query_laws.proofs.Permutations.{Permuted-sym, Permuted-filter, Permuted-append, Permuted-append_left}
-use Rattle.builder_trait.specs.Parts.{Contents, IsPart, OwnsStamp, has_stamp, without, marked}
+use Rattle.query_laws.specs.declared.item.Order.{Order}
+use Rattle.query_laws.specs.declared.item.Order.TheVariants.{First}
+use Rattle.builder_trait.specs.Parts.{Contents, IsPart, OwnsStamp, has_stamp, without, marked, live_of}
 use Rattle.builder_trait.proofs.Kept.{All-kept}
 use Rattle.builder_trait.proofs.FlatLemmas.{items-all_true}
 use Rattle.builder_trait.proofs.Marking.{StandsOnlyAt-rising, has_stamp_at}
@@ -19,7 +21,7 @@ use Rattle.ordered_merge.specs.Merging.{Merging, Merges, HasRead, taken_among}
 use Rattle.ordered_merge.proofs.Fronts.{All-permuted}
 use Rattle.ordered_merge.proofs.MergingLemmas.{Merges-swap, Merges-marked, HasRead-swap, swapped, read_whole, taken_le}
 use Rattle.partial_build.specs.NewPart.{put_of, IsAllLive}
-use Rattle.partial_build.specs.Construction.{Construction, Builds, KeepsUp, IsUpToDate, IsReadOf, IsPublished, stays, is_taken, live_of, skipped_of}
+use Rattle.partial_build.specs.Construction.{Construction, Builds, KeepsUp, IsUpToDate, IsReadOf, IsPublished, stays, is_taken, skipped_of}
 use Rattle.partial_build.proofs.Stamps.{same_place, has_stamp-at, has_stamp-push, has_stamp-without, slice_get-fallen, length-fallen, filter-flags, filter-taken, Permuted-skipped, Permuted-crossed}
 
 noted_bit : (t h w e : Bool) → ((t && (h && not w)) && not e) ≡ (t && (h && not (w || e)))
@@ -60,7 +62,7 @@ module _ {A : Type 0} (P : A → Type 0) (xs : List A) (x : A) (h : All P (xs ++
   All-last = (All-pop P (xs ++ x ∷ []) xs (Some x) refl h).1
 
 -- an item that dies leaves a part
-pub IsPart-marked : {Item : Type 0} (stamp : Item → ℕ) {before : ℕ → Item → Item → Bool} {part : Contents Item} (dead : ℕ) → IsPart before part
+pub IsPart-marked : {Item : Type 0} (stamp : Item → ℕ) {before : Order → Item → Item → Bool} {part : Contents Item} (dead : ℕ) → IsPart before part
     → IsPart before (marked stamp dead part)
 IsPart-marked stamp {part = part} dead valid = record {
   rising = valid.rising;
@@ -78,7 +80,7 @@ taken_all table xs full =
     ap (λ l. items_where_true l (take (length table) xs)) (take_all (length table) (map is_some table) (omega (arith, length-map table is_some)))
     ∙ ap (items_where_true (map is_some table)) (take_all (length table) xs (omega arith))
 
-module _ {Item : Type 0} {stamp : Item → ℕ} {before : ℕ → Item → Item → Bool} where
+module _ {Item : Type 0} {stamp : Item → ℕ} {before : Order → Item → Item → Bool} where
   module _ {m : Merging Item} {part : Contents Item} {waiting : List Item} {a b : Contents Item} (h : KeepsUp stamp before m part waiting a b) where
     -- the sources in the other order
     pub KeepsUp-swap : KeepsUp stamp before (swapped m) part waiting b a
@@ -297,7 +299,7 @@ module _ {Item : Type 0} {stamp : Item → ℕ} {before : ℕ → Item → Item 
       (omega (arith, h.merges.taking.counted, taken_le h.merges, h.merges.sources.room, h.merges.taking.front.within, h.merges.taking.front.within_other))
 
   -- all is read, nothing waits, and the part is what it is
-  module _ (c : Construction Item) (a b : Contents Item) (order : IsStrictTotalOrder stamp (before 0)) (h : Builds stamp before c a b)
+  module _ (c : Construction Item) (a b : Contents Item) (order : IsStrictTotalOrder stamp (before First)) (h : Builds stamp before c a b)
       (none : c.waiting ≡ []) (ended : c.merge.left ≡ 0) (flagged : length c.part.contents.flags ≡ length c.part.contents.items)
       (at_level : c.part.contents.at_level ≡ c.level) where
     -- whether an item lives in the new part

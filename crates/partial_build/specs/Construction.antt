@@ -4,7 +4,8 @@ use Rattle.std.specs.List.{items_where_true}
 use Rattle.std.specs.Option.{is_some}
 use Rattle.query_laws.specs.Orders.{AllStampsDiffer}
 use Rattle.query_laws.specs.Permuted.{Permuted}
-use Rattle.builder_trait.specs.Parts.{Contents, IsPart, has_stamp}
+use Rattle.query_laws.specs.declared.item.Order.{Order}
+use Rattle.builder_trait.specs.Parts.{Contents, IsPart, has_stamp, live_of}
 use Rattle.ordered_merge.specs.Merging.{Merging, Merges, unbegun}
 use Rattle.partial_build.specs.NewPart.{Growth, put_of, IsAllLive}
 use Rattle.partial_build.specs.Quota.{quota}
@@ -39,9 +40,6 @@ module _ {Item : Type 0} where
     pub few_waiting : length c.waiting ≤ c.ticks
     pub few_to_come : length c.waiting ≤ 2 ^ c.level - c.ticks
 
-  abbrev pub live_of : Contents Item → List Item
-  live_of part = items_where_true part.flags part.items
-
   -- whether the item with a stamp is live in the new part, and doesn't wait to be marked there
   abbrev pub stays : (Item → ℕ) → Contents Item → List Item → ℕ → Bool
   stays stamp part waiting s = has_stamp stamp s (live_of part) && not (has_stamp stamp s waiting)
@@ -57,7 +55,7 @@ module _ {Item : Type 0} where
   IsReadOf table xs x = (k : ℕ) × (k < length table) × (slice_get xs k ≡ Some x)
 
   -- what was read of a and b is in the new part or waits, as a and b are now
-  pub record KeepsUp (stamp : Item → ℕ) (before : ℕ → Item → Item → Bool) (m : Merging Item) (part : Contents Item) (waiting : List Item)
+  pub record KeepsUp (stamp : Item → ℕ) (before : Order → Item → Item → Bool) (m : Merging Item) (part : Contents Item) (waiting : List Item)
       (a b : Contents Item) : Type 0 where
     pub merges : Merges stamp before m a b (put_of part)
     pub valid : IsPart before a
@@ -69,7 +67,7 @@ module _ {Item : Type 0} where
     pub noted : All (λ x. IsReadOf m.a.table a.items x ⊎ IsReadOf m.b.table b.items x) waiting
 
   -- the construction of the new part of a and b, as these are now
-  abbrev pub Builds : (Item → ℕ) → (ℕ → Item → Item → Bool) → Construction Item → Contents Item → Contents Item → Type 0
+  abbrev pub Builds : (Item → ℕ) → (Order → Item → Item → Bool) → Construction Item → Contents Item → Contents Item → Type 0
   Builds stamp before c a b = KeepsUp stamp before c.merge c.part.contents c.waiting a b
 
   -- the items of a source that were dead when they were read

@@ -1,11 +1,12 @@
 //! The construction itself.
 ghost use Rattle.std.specs.Prelude.{◌≡◌, ℕ, ◌+◌, ◌-◌, ◌*◌, ◌<◌, ◌≤◌, ◌^◌, [], ◌∷◌, ◌++◌, Bool, false, true, min, length, if◌then◌else◌, Some, slice_get, vec_capacity};
 ghost use Rattle.query_laws.specs.StepLedger.{Spends};
-ghost use Rattle.builder_trait.specs.Parts.{Contents, marked};
+ghost use Rattle.query_laws.specs.declared.item.Order.TheVariants.{First};
+ghost use Rattle.builder_trait.specs.Parts.{Contents, marked, live_of};
 ghost use Rattle.builder_trait.specs.Builders.{begun, all_live};
 ghost use Rattle.ordered_merge.specs.Merging.{unbegun, is_passed};
 ghost use Rattle.partial_build.specs.Quota.{quota};
-ghost use Rattle.partial_build.specs.Construction.{Builds, IsOnTime, IsPublished, live_of, turns_left};
+ghost use Rattle.partial_build.specs.Construction.{Builds, IsOnTime, IsPublished, turns_left};
 
 use crate::new_part::NewPart;
 use crate::room::Tables;
@@ -187,7 +188,7 @@ impl<B: Builder> Build<B> {
         requires early { self.old.ticks < 2 ^ self.old.level }
         requires on_time { IsOnTime B.SLOPE B.BASE self.old }
         ensures noted { self.new ≡ record self.old {
-          waiting = if is_passed (B.Item.before 0) self.old.merge.reached item.now then self.old.waiting ++ item.now ∷ [] else self.old.waiting;
+          waiting = if is_passed (B.Item.before First) self.old.merge.reached item.now then self.old.waiting ++ item.now ∷ [] else self.old.waiting;
         } }
 
         // Whichever the sources are: with the one in which it stood live and is marked now.
@@ -214,7 +215,7 @@ impl<B: Builder> Build<B> {
         // Whichever the sources are.
         ensures published { (a b : Contents B.Item) → Builds B.Item.stamp B.Item.before self a b
             → IsPublished self a b (B.Part.Part.contents result.0) }
-        ensures live { B.Part.Part.live_items result.0 ≡ live_of self.part.contents }
+        ensures live { live_of (B.Part.Part.contents result.0) ≡ live_of self.part.contents }
         ensures tables { result.1 ≡ self.level }
     {
         let Build {

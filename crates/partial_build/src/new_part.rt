@@ -1,11 +1,10 @@
 //! The new part: first its builder, then the part itself.
 ghost use Rattle.std.specs.Prelude.{◌≡◌, ◌==◌, ℕ, ◌-◌, ◌*◌, ◌^◌, ◌≤◌, false, true, length};
 ghost use Rattle.query_laws.specs.StepLedger.{Spends};
-ghost use Rattle.builder_trait.specs.Parts.{OwnsStamp, without, marked};
+ghost use Rattle.builder_trait.specs.Parts.{OwnsStamp, without, marked, live_of};
 ghost use Rattle.builder_trait.specs.Builders.{IsQuota, all_live};
 ghost use Rattle.ordered_merge.specs.Merging.{Merges, HasRead};
 ghost use Rattle.partial_build.specs.NewPart.{put_of, IsAllLive};
-ghost use Rattle.partial_build.specs.Construction.{live_of};
 
 use builder_trait::{Builder, Part};
 use ordered_merge::Merge;
@@ -165,7 +164,7 @@ impl<B: Builder> NewPart<B> {
     pub(crate) fn into_part(self) -> B::Part
         requires { self.is_built ≡ true }
         ensures whole { B.Part.Part.contents result ≡ self.contents }
-        ensures live { B.Part.Part.live_items result ≡ live_of self.contents }
+        ensures live { live_of (B.Part.Part.contents result) ≡ live_of self.contents }
     {
         let NewPart { builder: _, part } = self;
         match part {

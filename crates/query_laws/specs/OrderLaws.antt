@@ -1,8 +1,10 @@
 -- That the usual orders are strict and total.
-use Rattle.std.specs.Prelude.{◌≡◌, ◌≢◌, ℕ, ◌==◌, Bool, true, false, IsTrue, ◌⊎◌}
-use Rattle.std.proofs.Common.{arith, cond}
+use Rattle.std.specs.Prelude.{◌≡◌, ◌≢◌, ℕ, false, IsTrue, ◌⊎◌}
+use Rattle.std.proofs.Common.{arith}
 use Rattle.std.proofs.lemmas.Bool.Decides.{nat_tests}
 use Rattle.query_laws.specs.Orders.{IsStrictTotalOrder, before_by, before_in}
+use Rattle.query_laws.specs.declared.item.Order.{Order}
+use Rattle.query_laws.specs.declared.item.Order.TheVariants.{First, Second}
 
 module _ {Item : Type 0} (first second stamp : Item → ℕ) where
   pub before_by-irreflexive : (a : Item) → before_by first second stamp a a ≡ false
@@ -25,11 +27,7 @@ module _ {Item : Type 0} (first second stamp : Item → ℕ) where
   }
 
 module _ {Item : Type 0} (first second stamp : Item → ℕ) where
-  -- of two such orders the one that a test picks
-  picked : (b : Bool) → IsStrictTotalOrder stamp (λ x y. cond b (before_by first second stamp x y) (before_by second first stamp x y))
-  picked true = IsStrictTotalOrder-before_by first second stamp
-  picked false = IsStrictTotalOrder-before_by second first stamp
-
   -- both orders of an item with two numbers and a stamp
-  pub IsStrictTotalOrder-before_in : (order : ℕ) → IsStrictTotalOrder stamp (before_in first second stamp order)
-  IsStrictTotalOrder-before_in order = picked (order == 0)
+  pub IsStrictTotalOrder-before_in : (order : Order) → IsStrictTotalOrder stamp (before_in first second stamp order)
+  IsStrictTotalOrder-before_in First = IsStrictTotalOrder-before_by first second stamp
+  IsStrictTotalOrder-before_in Second = IsStrictTotalOrder-before_by second first stamp

@@ -1,5 +1,7 @@
 -- Orders of items.
-use Rattle.std.specs.Prelude.{◌≡◌, ◌≢◌, ℕ, ◌==◌, ◌&&◌, ◌||◌, Bool, false, nat_lt, if◌then◌else◌, IsTrue, ◌⊎◌, List, AllPairs}
+use Rattle.std.specs.Prelude.{◌≡◌, ◌≢◌, ℕ, ◌==◌, ◌&&◌, ◌||◌, Bool, false, nat_lt, IsTrue, ◌⊎◌, List, AllPairs}
+use Rattle.query_laws.specs.declared.item.Order.{Order}
+use Rattle.query_laws.specs.declared.item.Order.TheVariants.{First, Second}
 
 -- a strict order, which tells apart any two items with different stamps
 pub record IsStrictTotalOrder {Item : Type 0} (stamp : Item → ℕ) (before : Item → Item → Bool) : Type 0 where
@@ -17,7 +19,7 @@ before_by first second stamp a b =
     nat_lt (first a) (first b)
     || ((first a == first b) && (nat_lt (second a) (second b) || ((second a == second b) && nat_lt (stamp a) (stamp b))))
 
--- order 0 by the first number and then the second, and order 1 the other way round
-abbrev pub before_in : {Item : Type 0} → (Item → ℕ) → (Item → ℕ) → (Item → ℕ) → ℕ → Item → Item → Bool
-before_in first second stamp order a b =
-    if order == 0 then before_by first second stamp a b else before_by second first stamp a b
+-- the first order by the first number and then the second, and the second order the other way round
+abbrev pub before_in : {Item : Type 0} → (Item → ℕ) → (Item → ℕ) → (Item → ℕ) → Order → Item → Item → Bool
+before_in first second stamp First = before_by first second stamp
+before_in first second stamp Second = before_by second first stamp

@@ -14,7 +14,7 @@ mod question;
 pub mod step_ledger;
 mod total;
 
-pub use item::{Item, Named};
+pub use item::{Item, Named, Order};
 pub use question::{Question, Tally, derived_laws};
 pub use step_ledger::NoMemory;
 pub use total::Total;

@@ -6,7 +6,7 @@ mod sums;
 mod tags;
 
 use crate::step_ledger::{Row, SHARES, Steps, blank};
-use crate::{Item, Named, NoMemory, derived_laws};
+use crate::{Item, Named, NoMemory, Order, derived_laws};
 use callers::ask_all;
 use std::alloc::Global;
 use std::marker::Brand;
@@ -146,9 +146,7 @@ fn weighs_by_parts(rt: HostRuntime) -> Result<(), Fail> {
 }
 
 /// The identifiers of two items in one of their orders.
-fn in_order<I: Named>(first: I, second: I, order: usize) -> [u64; 2]
-    requires { order < 2 }
-{
+fn in_order<I: Named>(first: I, second: I, order: Order) -> [u64; 2] {
     if second.before(order, &first) {
         [second.id(), first.id()]
     } else {
@@ -173,10 +171,14 @@ fn orders_tags(rt: HostRuntime) {
         weight: 1,
         stamp: 6,
     };
-    assert_eq!(rt; in_order(light, heavy, 0), [3, 8]);
-    assert_eq!(rt; in_order(heavy, light, 1), [8, 3]);
-    assert!(rt; light.before(0, &later) && !later.before(1, &light) && !light.before(0, &light));
-    assert_eq!(rt; (light.stamp(), Tag::ORDERS), (4, 2));
+    assert_eq!(rt; in_order(light, heavy, Order::First), [3, 8]);
+    assert_eq!(rt; in_order(heavy, light, Order::Second), [8, 3]);
+    assert!(rt;
+        light.before(Order::First, &later)
+            && !later.before(Order::Second, &light)
+            && !light.before(Order::First, &light)
+    );
+    assert_eq!(rt; light.stamp(), 4);
 }
 
 #[test]

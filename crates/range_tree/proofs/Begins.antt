@@ -8,6 +8,8 @@ use Rattle.std.proofs.lemmas.Option.{slice_get_within, get_or_from_slice_get, sl
 use Rattle.std.proofs.lemmas.List.{length-map, get_or-map}
 use Rattle.query_laws.specs.Orders.{IsStrictTotalOrder}
 use Rattle.query_laws.specs.OrderLaws.{IsStrictTotalOrder-before_in}
+use Rattle.query_laws.specs.declared.item.Order.{Order}
+use Rattle.query_laws.specs.declared.item.Order.TheVariants.{First, Second}
 use Rattle.row_blocks.specs.Blocks.{IsMultiple}
 use Rattle.builder_trait.specs.Parts.{IsRising}
 use Rattle.builder_trait.specs.Builders.{Progress, IsUnderway}
@@ -16,15 +18,15 @@ use Rattle.map_shapes.specs.declared.point.Point.{Point}
 use Rattle.range_tree.specs.declared.entry.Entry.{Entry}
 use Rattle.range_tree.specs.Rows.{before, precedes, no_entry, entry_at, IsEntryOf, IsRow}
 
-order_of : (order : ℕ) → IsStrictTotalOrder (λ (p : Point). p.stamp) (before order)
+order_of : (order : Order) → IsStrictTotalOrder (λ (p : Point). p.stamp) (before order)
 order_of order = IsStrictTotalOrder-before_in (λ p. p.x) (λ p. p.y) (λ p. p.stamp) order
 
--- of two points of one ordinate the one before the other in order 1 is it in order 0
-same_ordinate : (p q : Point) → p.y ≡ q.y → IsTrue (before 1 p q) → IsTrue (before 0 p q)
+-- of two points of one ordinate the one before the other in the second order is it in the first order
+same_ordinate : (p q : Point) → p.y ≡ q.y → IsTrue (before Second p q) → IsTrue (before First p q)
 same_ordinate p q same earlier = grind (arith, nat_tests)
 
--- none before another in order 1 has a greater ordinate
-no_greater : (p q : Point) → IsTrue (before 1 p q) → q.y ≤ p.y → p.y ≡ q.y
+-- none before another in the second order has a greater ordinate
+no_greater : (p q : Point) → IsTrue (before Second p q) → q.y ≤ p.y → p.y ≡ q.y
 no_greater p q earlier from = grind (arith, nat_tests)
 
 less_ordinate : (a b : Entry) → a.y < b.y → IsTrue (precedes a b)
@@ -45,29 +47,29 @@ first_block start height n multiple within high = zero_times multiple.times mult
     zero_times zero is = omega arith
     zero_times (suc t) is = let more : 1 * 2 ^ height ≤ suc t * 2 ^ height = mul-le-mul_right (2 ^ height) (omega arith) in absurd (omega arith)
 
-module _ (points : List Point) (rising : IsRising (before 0) points) where
-  -- of two points at places, the first in order 0 has the lower place
-  lower_place : (k l : ℕ) (p q : Point) → slice_get points k ≡ Some p → slice_get points l ≡ Some q → IsTrue (before 0 p q) → k < l
+module _ (points : List Point) (rising : IsRising (before First) points) where
+  -- of two points at places, the first in the first order has the lower place
+  lower_place : (k l : ℕ) (p q : Point) → slice_get points k ≡ Some p → slice_get points l ≡ Some q → IsTrue (before First p q) → k < l
   lower_place k l p q at there earlier = ⊎_elim (λ less. less) (λ from. absurd (not_from from)) (cases_lt k l)
     where
       not_from : l ≤ k → ⊥
       not_from from =
           ⊎_elim
           (λ less.
-          let back : IsTrue (before 0 q p) = subst (λ y. IsTrue (before 0 q y)) (get_or_from_slice_get points k p p at)
-          (subst (λ x. IsTrue (before 0 x (get_or points k p))) (get_or_from_slice_get points l q p there) (rising l k p less (slice_get_within points k p at))) in
-          let itself : IsTrue (before 0 p p) = (order_of 0).transitive p q p earlier back in
-          let no : before 0 p p ≡ false = (order_of 0).irreflexive p in cc)
+          let back : IsTrue (before First q p) = subst (λ y. IsTrue (before First q y)) (get_or_from_slice_get points k p p at)
+          (subst (λ x. IsTrue (before First x (get_or points k p))) (get_or_from_slice_get points l q p there) (rising l k p less (slice_get_within points k p at))) in
+          let itself : IsTrue (before First p p) = (order_of First).transitive p q p earlier back in
+          let no : before First p p ≡ false = (order_of First).irreflexive p in cc)
           (λ up_to.
           let here : k ≡ l = omega arith in
           let is : p ≡ q = same_Some p q (sym at ∙ ap (slice_get points) here ∙ there) in
-          let itself : IsTrue (before 0 p p) = subst (λ y. IsTrue (before 0 p y)) (sym is) earlier in
-          let no : before 0 p p ≡ false = (order_of 0).irreflexive p in cc)
+          let itself : IsTrue (before First p p) = subst (λ y. IsTrue (before First p y)) (sym is) earlier in
+          let no : before First p p ≡ false = (order_of First).irreflexive p in cc)
           (cases_lt l k)
 
-  -- entries of points that rise in order 1
+  -- entries of points that rise in the second order
   pub precedes-before : (a b : Entry) (p q : Point) → slice_get points a.place ≡ Some p → slice_get points b.place ≡ Some q
-      → a.y ≡ p.y → b.y ≡ q.y → IsTrue (before 1 p q) → IsTrue (precedes a b)
+      → a.y ≡ p.y → b.y ≡ q.y → IsTrue (before Second p q) → IsTrue (precedes a b)
   precedes-before a b p q at there ya yb earlier =
       ⊎_elim
       (λ less. less_ordinate a b (omega arith))
@@ -85,7 +87,7 @@ module _ (b : Progress Point) (entries : List Entry) (underway : IsUnderway befo
   place_at : (k : ℕ) → k < length entries → (entry_at entries k).place ≡ slice_index b.places k
   place_at k within = sym (get_or-map (λ (e : Entry). e.place) entries k no_entry 0 within) ∙ ap (λ l. slice_index l k) places
 
-  -- the point of order 1 at an index, which the entry there has
+  -- the point of the second order at an index, which the entry there has
   point_at : (k : ℕ) → k < length entries → (d : Point) → slice_get b.items (entry_at entries k).place ≡ Some (get_or b.reordered k d)
   point_at k within d =
       ap (slice_get b.items) (place_at k within)
@@ -111,7 +113,7 @@ module _ (b : Progress Point) (entries : List Entry) (underway : IsUnderway befo
       (λ (past, none). absurd (omega (arith, entry_each)))
       (slice_get_cases b.reordered l).1
 
-  -- order 1 is the row of the whole tree
+  -- the second order is the row of the whole tree
   pub IsRow-top : (height : ℕ) → length b.items ≤ 2 ^ height → IsRow b.items height entries
   IsRow-top height high = record {
     entry_each = entry_each;

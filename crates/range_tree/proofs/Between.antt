@@ -6,7 +6,7 @@ use Rattle.std.proofs.lemmas.Bool.{cond-false}
 use Rattle.std.proofs.lemmas.Bool.Decides.{nat_tests}
 use Rattle.std.proofs.lemmas.List.Concat.{flat_map-append}
 use Rattle.std.proofs.lemmas.List.Elements.{filter-append}
-use Rattle.builder_trait.specs.Parts.{Contents}
+use Rattle.builder_trait.specs.Parts.{Contents, live_of}
 use Rattle.map_shapes.specs.declared.point.Point.{Point}
 use Rattle.map_shapes.specs.declared.rect.Rect.{Rect}
 use Rattle.map_shapes.specs.Questions.{is_in}
@@ -98,7 +98,7 @@ module _ {A : Type 0} where
 
 -- all live points are between the first place and the end
 pub live_between-all : (part : Contents Point) → length part.flags ≡ length part.items
-    → live_between part 0 (length part.items) ≡ items_where_true part.flags part.items
+    → live_between part 0 (length part.items) ≡ live_of part
 live_between-all part flagged =
     let whole : length part.items - 0 ≡ length part.items = omega arith in
     ap (λ n. flat_map (live_at part) (range_with_len 0 n)) whole ∙ all_kept part.flags part.items flagged
@@ -125,9 +125,9 @@ none_behind part rect to end above =
 -- so all live points of the rectangle are between two places
 pub live_in-all : (part : Contents Point) (rect : Rect) (from to : ℕ) → length part.flags ≡ length part.items
     → from ≤ to → to ≤ length part.items → AbscissasBelow part.items from rect.x1 → AbscissasAbove part.items to rect.x2
-    → filter (is_in rect) (live_between part from to) ≡ filter (is_in rect) (items_where_true part.flags part.items)
+    → filter (is_in rect) (live_between part from to) ≡ filter (is_in rect) (live_of part)
 live_in-all part rect from to flagged ordered within below above =
-    let whole : filter (is_in rect) (live_between part 0 (length part.items)) ≡ filter (is_in rect) (items_where_true part.flags part.items) =
+    let whole : filter (is_in rect) (live_between part 0 (length part.items)) ≡ filter (is_in rect) (live_of part) =
     ap (filter (is_in rect)) (live_between-all part flagged) in
     let inside : List Point = filter (is_in rect) (live_between part from to) in
     let rest : List Point = filter (is_in rect) (live_between part from (length part.items)) in

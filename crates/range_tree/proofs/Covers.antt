@@ -1,6 +1,6 @@
 -- Steps of a cover: a span of a block, the blocks at both ends, the beginning and the end.
 use Rattle.std.proofs.Common.{◌≡◌, ℕ, ◌+◌, ◌-◌, ◌*◌, ◌/◌, ◌%◌, ◌^◌, ◌<◌, ◌≤◌, ◌⊎◌, inl, inr, List, [], ◌∷◌, ◌++◌, length, Some, slice_get, take, drop, min, refl, sym, ap, ◌∙◌, arith, subst, append-nil, append_assoc, All}
-use Rattle.std.specs.List.{flat_map, items_where_true, filter}
+use Rattle.std.specs.List.{flat_map, filter}
 use Rattle.std.proofs.Math.Nat.{pow-le-pow_right}
 use Rattle.std.proofs.lemmas.Nat.{pow_pos, mul-le}
 use Rattle.std.proofs.lemmas.Bool.{cases_lt}
@@ -15,7 +15,7 @@ use Rattle.query_laws.proofs.Counting.{Spends-then, Spends-within}
 use Rattle.weak_delete.specs.Places.{IsBuilt}
 use Rattle.row_blocks.specs.Blocks.{IsMultiple, start_of}
 use Rattle.row_blocks.proofs.Blocks.{pow_next, times_below, even_block, odd_block, zero_multiple}
-use Rattle.builder_trait.specs.Parts.{Contents}
+use Rattle.builder_trait.specs.Parts.{Contents, live_of}
 use Rattle.map_shapes.specs.declared.point.Point.{Point}
 use Rattle.map_shapes.specs.declared.rect.Rect.{Rect}
 use Rattle.map_shapes.specs.Questions.{is_in}
@@ -250,18 +250,18 @@ pub points_cut : (part : Contents Point) (rows : RangeRows) (rect : Rect) (spans
     → from ≤ low → low ≤ high → high ≤ to → to ≤ length part.items → AbscissasBelow part.items from rect.x1 → AbscissasAbove part.items to rect.x2
     → Permuted (flat_map (live_in_span part rows) spans) (filter (is_in rect) (live_between part low high))
     → Permuted (flat_map (live_in_span part rows) spans ++ (filter (is_in rect) (live_between part from low) ++ filter (is_in rect) (live_between part behind to)))
-    (filter (is_in rect) (items_where_true part.flags part.items))
+    (filter (is_in rect) (live_of part))
 points_cut part rows rect spans from low high behind to is flagged first ordered last within below above middle =
     let f : ℕ → ℕ → List Point = λ a b. filter (is_in rect) (live_between part a b) in
     let whole : f from to ≡ f from low ++ (f low high ++ f high to) =
     live_in-split part rect from low to first (omega arith) ∙ ap (λ l. f from low ++ l) (live_in-split part rect low high to ordered last) in
-    let all : f from low ++ (f low high ++ f high to) ≡ filter (is_in rect) (items_where_true part.flags part.items) =
+    let all : f from low ++ (f low high ++ f high to) ≡ filter (is_in rect) (live_of part) =
     sym whole ∙ live_in-all part rect from to flagged (omega arith) within below above in
     let moved : Permuted (f low high ++ (f from low ++ f high to)) (f from low ++ (f low high ++ f high to)) =
     subst (λ l. Permuted l (f from low ++ (f low high ++ f high to))) (append_assoc (f low high) (f from low) (f high to))
     (subst (λ l. Permuted ((f low high ++ f from low) ++ f high to) l) (append_assoc (f from low) (f low high) (f high to))
     (Permuted-append_left (f high to) (Permuted-append_comm (f low high) (f from low)))) in
-    subst (λ b. Permuted (flat_map (live_in_span part rows) spans ++ (f from low ++ f b to)) (filter (is_in rect) (items_where_true part.flags part.items))) (sym is)
+    subst (λ b. Permuted (flat_map (live_in_span part rows) spans ++ (f from low ++ f b to)) (filter (is_in rect) (live_of part))) (sym is)
     (subst (λ l. Permuted (flat_map (live_in_span part rows) spans ++ (f from low ++ f high to)) l) all
     (composed (Permuted-append_left (f from low ++ f high to) middle) moved))
 

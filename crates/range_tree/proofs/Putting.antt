@@ -8,6 +8,7 @@ use Rattle.std.proofs.lemmas.List.Elements.{All-push}
 use Rattle.std.proofs.lemmas.List.Quantifiers.{all_pairs_push}
 use Rattle.std.proofs.Math.ListN.{get_or-append}
 use Rattle.query_laws.specs.OrderLaws.{IsStrictTotalOrder-before_in}
+use Rattle.query_laws.specs.declared.item.Order.TheVariants.{First, Second}
 use Rattle.weak_delete.specs.Places.{nothing_put}
 use Rattle.builder_trait.specs.Parts.{IsRising}
 use Rattle.builder_trait.specs.Builders.{Progress, IsUnderway, FitsSecond, with_put}
@@ -42,8 +43,8 @@ IsEntryOf-push points q e known = by (has_point points e known)
     by : (p : Point) × (slice_get points e.place ≡ Some p) → IsEntryOf (points ++ q ∷ []) e
     by (p, at) = ap (option_map (λ (r : Point). r.y)) (slice_get-push points q e.place p at ∙ sym at) ∙ known
 
--- a point put in order 0 leaves the levels as they are
-pub IsPutting-first : (b : Progress Point) (levels : List Level) (item : Point) (place : ℕ) → IsPutting b levels → IsPutting (with_put 0 item place b) levels
+-- a point put in the first order leaves the levels as they are
+pub IsPutting-first : (b : Progress Point) (levels : List Level) (item : Point) (place : ℕ) → IsPutting b levels → IsPutting (with_put First item place b) levels
 IsPutting-first b levels item place putting = record {
   small = putting.small;
   made = putting.made;
@@ -55,12 +56,12 @@ IsPutting-first b levels item place putting = record {
 }
 
 -- a place fits 32 bits
-pub small_place : (b : Progress Point) (item : Point) (place : ℕ) → IsUnderway before b → FitsSecond (before 1) b item place → place < 2 ^ 32
+pub small_place : (b : Progress Point) (item : Point) (place : ℕ) → IsUnderway before b → FitsSecond (before Second) b item place → place < 2 ^ 32
 small_place b item place underway fits =
     omega (arith, few_points (length b.items) b.at_level underway.small underway.few, slice_get_within b.items place item fits.at_place)
 
 module _ (b : Progress Point) (levels : List Level) (level : Level) (item : Point) (place : ℕ) (putting : IsPutting b levels)
-    (underway : IsUnderway before b) (fits : FitsSecond (before 1) b item place) (top : slice_get levels 0 ≡ Some level) where
+    (underway : IsUnderway before b) (fits : FitsSecond (before Second) b item place) (top : slice_get levels 0 ≡ Some level) where
   placed : map (slice_get b.items) (b.places ++ place ∷ []) ≡ map Some (b.reordered ++ item ∷ [])
   placed =
       map_push (slice_get b.items) b.places place
@@ -68,14 +69,14 @@ module _ (b : Progress Point) (levels : List Level) (level : Level) (item : Poin
       ∙ ap (λ o. map Some b.reordered ++ o ∷ []) fits.at_place
       ∙ sym (map_push Some b.reordered item)
 
-  rising : IsRising (before 1) (b.reordered ++ item ∷ [])
-  rising = all_pairs_push (λ x y. IsTrue (before 1 x y)) b.reordered item underway.rising_reordered fits.after
+  rising : IsRising (before Second) (b.reordered ++ item ∷ [])
+  rising = all_pairs_push (λ x y. IsTrue (before Second x y)) b.reordered item underway.rising_reordered fits.after
 
   pub room-top : length level.entries.items < level.entries.capacity
   room-top =
       let one : length (b.reordered ++ item ∷ []) ≤ length b.items =
       length-reordered_le b.items (b.reordered ++ item ∷ []) (b.places ++ place ∷ []) placed
-      (IsStrictTotalOrder-before_in (λ (p : Point). p.x) (λ p. p.y) (λ p. p.stamp) 1) rising in
+      (IsStrictTotalOrder-before_in (λ (p : Point). p.x) (λ p. p.y) (λ p. p.stamp) Second) rising in
       let as_many : length level.entries.items ≡ length b.places = sym (length-map level.entries.items (λ (e : Entry). e.place)) ∙ ap length (putting.places level top) in
       omega (
         arith,
@@ -105,7 +106,7 @@ module _ (b : Progress Point) (levels : List Level) (level : Level) (item : Poin
         let old : HasRoom (2 ^ b.at_level) level = at_slot (HasRoom (2 ^ b.at_level)) levels 0 level putting.room top in
         (ap (λ r. r.capacity) entries ∙ old.0, ap (λ s. s.capacity) counts ∙ old.1)
 
-    pub IsPutting-second : IsPutting (with_put 1 item place b) (set levels 0 grown)
+    pub IsPutting-second : IsPutting (with_put Second item place b) (set levels 0 grown)
     IsPutting-second = record {
       small = putting.small;
       made = length-set levels 0 grown ∙ putting.made;
@@ -132,7 +133,7 @@ module _ (b : Progress Point) (levels : List Level) (level : Level) (item : Poin
     }
 
 -- without rows there is nothing to put into
-pub IsPutting-rowless : (b : Progress Point) (levels : List Level) (item : Point) (place : ℕ) → IsPutting b levels → length levels ≡ 0 → IsPutting (with_put 1 item place b) levels
+pub IsPutting-rowless : (b : Progress Point) (levels : List Level) (item : Point) (place : ℕ) → IsPutting b levels → length levels ≡ 0 → IsPutting (with_put Second item place b) levels
 IsPutting-rowless b levels item place putting none = record {
   small = putting.small;
   made = putting.made;

@@ -1,4 +1,4 @@
--- What binary searches in rows of entries, and in points of order 0, need and find.
+-- What binary searches in rows of entries, and in points of the first order, need and find.
 use Rattle.std.proofs.Common.{◌≡◌, ℕ, ◌==◌, ◌<◌, ◌≤◌, ◌&&◌, ◌||◌, Bool, false, true, nat_lt, IsTrue, List, length, get_or, Some, slice_get, arith, subst, ⊎_elim}
 use Rattle.std.proofs.lemmas.Bool.{cases_lt, both_ways}
 use Rattle.std.proofs.lemmas.Bool.Decides.{nat_tests}
@@ -12,6 +12,7 @@ use Rattle.range_tree.specs.declared.search.Reach.{Reach}
 use Rattle.range_tree.specs.declared.search.Reach.TheVariants.{Below, UpTo}
 use Rattle.builder_trait.specs.Search.{PassesUpTo}
 use Rattle.std.proofs.lemmas.List.{get_or_default}
+use Rattle.query_laws.specs.declared.item.Order.TheVariants.{First}
 
 -- the order of entries is strict
 pub precedes-irreflexive : (a : Entry) → precedes a a ≡ false
@@ -81,14 +82,14 @@ found_entry entries key low high rising k j from_k from_j to_j before_k after_k 
     (cases_lt k j))
     (cases_lt j k)
 
--- points in order 0 have abscissas that don't fall
-abscissa-from_before : (a b : Point) → IsTrue (before 0 a b) → a.x ≤ b.x
+-- points in the first order have abscissas that don't fall
+abscissa-from_before : (a b : Point) → IsTrue (before First a b) → a.x ≤ b.x
 abscissa-from_before a b ahead = by a.x b.x a.y b.y a.stamp b.stamp ahead
   where
     by : (x y p q s t : ℕ) → (nat_lt x y || ((x == y) && (nat_lt p q || ((p == q) && nat_lt s t)))) ≡ true → x ≤ y
     by x y p q s t ahead = grind (arith, nat_tests)
 
-pub PassesUpTo-abscissas : (reach : Reach) (points : List Point) (low high : ℕ) → Parts.IsRising (before 0) points → high ≤ length points
+pub PassesUpTo-abscissas : (reach : Reach) (points : List Point) (low high : ℕ) → Parts.IsRising (before First) points → high ≤ length points
     → PassesUpTo (λ p. reaches reach p.x) points low high
 PassesUpTo-abscissas reach points low high rising within k l d above less below passed =
     reaches-down reach (get_or points k d).x (get_or points l d).x

@@ -1,8 +1,7 @@
 -- The most touches of one question.
 use Rattle.std.specs.Prelude.{◌≡◌, ℕ, ◌+◌, ◌-◌, ◌*◌, ◌≤◌, List, length, filter}
 use Rattle.std.proofs.Common.{arith, subst}
-use Rattle.std.specs.List.{items_where_true}
-use Rattle.builder_trait.specs.Parts.{Contents}
+use Rattle.builder_trait.specs.Parts.{Contents, live_of}
 use Rattle.map_shapes.specs.declared.point.Point.{Point}
 use Rattle.map_shapes.specs.declared.rect.Rect.{Rect}
 use Rattle.map_shapes.specs.Questions.{is_in}
@@ -16,7 +15,7 @@ count_touches points = 16 * ((height_of (length points) + 2) * (height_of (lengt
 abbrev pub list_touches : Rect → Contents Point → ℕ
 list_touches rect part =
     count_touches part.items
-    + 8 * (height_of (length part.items) + 2) * length (filter (is_in rect) (items_where_true part.flags part.items))
+    + 8 * (height_of (length part.items) + 2) * length (filter (is_in rect) (live_of part))
 
 -- a larger part doesn't have a lower bound
 longer : (g d : ℕ) → 16 * ((g + 2) * (g + 2)) ≤ 16 * ((g + d + 2) * (g + d + 2))

@@ -26,7 +26,7 @@ emptied level = record {
   counts = nothing_put level.counts.capacity;
 }
 
--- Before the seal the top level has an entry for each point of order 1, in the order of the puts.
+-- Before the seal the top level has an entry for each point of the second order, in the order of the puts.
 pub record IsPutting (b : Progress Point) (levels : List Level) : Type 0 where
   pub small : b.at_level < 32
   pub made : length levels ≡ levels_to b.at_level

@@ -1,7 +1,8 @@
--- The rows of a range tree over points in order 0 (Bentley 1979).
+-- The rows of a range tree over points in the first order (Bentley 1979).
 use Rattle.std.specs.Prelude.{◌≡◌, ℕ, ◌==◌, ◌+◌, ◌^◌, ◌<◌, ◌≤◌, ◌&&◌, ◌||◌, Bool, false, nat_lt, IsTrue, List, Some, length, map, min, All, slice_get, slice_index_or}
 use Rattle.std.specs.Option.{option_map, unwrap_or}
 use Rattle.query_laws.specs.Orders.{before_in}
+use Rattle.query_laws.specs.declared.item.Order.{Order}
 use Rattle.weak_delete.specs.declared.place.Place.{Place}
 use Rattle.weak_delete.specs.Places.{IsBuilt}
 use Rattle.row_blocks.specs.Blocks.{IsMultiple}
@@ -12,7 +13,7 @@ use Rattle.range_tree.specs.declared.level.Level.{Level}
 use Rattle.range_tree.specs.Heights.{levels_for, height_at}
 
 -- the orders of points
-abbrev pub before : ℕ → Point → Point → Bool
+abbrev pub before : Order → Point → Point → Bool
 before = before_in (λ p. p.x) (λ p. p.y) (λ p. p.stamp)
 
 -- the entry stands before the other: by ordinate, then by place

@@ -1,8 +1,8 @@
 //! Answers to questions, from what a rectangle is cut into.
 ghost use Rattle.std.specs.Prelude.{◌≡◌, ◌+◌, ◌*◌, ◌^◌, ◌≤◌, ℕ, length, OnOk};
-ghost use Rattle.std.specs.List.{items_where_true};
 ghost use Rattle.query_laws.specs.StepLedger.{Spends};
 ghost use Rattle.query_laws.specs.Sums.{capped_add};
+ghost use Rattle.builder_trait.specs.Parts.{live_of};
 ghost use Rattle.map_shapes.specs.Ascending.{sorted_ids, sorted_union};
 ghost use Rattle.map_shapes.specs.Questions.{ids_in};
 ghost use Rattle.range_tree.specs.Costs.{count_touches, list_touches};
@@ -30,7 +30,7 @@ impl RangeRows {
         steps: &mut Steps<L>,
     )
         requires over { AreOver points.now self.now }
-        ensures added { tally.new ≡ capped_add tally.old (measure_in measure rect.now (items_where_true points.now.flags points.now.items)) }
+        ensures added { tally.new ≡ capped_add tally.old (measure_in measure rect.now (live_of points.now)) }
         ensures cost { Spends steps.old steps.new 0 0 (count_touches points.now.items) }
     {
         let pieces = self.cut(points, rect, steps);
@@ -55,7 +55,7 @@ impl RangeRows {
     ) -> Result<(), NoMemory>
         requires over { AreOver points.now self.now }
         ensures joined { OnOk result (sorted_ids tally.new
-            ≡ sorted_union (sorted_ids tally.old) (ids_in rect.now (items_where_true points.now.flags points.now.items))) }
+            ≡ sorted_union (sorted_ids tally.old) (ids_in rect.now (live_of points.now))) }
         ensures cost { Spends steps.old steps.new 0 0 (list_touches rect.now points.now) }
     {
         let pieces = self.cut(points, rect, steps);

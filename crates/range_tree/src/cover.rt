@@ -1,8 +1,9 @@
 //! A rectangle cut into spans of blocks.
 ghost use Rattle.std.specs.Prelude.{◌≡◌, ◌+◌, ◌-◌, ◌*◌, ◌^◌, ◌≤◌, ◌<◌, ◌++◌, ℕ, All, length, min, filter};
-ghost use Rattle.std.specs.List.{flat_map, items_where_true};
+ghost use Rattle.std.specs.List.{flat_map};
 ghost use Rattle.query_laws.specs.StepLedger.{Spends};
 ghost use Rattle.query_laws.specs.Permuted.{Permuted};
+ghost use Rattle.builder_trait.specs.Parts.{live_of};
 ghost use Rattle.row_blocks.specs.Blocks.{IsMultiple};
 ghost use Rattle.map_shapes.specs.Questions.{is_in};
 ghost use Rattle.range_tree.specs.Heights.{levels_to, most_scanned};
@@ -20,7 +21,7 @@ use query_laws::step_ledger::Steps;
 use row_blocks::{block_len, block_start};
 use std::sync::ledger::Ledger;
 
-/// Neighbouring places of order 0: those from `from` on and below `to`.
+/// Neighbouring places of the first order: those from `from` on and below `to`.
 #[derive(Clone, Copy, Debug)]
 pub(crate) struct Places {
     pub(crate) from: usize,
@@ -165,7 +166,7 @@ impl RangeRows {
         ensures few { length result.spans.items ≤ 2 * self.now.used }
         ensures points { Permuted (flat_map (live_in_span points.now self.now) result.spans.items
             ++ (live_in_places points.now rect.now result.front ++ live_in_places points.now rect.now result.back))
-            (filter (is_in rect.now) (items_where_true points.now.flags points.now.items)) }
+            (filter (is_in rect.now) (live_of points.now)) }
         ensures front { (result.front.from ≤ result.front.to) × (result.front.to ≤ length points.now.items) }
         ensures back { (result.back.from ≤ result.back.to) × (result.back.to ≤ length points.now.items) }
         ensures ends { (result.front.to - result.front.from) + (result.back.to - result.back.from) ≤ min most_scanned (length points.now.items) }

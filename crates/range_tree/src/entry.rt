@@ -2,7 +2,7 @@
 ghost use Rattle.std.specs.Prelude.{◌≡◌, ◌+◌, ◌*◌, ◌^◌, ◌<◌};
 ghost use Rattle.range_tree.specs.Rows.{precedes};
 
-/// A point as a row of the tree has it: its ordinate, and its place in order 0.
+/// A point as a row of the tree has it: its ordinate, and its place in the first order.
 #[derive(Clone, Copy, Debug)]
 pub(crate) struct Entry {
     pub(crate) y: u32,

@@ -1,6 +1,6 @@
 //! Points in a rectangle: a range tree (Bentley 1979).
 //!
-//! Over the points in order 0, by abscissa, stands a balanced binary tree, whose leaves have 32 points each. A level of it cuts
+//! Over the points in the first order, by abscissa, stands a balanced binary tree, whose leaves have 32 points each. A level of it cuts
 //! the points into blocks of `2^h` places, h being the level's height, and is one row: block after block, and within a block the
 //! points by ordinate. So each point stands once in each level, and the points of a rectangle are those of two blocks of each
 //! level at most, between two places found by binary search, and some at both ends that fill no leaf, which are scanned. Live

@@ -12,8 +12,8 @@ use crate::span::Span;
 use builder_trait::Part;
 use builder_trait::flat::FlatPart;
 use map_shapes::{IdTally, Point};
-use query_laws::NoMemory;
 use query_laws::step_ledger::Steps;
+use query_laws::{NoMemory, Order};
 use std::sync::ledger::Ledger;
 
 /// The live entry with `rank` live ones before it, and where it stands: at `k`, where the entry there is live, and else found
@@ -64,7 +64,7 @@ impl RangeRows {
         let mut k = span.from;
         for rank in first..last {
             let (found, entry) = live_from(points, level, k, rank as usize, steps);
-            tally.push(points.item(0, entry.place as usize, steps).id)?;
+            tally.push(points.item(Order::First, entry.place as usize, steps).id)?;
             k = found + 1;
         }
         Ok(())

@@ -11,8 +11,8 @@ use crate::measure::Measure;
 use builder_trait::Part;
 use builder_trait::flat::FlatPart;
 use map_shapes::{IdTally, Point, Rect};
-use query_laws::NoMemory;
 use query_laws::step_ledger::Steps;
+use query_laws::{NoMemory, Order};
 use std::sync::ledger::Ledger;
 
 /// What the point at a place counts for, where it is live and in the rectangle: four touches at most.
@@ -28,7 +28,7 @@ fn measure_at<L: Ledger>(
     ensures small { result < 2 ^ 31 }
     ensures cost { Spends steps.old steps.new 0 0 4 }
 {
-    let point = points.item(0, k, steps);
+    let point = points.item(Order::First, k, steps);
     if point.is_inside(rect) && points.alive(k, steps) {
         measure.of(&point)
     } else {
@@ -70,7 +70,7 @@ fn list_at<L: Ledger>(
     ensures listed { OnOk result (tally.new ≡ tally.old ++ map (λ p. p.id) (filter (is_in rect.now) (live_at points.now k))) }
     ensures cost { Spends steps.old steps.new 0 0 4 }
 {
-    let point = points.item(0, k, steps);
+    let point = points.item(Order::First, k, steps);
     if point.is_inside(rect) && points.alive(k, steps) {
         tally.push(point.id)?;
     }

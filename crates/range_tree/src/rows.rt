@@ -23,7 +23,7 @@ use std::sync::ledger::Ledger;
 /// Its rows begin at blocks of `2^5` places, the leaves; a question scans the places at both ends that no whole leaf has. It keeps the
 /// i - 4 rows of its builder at level i, each with room for an entry and a place of the live counts for each of `2^i` points; its
 /// tree uses h - 4 of them. An entry takes 8 bytes and a place of the counts 5 1/8, so at level 16 the rows take 157 bytes for each
-/// point that there is room for. The points themselves, with the places of order 1 and flags, take 37 more. The largest entry that a
+/// point that there is room for. The points themselves, with the places of the second order and flags, take 37 more. The largest entry that a
 /// touch reads or writes is the 64 bytes of sixteen places' weights.
 pub type RangePart = RowsPart<RangeRows>;
 

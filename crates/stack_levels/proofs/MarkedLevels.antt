@@ -9,9 +9,9 @@ use Rattle.std.proofs.lemmas.Option.{get_or_from_slice_get, slice_get-get_or, sl
 use Rattle.query_laws.specs.Permuted.{nothing, same_head, composed}
 use Rattle.query_laws.proofs.Permutations.{Permuted-middle, Permuted-refl}
 use Rattle.query_laws.specs.Orders.{AllStampsDiffer}
-use Rattle.builder_trait.specs.Parts.{Contents, OwnsStamp, has_stamp, without}
+use Rattle.query_laws.specs.declared.item.Order.{Order}
+use Rattle.builder_trait.specs.Parts.{Contents, OwnsStamp, has_stamp, without, live_of}
 use Rattle.ordered_merge.proofs.Fronts.{All-permuted}
-use Rattle.partial_build.specs.Construction.{live_of}
 use Rattle.partial_build.proofs.Stamps.{same_place}
 use Rattle.stack_levels.specs.Slots.{Slots, IsPartOf, ticks_of, live_in, items_in, asked_in, held_in, one_if}
 use Rattle.stack_levels.specs.Levels.{live_items, all_items, asked}
@@ -75,7 +75,7 @@ module _ {P Item : Type 0} where
       let held : held_in l' ≡ held_in l = omega (arith, ap held_in same, ap one_if runs) in ap (λ n. n ∷ map held_in rest) held
 
   module _ (contents : P → Contents Item) (stamp : Item → ℕ) where
-    pub tower-over : (before : ℕ → Item → Item → Bool) (l : Slots P Item) (above above' : List (Slots P Item)) → IsTower contents stamp before l above
+    pub tower-over : (before : Order → Item → Item → Bool) (l : Slots P Item) (above above' : List (Slots P Item)) → IsTower contents stamp before l above
         → AreLevels contents stamp before above' → IsSameBelow above above' → IsTower contents stamp before l above'
     tower-over before l [] above' tower levels same = subst (IsTower contents stamp before l) (sym same) tower
     tower-over before l (next ∷ rest) above' tower levels same =
@@ -84,7 +84,7 @@ module _ {P Item : Type 0} where
           subst (AreLevels contents stamp before) same.2 levels,
         )
 
-    pub levels_from_tower : (before : ℕ → Item → Item → Bool) (l : Slots P Item) (above : List (Slots P Item)) → IsTower contents stamp before l above
+    pub levels_from_tower : (before : Order → Item → Item → Bool) (l : Slots P Item) (above : List (Slots P Item)) → IsTower contents stamp before l above
         → AreLevels contents stamp before above
     levels_from_tower before l [] tower = tt
     levels_from_tower before l (next ∷ above) tower = tower.1
@@ -183,7 +183,7 @@ module _ {Item : Type 0} where
         without-one stamp (live_items contents levels) x
         (AllStampsDiffer-part stamp (live_items contents levels) (all_items contents levels) (live_levels levels) apart) live.0 live.1 live.2
 
-    module _ (stamp : Item → ℕ) (before : ℕ → Item → Item → Bool) where
+    module _ (stamp : Item → ℕ) (before : Order → Item → Item → Bool) where
       pub levels-from_all : (levels : List (Slots P Item)) → AreAllLevels contents stamp before levels → AreLevels contents stamp before levels
       levels-from_all [] h = tt
       levels-from_all (l ∷ above) h = h.2

@@ -9,9 +9,8 @@ use Rattle.std.proofs.lemmas.Option.{get_or_from_slice_get, slice_get_within, sl
 use Rattle.query_laws.specs.Orders.{AllStampsDiffer}
 use Rattle.query_laws.specs.StepLedger.{Counts, Spends}
 use Rattle.query_laws.proofs.Counting.{Spends-then, Spends-within}
-use Rattle.builder_trait.specs.Parts.{Contents, OwnsStamp, has_stamp, without, marked}
+use Rattle.builder_trait.specs.Parts.{Contents, OwnsStamp, has_stamp, without, marked, live_of}
 use Rattle.builder_trait.proofs.Marking.{fallen, items-fallen, has_stamp_none, marked-same}
-use Rattle.partial_build.specs.Construction.{live_of}
 use Rattle.stack_levels.specs.Slots.{asked_in}
 use Rattle.stack_levels.specs.Level.{IsOfLevel}
 use Rattle.stack_levels.specs.Marking.{IsLiveIn, Lacks, AreMarkedAt, nowhere, here, later}

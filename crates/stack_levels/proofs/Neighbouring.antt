@@ -3,6 +3,7 @@ use Rattle.std.proofs.Common.{◌≡◌, ℕ, suc, ◌+◌, ◌*◌, ◌^◌, �
 use Rattle.std.specs.Option.{option_map_or, is_some}
 use Rattle.std.proofs.lemmas.Nat.{pow_pos}
 use Rattle.query_laws.proofs.Permutations.{Permuted-refl}
+use Rattle.query_laws.specs.declared.item.Order.{Order}
 use Rattle.builder_trait.specs.Parts.{Contents}
 use Rattle.partial_build.specs.Construction.{Builds}
 use Rattle.stack_levels.specs.Slots.{Slots, ticks_of, weight_in, live_in, items_in}
@@ -17,7 +18,7 @@ pub not_some : {A : Type 0} (o : Option A) → is_some o ≡ false → o ≡ Non
 not_some None none = refl
 not_some (Some x) none = absurd cc
 
-module _ {P Item : Type 0} (contents : P → Contents Item) (stamp : Item → ℕ) (before : ℕ → Item → Item → Bool) where
+module _ {P Item : Type 0} (contents : P → Contents Item) (stamp : Item → ℕ) (before : Order → Item → Item → Bool) where
   pub fed_by : (lower mid : Slots P Item) {a b : P} → lower.parts ≡ a ∷ b ∷ drop 2 lower.parts
       → IsConstructionOf contents stamp before a b mid → IsFed contents stamp before lower mid
   fed_by lower mid {a} {b} are h x y rest others c is =

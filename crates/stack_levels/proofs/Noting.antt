@@ -1,6 +1,7 @@
 -- Two neighbouring levels, where an item of the lower one is marked as dead.
 use Rattle.std.proofs.Common.{◌≡◌, ℕ, ◌+◌, ◌≤◌, ◌∙◌, Bool, Option, Some, None, List, [], ◌∷◌, length, refl, sym, ap, subst, arith}
 use Rattle.std.specs.Option.{option_map, is_some}
+use Rattle.query_laws.specs.declared.item.Order.{Order}
 use Rattle.builder_trait.specs.Parts.{Contents, marked}
 use Rattle.partial_build.specs.Construction.{Builds}
 use Rattle.stack_levels.specs.Slots.{Slots, ticks_of}
@@ -11,7 +12,7 @@ use Rattle.stack_levels.proofs.Marks.{unmarked, length-marked}
 use Rattle.stack_levels.proofs.Neighbouring.{not_some}
 use Rattle.stack_levels.proofs.Towers.{below-kept}
 
-module _ {P Item : Type 0} (contents : P → Contents Item) (stamp : Item → ℕ) (before : ℕ → Item → Item → Bool) (x : Item) where
+module _ {P Item : Type 0} (contents : P → Contents Item) (stamp : Item → ℕ) (before : Order → Item → Item → Bool) (x : Item) where
   -- what a note of the item does to the construction into a level, where the item was live at a place of the level below
   pub record Noted (place : Option ℕ) (next next' : Slots P Item) : Type 0 where
     pub stays : ((k : ℕ) → place ≡ Some k → 2 ≤ k) → (a b : P) → IsConstructionOf contents stamp before a b next

@@ -6,8 +6,7 @@ use Rattle.std.proofs.Math.Pow.{pow_mono}
 use Rattle.std.proofs.lemmas.List.{flat_map_more, length-append}
 use Rattle.query_laws.specs.Permuted.{Permuted}
 use Rattle.query_laws.proofs.Permutations.{Permuted-append_left, Permuted-append_right}
-use Rattle.builder_trait.specs.Parts.{Contents}
-use Rattle.partial_build.specs.Construction.{live_of}
+use Rattle.builder_trait.specs.Parts.{Contents, live_of}
 use Rattle.stack_levels.specs.Slots.{Slots, IsPartOf, weight_in, live_in, items_in}
 use Rattle.stack_levels.specs.Neighbours.{IsPublication}
 use Rattle.stack_levels.proofs.Distinct.{IsPartOf-append, IsPartOf-front, IsPartOf-refl}

@@ -6,6 +6,7 @@ use Rattle.std.proofs.lemmas.Bool.{cases_lt}
 use Rattle.std.proofs.lemmas.List.{flat_map_more, length-append}
 use Rattle.query_laws.specs.Permuted.{Permuted, composed}
 use Rattle.query_laws.proofs.Permutations.{Permuted-append_comm, Permuted-append_left, Permuted-append_right}
+use Rattle.query_laws.specs.declared.item.Order.{Order}
 use Rattle.builder_trait.specs.Parts.{Contents}
 use Rattle.stack_levels.specs.Slots.{Slots, IsPartOf, ticks_of, weight_in, live_in, items_in}
 use Rattle.stack_levels.specs.Levels.{weight_of, live_items, all_items}
@@ -15,7 +16,7 @@ use Rattle.stack_levels.proofs.Distinct.{IsPartOf-refl, IsPartOf-append, IsPartO
 use Rattle.stack_levels.proofs.Publishing.{doubled}
 use Rattle.stack_levels.proofs.Neighbouring.{none_ticks}
 
-module _ {P Item : Type 0} (contents : P → Contents Item) (stamp : Item → ℕ) (before : ℕ → Item → Item → Bool) where
+module _ {P Item : Type 0} (contents : P → Contents Item) (stamp : Item → ℕ) (before : Order → Item → Item → Bool) where
   -- no part arrives at a full level
   pub place : (l : Slots P Item) (above : List (Slots P Item)) → IsTower contents stamp before l above → ticks_of l + 1 ≡ 2 ^ l.level
       → length l.parts < 3
@@ -147,7 +148,7 @@ regrouped-part xs ys zs ys' zs' p =
 weighed : (l l' o n r r' m : ℕ) → n + l' ≡ o + l → m + r' ≡ n + r → l' + (m + r') ≡ l + (o + r)
 weighed l l' o n r r' m first second = omega (arith, first, second)
 
-module _ {P Item : Type 0} (contents : P → Contents Item) (stamp : Item → ℕ) (before : ℕ → Item → Item → Bool)
+module _ {P Item : Type 0} (contents : P → Contents Item) (stamp : Item → ℕ) (before : Order → Item → Item → Bool)
     {old lower new lower' : Slots P Item} (h : IsVisited contents stamp before old lower new lower') (above : List (Slots P Item)) where
   pub live-walked : (rest : List (Slots P Item)) → Permuted (live_items contents rest) (live_items contents (new ∷ above))
       → Permuted (live_items contents (lower' ∷ rest)) (live_items contents (lower ∷ old ∷ above))
@@ -189,7 +190,7 @@ arrived f parts {parts'} xs {old} p pushed same =
     subst (λ l. Permuted l (f p ++ old)) (flat_map_more f xs parts p ∙ ap (λ ps. xs ++ flat_map f ps) (sym pushed))
     (subst (λ l. Permuted ((xs ++ flat_map f parts) ++ f p) (f p ++ l)) same (Permuted-append_comm (xs ++ flat_map f parts) (f p)))
 
-module _ {P Item : Type 0} (contents : P → Contents Item) (stamp : Item → ℕ) (before : ℕ → Item → Item → Bool)
+module _ {P Item : Type 0} (contents : P → Contents Item) (stamp : Item → ℕ) (before : Order → Item → Item → Bool)
     (lowest : Slots P Item) (above : List (Slots P Item)) (h : AreAllLevels contents stamp before (lowest ∷ above)) where
   pub at_once : 2 ^ lowest.level ≡ ticks_of lowest + 1
   at_once = omega (arith, ap (λ k. 2 ^ k) h.0, none_ticks lowest h.1)

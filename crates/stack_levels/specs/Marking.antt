@@ -1,8 +1,7 @@
 -- An item that is marked as dead, in parts and levels.
 use Rattle.std.specs.Prelude.{◌≡◌, ℕ, ◌+◌, Option, Some, None, List, [], ◌∷◌, true, false, All, slice_get}
 use Rattle.std.specs.Option.{option_map, is_some}
-use Rattle.builder_trait.specs.Parts.{Contents, has_stamp, marked}
-use Rattle.partial_build.specs.Construction.{live_of}
+use Rattle.builder_trait.specs.Parts.{Contents, has_stamp, marked, live_of}
 use Rattle.stack_levels.specs.Slots.{Slots, ticks_of}
 
 module _ {Item : Type 0} where

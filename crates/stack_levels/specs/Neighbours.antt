@@ -1,8 +1,9 @@
 -- Two neighbouring levels, and what runs between them (Overmars and van Leeuwen 1981).
 use Rattle.std.specs.Prelude.{◌≡◌, ℕ, ◌+◌, ◌-◌, ◌*◌, ◌^◌, ◌<◌, ◌≤◌, ◌⊎◌, Bool, List, [], ◌∷◌, ◌++◌, Some, None, length}
 use Rattle.query_laws.specs.Permuted.{Permuted}
-use Rattle.builder_trait.specs.Parts.{Contents}
-use Rattle.partial_build.specs.Construction.{Construction, Builds, IsOnTime, live_of}
+use Rattle.query_laws.specs.declared.item.Order.{Order}
+use Rattle.builder_trait.specs.Parts.{Contents, live_of}
+use Rattle.partial_build.specs.Construction.{Construction, Builds, IsOnTime}
 use Rattle.stack_levels.specs.Slots.{Slots, IsPartOf, ticks_of, weight_in, live_in, items_in}
 
 module _ {P Item : Type 0} where
@@ -27,7 +28,7 @@ module _ {P Item : Type 0} where
       pub live : Permuted (live_of (contents fresh)) (live_of (contents first) ++ live_of (contents second))
       pub items : IsPartOf (contents fresh).items ((contents first).items ++ (contents second).items)
 
-    module _ (stamp : Item → ℕ) (before : ℕ → Item → Item → Bool) where
+    module _ (stamp : Item → ℕ) (before : Order → Item → Item → Bool) where
       -- what is under construction into a level is made of a and b, as these are now
       abbrev pub IsConstructionOf : P → P → Slots P Item → Type 0
       IsConstructionOf a b l = (c : Construction Item) → l.construction ≡ Some c → Builds stamp before c (contents a) (contents b)

@@ -3,8 +3,8 @@ use Rattle.std.specs.Prelude.{◌≡◌, ℕ, ◌+◌, ◌*◌, ◌^◌, Bool, L
 use Rattle.std.specs.List.{flat_map}
 use Rattle.std.specs.Option.{option_map_or, is_some}
 use Rattle.query_laws.specs.Permuted.{Permuted}
-use Rattle.builder_trait.specs.Parts.{Contents, has_stamp}
-use Rattle.partial_build.specs.Construction.{Construction, live_of}
+use Rattle.builder_trait.specs.Parts.{Contents, has_stamp, live_of}
+use Rattle.partial_build.specs.Construction.{Construction}
 
 -- the complete parts of a level, oldest first; the construction of its next part, which is made of the two oldest parts of the level
 -- below; whether there is room for the one after that; and how many builders are kept, each made of a part that was retired

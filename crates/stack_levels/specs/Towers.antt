@@ -1,5 +1,6 @@
 -- The clocks of levels one above the other, and the rooms that they hold.
 use Rattle.std.specs.Prelude.{◌≡◌, ℕ, ◌+◌, ◌^◌, ◌<◌, ◌≤◌, Bool, true, List, [], ◌∷◌, None, length}
+use Rattle.query_laws.specs.declared.item.Order.{Order}
 use Rattle.builder_trait.specs.Parts.{Contents}
 use Rattle.stack_levels.specs.Slots.{Slots, ticks_of}
 use Rattle.stack_levels.specs.Neighbours.{IsBelow}
@@ -38,7 +39,7 @@ module _ {P Item : Type 0} where
   HaveRoomsNext [] = Unit {0}
   HaveRoomsNext (lowest ∷ above) = HaveRoomsAhead lowest above
 
-  module _ (contents : P → Contents Item) (stamp : Item → ℕ) (before : ℕ → Item → Item → Bool) where
+  module _ (contents : P → Contents Item) (stamp : Item → ℕ) (before : Order → Item → Item → Bool) where
     -- the levels between two ticks: above the last one there is no construction
     abbrev pub IsTower : Slots P Item → List (Slots P Item) → Type 0
     IsTower lower [] = length lower.parts < 2

@@ -2,7 +2,7 @@
 ghost use Rattle.std.specs.Prelude.{◌≡◌, ℕ, ◌+◌, ◌-◌, ◌*◌, ◌^◌, ◌<◌, ◌≤◌, true, None, ◌∷◌, ◌++◌, ◌⊎◌, All, length, map, drop};
 ghost use Rattle.query_laws.specs.Orders.{AllStampsDiffer};
 ghost use Rattle.query_laws.specs.Permuted.{Permuted};
-ghost use Rattle.partial_build.specs.Construction.{live_of};
+ghost use Rattle.builder_trait.specs.Parts.{live_of};
 ghost use Rattle.partial_build.specs.Quota.{quota};
 ghost use Rattle.stack_levels.specs.Slots.{Slots, IsPartOf, ticks_of, held_in, weight_in, live_in, items_in};
 ghost use Rattle.stack_levels.specs.Levels.{lowest_held, weight_of, live_items, all_items};

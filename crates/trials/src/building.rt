@@ -4,17 +4,15 @@ ghost use Rattle.builder_trait.specs.Builders.{begun};
 ghost use Rattle.trials.specs.Filling.{comes_after};
 
 use builder_trait::Builder;
-use query_laws::Item;
 use query_laws::step_ledger::Steps;
+use query_laws::{Item, Order};
 use samples::Failure;
 use std::alloc::{AllocError, Global};
 use std::cmp::Ordering;
 use std::sync::ledger::Ledger;
 
 /// How two items stand in an order.
-fn compare<I: Item>(order: usize, a: &I, b: &I) -> Ordering
-    requires { order < 2 }
-{
+fn compare<I: Item>(order: Order, a: &I, b: &I) -> Ordering {
     match (a.before(order, b), b.before(order, a)) {
         (true, _) => Ordering::Less,
         (_, true) => Ordering::Greater,
@@ -22,20 +20,19 @@ fn compare<I: Item>(order: usize, a: &I, b: &I) -> Ordering
     }
 }
 
-/// The places of sorted items, in order 1.
+/// The places of sorted items, in the second order.
 fn reordered<I: Item>(alloc: Global, items: &[I]) -> Result<Vec<usize>, AllocError> {
     let mut entries: Vec<(I, usize)> = items
         .iter()
         .enumerate()
         .map(|(place, item)| (*item, place))
         .collect(alloc)?;
-    entries.sort_unstable_by(|a, b| compare(1, &a.0, &b.0));
+    entries.sort_unstable_by(|a, b| compare(Order::Second, &a.0, &b.0));
     entries.iter().map(|entry| entry.1).collect(alloc)
 }
 
 /// Whether an item may be put after the last one that was put in an order.
-fn is_after<I: Item>(order: usize, last: Option<I>, item: &I) -> bool
-    requires { order < 2 }
+fn is_after<I: Item>(order: Order, last: Option<I>, item: &I) -> bool
     ensures { result ≡ comes_after (I.before order) last item.now }
 {
     match last {
@@ -59,7 +56,7 @@ fn room_for<B: Builder>(alloc: Global, n: usize) -> Result<B, Failure>
     Err(Failure::Unfit)
 }
 
-/// Puts sorted items in order 0.
+/// Puts sorted items in the first order.
 fn put_in_first<B: Builder, L: Ledger>(
     builder: &mut B,
     items: &[B::Item],
@@ -71,16 +68,16 @@ fn put_in_first<B: Builder, L: Ledger>(
 {
     let mut last = None;
     for (place, item) in items.iter().enumerate() {
-        if !is_after(0, last, item) {
+        if !is_after(Order::First, last, item) {
             return Err(Failure::Unfit);
         }
-        builder.put(0, *item, place, steps);
+        builder.put(Order::First, *item, place, steps);
         last = Some(*item);
     }
     Ok(())
 }
 
-/// Puts the items at some places in order 1.
+/// Puts the items at some places in the second order.
 fn put_in_second<B: Builder, L: Ledger>(
     builder: &mut B,
     items: &[B::Item],
@@ -97,10 +94,10 @@ fn put_in_second<B: Builder, L: Ledger>(
         let Some(item) = items.get(*place) else {
             return Err(Failure::Unfit);
         };
-        if !is_after(1, last, item) {
+        if !is_after(Order::Second, last, item) {
             return Err(Failure::Unfit);
         }
-        builder.put(1, *item, *place, steps);
+        builder.put(Order::Second, *item, *place, steps);
         last = Some(*item);
     }
     Ok(())
@@ -113,7 +110,7 @@ pub fn built<B: Builder, L: Ledger>(
     steps: &mut Steps<L>,
 ) -> Result<B::Part, Failure> {
     let mut items = Vec::from_slice(alloc, items)?;
-    items.sort_unstable_by(|a, b| compare(0, a, b));
+    items.sort_unstable_by(|a, b| compare(Order::First, a, b));
     let places = reordered(alloc, &items)?;
     if places.len() != items.len() {
         return Err(Failure::Unfit);

@@ -6,7 +6,7 @@ use crate::building::built;
 use crate::tried::Tried;
 use builder_trait::{Answers, Asking, Builder, Part};
 use query_laws::step_ledger::Steps;
-use query_laws::{Item, NoMemory, Question};
+use query_laws::{Item, NoMemory, Order, Question};
 use samples::Failure;
 use std::alloc::Global;
 use std::sync::ledger::Ledger;
@@ -26,9 +26,9 @@ fn own_item<P: Part, L: Ledger>(part: &P, place: usize, steps: &mut Steps<L>) ->
     if place >= part.len() {
         return None;
     }
-    let item = part.item(0, place, steps);
+    let item = part.item(Order::First, place, steps);
     for other in 0..part.len() {
-        if other != place && part.item(0, other, steps).stamp() == item.stamp() {
+        if other != place && part.item(Order::First, other, steps).stamp() == item.stamp() {
             return None;
         }
     }

@@ -2,7 +2,7 @@
 ghost use Rattle.std.specs.Prelude.{◌<◌, ◌≤◌, ◌^◌};
 
 use crate::{Found, FoundList, IndexSet, Kind, Segment};
-use query_laws::{Item, Named};
+use query_laws::{Item, Named, Order};
 use std::test::Fail;
 
 fn segment(lo: u32, hi: u32, stamp: u64) -> Segment
@@ -18,9 +18,12 @@ fn segment(lo: u32, hi: u32, stamp: u64) -> Segment
     }
 }
 
-/// Whether the first comes before the second, in order 0 and in order 1.
+/// Whether the first comes before the second, in the first order and in the second order.
 fn comes_before<I: Item>(first: &I, second: &I) -> (bool, bool) {
-    (first.before(0, second), first.before(1, second))
+    (
+        first.before(Order::First, second),
+        first.before(Order::Second, second),
+    )
 }
 
 fn named<I: Named>(item: &I) -> (u64, u64) {

@@ -1,12 +1,12 @@
 //! Items with a key and a weight, and the weight of those below a limit, as a question.
-ghost use Rattle.std.specs.Prelude.{◌≡◌, ◌<◌, ◌^◌, false, refl, nat_lt, if◌then◌else◌, length};
+ghost use Rattle.std.specs.Prelude.{◌≡◌, ◌<◌, ◌^◌, false, nat_lt, if◌then◌else◌, length};
 ghost use Rattle.query_laws.specs.Orders.{before_in};
 ghost use Rattle.query_laws.specs.OrderLaws.{IsStrictTotalOrder-before_in};
 ghost use Rattle.query_laws.specs.Sums.{capped_sum, capped_add, FitsU64, IsDecomposable-capped_sum};
 
 use super::callers::Asked;
 use crate::step_ledger::{Row, Steps};
-use crate::{Item, Named, NoMemory, Question, Total};
+use crate::{Item, Named, NoMemory, Order, Question, Total};
 use std::alloc::Global;
 use std::sync::ledger::Ledger;
 
@@ -18,10 +18,6 @@ pub struct Tag {
 }
 
 impl Item for Tag {
-    const ORDERS: usize = 2;
-
-    ghost ORDERS = { 2 };
-
     ghost stamp = { λ tag. tag.stamp };
 
     ghost before = { before_in (λ tag. tag.key) (λ tag. tag.weight) (λ tag. tag.stamp) };
@@ -30,22 +26,19 @@ impl Item for Tag {
         self.stamp
     }
 
-    fn before(&self, order: usize, other: &Self) -> bool {
+    fn before(&self, order: Order, other: &Self) -> bool {
         let by_key = self.key < other.key;
         let by_weight = self.weight < other.weight;
         let by_stamp = self.stamp < other.stamp;
         let same_key = self.key == other.key;
         let same_weight = self.weight == other.weight;
-        if order == 0 {
-            by_key || (same_key && (by_weight || (same_weight && by_stamp)))
-        } else {
-            by_weight || (same_weight && (by_key || (same_key && by_stamp)))
+        match order {
+            Order::First => by_key || (same_key && (by_weight || (same_weight && by_stamp))),
+            Order::Second => by_weight || (same_weight && (by_key || (same_key && by_stamp))),
         }
     }
 
-    ghost two_orders = { refl };
-
-    ghost ordered = { λ order below. IsStrictTotalOrder-before_in (λ tag. tag.key) (λ tag. tag.weight) (λ tag. tag.stamp) order };
+    ghost ordered = { λ order. IsStrictTotalOrder-before_in (λ tag. tag.key) (λ tag. tag.weight) (λ tag. tag.stamp) order };
 }
 
 impl Named for Tag {

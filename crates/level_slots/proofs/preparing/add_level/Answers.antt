@@ -3,12 +3,12 @@ use Rattle.level_slots.proofs.Forecasting.{IsKept-refl, IsKept-added, held-added
 use Rattle.level_slots.proofs.preparing.add_level.Goals as goal
 
 pub returns-in_err-reserve-clause-kept : goal.returns-in_err-reserve-clause-kept
-returns-in_err-reserve-clause-kept g c = rw c.reserve.ensures.items (IsKept-refl _ _ _ _ _ c.args.levels.now.items)
+returns-in_err-reserve-clause-kept g c = rw c.reserve.ensures.items (IsKept-refl _ c.args.levels.now.items)
 
 pub returns-clause-kept : goal.returns-clause-kept
 returns-clause-kept g c =
     rw (c.push_reserved.ensures.items, c.reserve.ensures.items, c.in_ok-level.ensures)
-    (IsKept-added _ _ _ _ _ c.args.levels.now.items c.len.result (omega (arith, c.len.ensures)) (omega (arith, c.len.ensures, c.requires.few)))
+    (IsKept-added _ c.args.levels.now.items c.len.result (omega (arith, c.len.ensures)) (omega (arith, c.len.ensures, c.requires.few)))
 
 pub returns-clause-held : goal.returns-clause-held
 returns-clause-held g c =

@@ -16,13 +16,13 @@ add_level-requires-clause-few g c = rw c.deref.ensures.value at (c.is_short.ensu
 
 pub loop-alloc-preserved : goal.loop-alloc-preserved
 loop-alloc-preserved g c = record {
-  kept = IsKept-then _ _ _ _ _ c.loop-alloc.invariant.kept c.add_level.ensures.kept;
+  kept = IsKept-then _ c.loop-alloc.invariant.kept c.add_level.ensures.kept;
   held = c.add_level.ensures.held ∙ c.loop-alloc.invariant.held;
   lowest = c.add_level.ensures.lowest ∙ c.loop-alloc.invariant.lowest;
 }
 
 pub returns-in_err-add_level-clause-kept : goal.returns-in_err-add_level-clause-kept
-returns-in_err-add_level-clause-kept g c = IsKept-then _ _ _ _ _ c.loop-alloc.invariant.kept c.add_level.ensures.kept
+returns-in_err-add_level-clause-kept g c = IsKept-then _ c.loop-alloc.invariant.kept c.add_level.ensures.kept
 
 pub returns-clause-some : goal.returns-clause-some
 returns-clause-some g c = rw c.deref.ensures.value at (c.is_short.ensures.some c.loop-alloc-test.false)

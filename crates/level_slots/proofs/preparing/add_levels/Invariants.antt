@@ -5,7 +5,7 @@ use Rattle.level_slots.proofs.preparing.add_levels.Given as goal
 
 abbrev pub invariant-loop-alloc : goal.invariant-loop-alloc
 invariant-loop-alloc g l = record {
-  kept : IsKept g.B.Part.Part.contents g.B.Item.Item.stamp g.B.Item.Item.before g.B.Builder.SLOPE g.B.Builder.BASE
+  kept : IsKept g.B.Part.Part.contents
       l.initial.levels.items l.levels.items;
   held : held_of l.levels.items ≡ held_of l.initial.levels.items;
   lowest : lowest_held l.levels.items ≡ lowest_held l.initial.levels.items;

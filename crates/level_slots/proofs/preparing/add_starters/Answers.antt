@@ -9,7 +9,7 @@ pub loop-alloc-preserved : goal.loop-alloc-preserved
 loop-alloc-preserved g c =
     let more = c.in_ok-add_starter.ensures.more in
     record {
-      kept = IsKept-then _ _ _ _ _ c.loop-alloc.invariant.kept c.add_starter.ensures.kept;
+      kept = IsKept-then _ c.loop-alloc.invariant.kept c.add_starter.ensures.kept;
       begun = c.add_starter.ensures.begun;
       few = omega (arith, more, c.loop-alloc-test.true, c.len.ensures);
       more = omega (arith, more, c.loop-alloc.invariant.more);
@@ -18,4 +18,4 @@ loop-alloc-preserved g c =
     }
 
 pub returns-in_err-add_starter-clause-kept : goal.returns-in_err-add_starter-clause-kept
-returns-in_err-add_starter-clause-kept g c = IsKept-then _ _ _ _ _ c.loop-alloc.invariant.kept c.add_starter.ensures.kept
+returns-in_err-add_starter-clause-kept g c = IsKept-then _ c.loop-alloc.invariant.kept c.add_starter.ensures.kept

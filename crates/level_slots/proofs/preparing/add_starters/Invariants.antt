@@ -6,7 +6,7 @@ use Rattle.level_slots.proofs.preparing.add_starters.Given as goal
 
 abbrev pub invariant-loop-alloc : goal.invariant-loop-alloc
 invariant-loop-alloc g l = record {
-  kept : IsKept g.B.Part.Part.contents g.B.Item.Item.stamp g.B.Item.Item.before g.B.Builder.SLOPE g.B.Builder.BASE l.initial.levels l.levels;
+  kept : IsKept g.B.Part.Part.contents l.initial.levels l.levels;
   begun : All (λ b. g.B.Builder.progress b ≡ begun 0) l.starters.items;
   few : length l.starters.items ≤ 2;
   more : length l.initial.starters.items ≤ length l.starters.items;

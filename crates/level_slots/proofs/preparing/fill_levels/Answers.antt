@@ -6,7 +6,7 @@ forecast_rooms-requires g c = c.add_starters.ensures.kept.levels c.requires.leve
 
 pub returns-clause-kept : goal.returns-clause-kept
 returns-clause-kept g c =
-    IsKept-then g.B.Part.Part.contents g.B.Item.Item.stamp g.B.Item.Item.before g.B.Builder.SLOPE g.B.Builder.BASE
+    IsKept-then g.B.Part.Part.contents
     c.add_starters.ensures.kept c.forecast_rooms.ensures.kept
 
 pub returns-clause-both : goal.returns-clause-both

@@ -17,7 +17,7 @@ make_rooms-requires g c = numbered g (goal.at.make_rooms-requires g c).After-giv
 
 pub returns-clause-kept : goal.returns-clause-kept
 returns-clause-kept g c =
-    rw c.in-Some.ensures.cases.0 (IsKept-rooms _ _ _ _ _ _ _ (
+    rw c.in-Some.ensures.cases.0 (IsKept-rooms _ _ _ (
       c.give_back_room.ensures.same,
       KeepRooms-from c.in-Some.lowest.now c.give_back_room.new.self c.in-Some.above.now c.make_rooms.new.above c.give_back_room.ensures.same c.make_rooms.ensures.kept,
     ))

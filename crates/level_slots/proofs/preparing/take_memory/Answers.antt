@@ -20,7 +20,7 @@ whole g c =
 
 pub returns-clause-kept : goal.returns-clause-kept
 returns-clause-kept g c =
-    rw (whole g c) (IsKept-then _ _ _ _ _ c.add_levels.ensures.kept (rw c.deref_mut.ensures.value at c.fill_levels.ensures.kept))
+    rw (whole g c) (IsKept-then _ c.add_levels.ensures.kept (rw c.deref_mut.ensures.value at c.fill_levels.ensures.kept))
 
 pub returns-clause-some : goal.returns-clause-some
 returns-clause-some g c =

@@ -14,7 +14,7 @@ returns-clause-begun g c =
 
 pub returns-clause-kept : goal.returns-clause-kept
 returns-clause-kept g c =
-    IsKept-lowest g.B.Part.Part.contents g.B.Item.Item.stamp g.B.Item.Item.before g.B.Builder.SLOPE g.B.Builder.BASE c.args.levels.now
+    IsKept-lowest g.B.Part.Part.contents c.args.levels.now
     c.in-Some.lowest.now c.take_builder.new.self c.requires.some c.in-Some.ensures.item.1
     (IsSame-kept c.in-Some.lowest.now c.take_builder.new.self (c.in-Some.lowest.now.kept - 1) c.take_builder.ensures.same)
 

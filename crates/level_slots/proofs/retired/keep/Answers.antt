@@ -15,8 +15,8 @@ returns g c =
     let same : AreSameButKept old new = subst (λ ls. AreSameButKept ls new) value c.keep_at.ensures.same in
     let whole = written c.args.levels.now.len old new (sym c.deref_mut.ensures.len ∙ ap length value) (length-same old new same) in
     record {
-      kept = subst (IsKept g.B.Part.Part.contents g.B.Item.Item.stamp g.B.Item.Item.before g.B.Builder.SLOPE g.B.Builder.BASE old) (sym whole)
-          (IsKept-rooms g.B.Part.Part.contents g.B.Item.Item.stamp g.B.Item.Item.before g.B.Builder.SLOPE g.B.Builder.BASE old new
+      kept = subst (IsKept g.B.Part.Part.contents old) (sym whole)
+          (IsKept-rooms g.B.Part.Part.contents old new
           (KeepRoomsAbove-same old new same));
       lowest = subst (λ ls. lowest_held ls + c.args.reserved ≤ 5) (sym whole)
           (c.keep_at.ensures.lowest (omega (arith, c.requires.lowest, ap lowest_held value)));

@@ -12,11 +12,6 @@ use Rattle.stack_levels.proofs.Marks.{All-first, All-second, others_lack, lives,
 use Rattle.stack_levels.proofs.Publishing.{none_of}
 use Rattle.stack_levels.proofs.level.+mark_parts.Goals as goal
 
--- what the answer of a part says of its live items
-told : {Item : Type 0} (stamp : Item → ℕ) (s : ℕ) {xs ys : List Item} {found b : Bool} → xs ≡ ys → found ≡ has_stamp stamp s xs → found ≡ b
-    → has_stamp stamp s ys ≡ b
-told stamp s same says is = ap (has_stamp stamp s) (sym same) ∙ sym says ∙ is
-
 module _ {P Item : Type 0} (contents : P → Contents Item) (stamp : Item → ℕ) (x : Item) {parts : List P} (part part' : P) (rest : List P)
     (split : parts ≡ part ∷ rest) (lacks : Lacks stamp (stamp x) (contents part)) where
   -- the item isn't live in the first part: where it is marked, and what that costs
@@ -56,7 +51,7 @@ returns-then-mark-clause-marked g p c =
     let split = c.in-Some.ensures.cases.0 in
     let owner = All-first (λ y. stamp y ≡ stamp x → y ≡ x) (f part) (flat_map f rest) (subst (λ ps. OwnsStamp stamp x (flat_map f ps)) split c.requires.owner) in
     let apart : AllStampsDiffer stamp (f part ++ flat_map f rest) = subst (λ ps. AllStampsDiffer stamp (flat_map f ps)) split c.requires.apart in
-    let live = lives contents stamp x part owner (told stamp (stamp x) (g.met.B.Part.Part.live_by_flags part) c.mark.ensures.found c.if-mark.true) in
+    let live = lives contents stamp x part owner (sym c.mark.ensures.found ∙ c.if-mark.true) in
     subst (λ ps. AreMarkedAt contents stamp x (Some 0) ps (c.mark.new.self ∷ rest)) (sym split)
     (here part c.mark.new.self rest live c.mark.ensures.marked (others_lack contents stamp x part rest apart live))
 
@@ -71,7 +66,7 @@ returns-then-mark-clause-cost g p c h fits =
     Spends-here (asked_in contents stamp (stamp x) c.args.parts.now)
     (c.mark.ensures.cost h (All-head (λ q. length (contents q).items ≤ 2 ^ h) part rest (subst (All (λ q. length (contents q).items ≤ 2 ^ h)) split fits)))
     (ap (asked_in contents stamp (stamp x)) split
-    ∙ asked-here contents stamp x part rest (told stamp (stamp x) (g.met.B.Part.Part.live_by_flags part) c.mark.ensures.found c.if-mark.true))
+    ∙ asked-here contents stamp x part rest (sym c.mark.ensures.found ∙ c.if-mark.true))
 
 pub mark_parts-requires : goal.mark_parts-requires
 mark_parts-requires g p c κs lives =
@@ -97,25 +92,25 @@ overflow_add-result g p c =
 pub returns-in-Some-mark_parts-clause-marked : goal.returns-in-Some-mark_parts-clause-marked
 returns-in-Some-mark_parts-clause-marked g p c =
     marked-later g.B.Part.Part.contents g.B.Item.Item.stamp c.args.item.now c.in-Some.part.now c.mark.new.self c.in-Some.rest.now c.in-Some.ensures.cases.0
-    (told g.B.Item.Item.stamp (g.B.Item.Item.stamp c.args.item.now) (g.met.B.Part.Part.live_by_flags c.in-Some.part.now) c.mark.ensures.found c.if-mark.false)
+    (sym c.mark.ensures.found ∙ c.if-mark.false)
     c.mark.ensures.marked c.in-Some-mark_parts.is c.mark_parts.ensures.marked
 
 pub returns-in-Some-mark_parts-clause-cost : goal.returns-in-Some-mark_parts-clause-cost
 returns-in-Some-mark_parts-clause-cost g p c =
     cost-later g.B.Part.Part.contents g.B.Item.Item.stamp c.args.item.now c.in-Some.part.now c.mark.new.self c.in-Some.rest.now c.in-Some.ensures.cases.0
-    (told g.B.Item.Item.stamp (g.B.Item.Item.stamp c.args.item.now) (g.met.B.Part.Part.live_by_flags c.in-Some.part.now) c.mark.ensures.found c.if-mark.false)
+    (sym c.mark.ensures.found ∙ c.if-mark.false)
     g.B.Part.Part.mark_touches c.mark.ensures.cost c.mark_parts.ensures.cost
 
 pub returns-in-None-mark_parts-clause-marked : goal.returns-in-None-mark_parts-clause-marked
 returns-in-None-mark_parts-clause-marked g p c =
     marked-later g.B.Part.Part.contents g.B.Item.Item.stamp c.args.item.now c.in-Some.part.now c.mark.new.self c.in-Some.rest.now c.in-Some.ensures.cases.0
-    (told g.B.Item.Item.stamp (g.B.Item.Item.stamp c.args.item.now) (g.met.B.Part.Part.live_by_flags c.in-Some.part.now) c.mark.ensures.found c.if-mark.false)
+    (sym c.mark.ensures.found ∙ c.if-mark.false)
     c.mark.ensures.marked c.in-None-mark_parts.is c.mark_parts.ensures.marked
 
 pub returns-in-None-mark_parts-clause-cost : goal.returns-in-None-mark_parts-clause-cost
 returns-in-None-mark_parts-clause-cost g p c =
     cost-later g.B.Part.Part.contents g.B.Item.Item.stamp c.args.item.now c.in-Some.part.now c.mark.new.self c.in-Some.rest.now c.in-Some.ensures.cases.0
-    (told g.B.Item.Item.stamp (g.B.Item.Item.stamp c.args.item.now) (g.met.B.Part.Part.live_by_flags c.in-Some.part.now) c.mark.ensures.found c.if-mark.false)
+    (sym c.mark.ensures.found ∙ c.if-mark.false)
     g.B.Part.Part.mark_touches c.mark.ensures.cost c.mark_parts.ensures.cost
 
 pub returns-in-None-clause-marked : goal.returns-in-None-clause-marked

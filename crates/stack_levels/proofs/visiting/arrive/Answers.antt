@@ -1,6 +1,6 @@
 use Rattle.std.proofs.Common.{◌≡◌, ◌+◌, ◌<◌, ◌∙◌, ◌∷◌, map, drop, subst, sym, ap, arith}
 use Rattle.std.proofs.lemmas.List.{length_push}
-use Rattle.partial_build.specs.Construction.{live_of}
+use Rattle.builder_trait.specs.Parts.{live_of}
 use Rattle.stack_levels.specs.Slots.{ticks_of, held_in}
 use Rattle.stack_levels.specs.Levels.{lowest_held, weight_of, live_items, all_items}
 use Rattle.stack_levels.specs.Level.{IsOfLevel}

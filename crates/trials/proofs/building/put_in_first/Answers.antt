@@ -1,5 +1,6 @@
 use Rattle.std.proofs.Common.{◌≡◌, ◌+◌, [], ◌∷◌, ◌++◌, ◌∙◌, take, Some, ap, sym, subst, arith}
 use Rattle.std.proofs.lemmas.List.{take_more}
+use Rattle.query_laws.specs.declared.item.Order.TheVariants.{First}
 use Rattle.builder_trait.specs.Builders.{Progress, with_put}
 use Rattle.trials.specs.Filling.{Leads}
 use Rattle.trials.proofs.Filling.{Leads-push}
@@ -13,9 +14,9 @@ loop-place-preserved g c =
     let more : take (k + 1) items ≡ take k items ++ x ∷ [] =
     take_more items k x c.loop-place-test.true ∙ ap (λ y. take k items ++ y ∷ []) (sym c.index-items-place.is) in
     record {
-      put = c.put.ensures.added ∙ ap (with_put 0 x k) c.loop-place.invariant.put
+      put = c.put.ensures.added ∙ ap (with_put First x k) c.loop-place.invariant.put
           ∙ ap (λ l. let made : Progress _ = record (g.B.Builder.progress c.args.builder.now) { items = l } in made) (sym more);
-      leads = subst (Leads (g.B.Item.Item.before 0) (Some x)) (sym more)
-          (Leads-push (g.met.B.Item.Item.ordered 0 (omega arith)) c.loop-place.last (take k items) x c.loop-place.invariant.leads
+      leads = subst (Leads (g.B.Item.Item.before First) (Some x)) (sym more)
+          (Leads-push (g.met.B.Item.Item.ordered First) c.loop-place.last (take k items) x c.loop-place.invariant.leads
           (sym c.is_after.ensures ∙ c.if-not-is_after.false));
     }

@@ -1,4 +1,5 @@
-use Rattle.std.proofs.Common.{ap, sym, ◌∙◌, length, arith}
+use Rattle.std.proofs.Common.{ap, sym, ◌∙◌, length}
+use Rattle.query_laws.specs.declared.item.Order.TheVariants.{Second}
 use Rattle.builder_trait.proofs.FlatLemmas.{IsPart-ended, items-ended}
 use Rattle.builder_trait.proofs.flat.FlatBuilderBuilder.finish.Goals as goal
 
@@ -8,7 +9,7 @@ invariant_of-result g c =
     let ended = ap (λ p. p.left) c.self.view_is ∙ c.requires.ended in
     record {
       wide = c.self.invariant.0.wide;
-      valid = IsPart-ended (g.met.I.Item.ordered 1 (omega arith)) c.self.invariant.0 c.self.invariant.1 closed ended;
+      valid = IsPart-ended (g.met.I.Item.ordered Second) c.self.invariant.0 c.self.invariant.1 closed ended;
       live_counted = c.len-live.ensures.value ∙ sym (ap length (items-ended c.self.invariant.1 closed ended));
     }
 

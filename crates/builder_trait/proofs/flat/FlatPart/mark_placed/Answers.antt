@@ -3,7 +3,8 @@ use Rattle.std.specs.List.{items_where_true}
 use Rattle.std.specs.Option.{is_some}
 use Rattle.std.proofs.lemmas.List.{length-set}
 use Rattle.std.proofs.lemmas.Option.{slice_get_within}
-use Rattle.builder_trait.specs.Parts.{has_stamp}
+use Rattle.query_laws.specs.declared.item.Order.TheVariants.{First}
+use Rattle.builder_trait.specs.Parts.{has_stamp, live_of}
 use Rattle.builder_trait.proofs.Marking.{fallen_none, has_stamp_none, set_same, length-one_dead, marked-to, live-to, fallen_here, found_here}
 use Rattle.builder_trait.proofs.flat.FlatPart.mark_placed.Goals as goal
 
@@ -11,7 +12,7 @@ pub returns-in_err-place-clause-found : goal.returns-in_err-place-clause-found
 returns-in_err-place-clause-found g c =
     ap is_some c.from_residual.ensures
     ∙ sym (has_stamp_none g.I.Item.stamp (g.I.Item.stamp c.args.item.now) c.self.inside.items.items c.self.inside.flags.items (c.in_err-place.ensures.missing refl))
-    ∙ ap (λ p. has_stamp g.I.Item.stamp (g.I.Item.stamp c.args.item.now) (items_where_true p.flags p.items)) c.self.view_is
+    ∙ ap (λ p. has_stamp g.I.Item.stamp (g.I.Item.stamp c.args.item.now) (live_of p)) c.self.view_is
 
 pub returns-in_err-place-clause-marked : goal.returns-in_err-place-clause-marked
 returns-in_err-place-clause-marked g c =
@@ -22,7 +23,7 @@ returns-in_err-place-clause-marked g c =
 
 pub returns-in_err-place-clause-live : goal.returns-in_err-place-clause-live
 returns-in_err-place-clause-live g c =
-    ap (λ p. items_where_true p.flags p.items) (sym c.self.view_is)
+    ap (λ p. live_of p) (sym c.self.view_is)
     ∙ live-to g.I.Item.stamp c.args.item.now c.self.view_is
     (fallen_none g.I.Item.stamp (g.I.Item.stamp c.args.item.now) c.self.inside.items.items c.self.inside.flags.items c.self.invariant.valid.flagged
     (c.in_err-place.ensures.missing refl))
@@ -33,22 +34,22 @@ at-requires g c =
 
 pub returns-then-not-at-clause-found : goal.returns-then-not-at-clause-found
 returns-then-not-at-clause-found g c =
-    found_here g.I.Item.stamp c.args.item.now c.self.view_is (g.met.I.Item.ordered 0 (omega arith)) c.self.invariant.valid c.requires c.in_ok-place.place
+    found_here g.I.Item.stamp c.args.item.now c.self.view_is (g.met.I.Item.ordered First) c.self.invariant.valid c.requires c.in_ok-place.place
     c.in_ok-place.ensures.found false c.if-not-at.ensures.read
 
 pub returns-then-not-at-clause-marked : goal.returns-then-not-at-clause-marked
 returns-then-not-at-clause-marked g c =
     sym c.self.view_is
     ∙ marked-to g.I.Item.stamp c.args.item.now c.self.view_is
-    (fallen_here g.I.Item.stamp c.args.item.now c.self.view_is (g.met.I.Item.ordered 0 (omega arith)) c.self.invariant.valid c.requires c.in_ok-place.place
+    (fallen_here g.I.Item.stamp c.args.item.now c.self.view_is (g.met.I.Item.ordered First) c.self.invariant.valid c.requires c.in_ok-place.place
     c.in_ok-place.ensures.found
     ∙ set_same c.self.inside.flags.items c.in_ok-place.place false c.if-not-at.ensures.read)
 
 pub returns-then-not-at-clause-live : goal.returns-then-not-at-clause-live
 returns-then-not-at-clause-live g c =
-    ap (λ p. items_where_true p.flags p.items) (sym c.self.view_is)
+    ap (λ p. live_of p) (sym c.self.view_is)
     ∙ live-to g.I.Item.stamp c.args.item.now c.self.view_is
-    (fallen_here g.I.Item.stamp c.args.item.now c.self.view_is (g.met.I.Item.ordered 0 (omega arith)) c.self.invariant.valid c.requires c.in_ok-place.place
+    (fallen_here g.I.Item.stamp c.args.item.now c.self.view_is (g.met.I.Item.ordered First) c.self.invariant.valid c.requires c.in_ok-place.place
     c.in_ok-place.ensures.found
     ∙ set_same c.self.inside.flags.items c.in_ok-place.place false c.if-not-at.ensures.read)
 
@@ -90,17 +91,17 @@ invariant_of-self g c =
 
 pub returns-clause-found : goal.returns-clause-found
 returns-clause-found g c =
-    found_here g.I.Item.stamp c.args.item.now c.self.view_is (g.met.I.Item.ordered 0 (omega arith)) c.self.invariant.valid c.requires c.in_ok-place.place
+    found_here g.I.Item.stamp c.args.item.now c.self.view_is (g.met.I.Item.ordered First) c.self.invariant.valid c.requires c.in_ok-place.place
     c.in_ok-place.ensures.found true c.if-not-at.ensures.read
 
 pub returns-clause-marked : goal.returns-clause-marked
 returns-clause-marked g c =
     marked-to g.I.Item.stamp c.args.item.now c.self.view_is
-    (fallen_here g.I.Item.stamp c.args.item.now c.self.view_is (g.met.I.Item.ordered 0 (omega arith)) c.self.invariant.valid c.requires c.in_ok-place.place
+    (fallen_here g.I.Item.stamp c.args.item.now c.self.view_is (g.met.I.Item.ordered First) c.self.invariant.valid c.requires c.in_ok-place.place
     c.in_ok-place.ensures.found ∙ sym (ap (λ r. r.items) c.set.ensures.written))
 
 pub returns-clause-live : goal.returns-clause-live
 returns-clause-live g c =
     live-to g.I.Item.stamp c.args.item.now c.self.view_is
-    (fallen_here g.I.Item.stamp c.args.item.now c.self.view_is (g.met.I.Item.ordered 0 (omega arith)) c.self.invariant.valid c.requires c.in_ok-place.place
+    (fallen_here g.I.Item.stamp c.args.item.now c.self.view_is (g.met.I.Item.ordered First) c.self.invariant.valid c.requires c.in_ok-place.place
     c.in_ok-place.ensures.found ∙ sym (ap (λ r. r.items) c.set.ensures.written))

@@ -6,7 +6,7 @@ pub invariant_of-self : goal.invariant_of-self
 invariant_of-self g c =
     let h = c.self.invariant in
     let k = c.take_memory.ensures.kept in (
-      IsStack-kept _ _ _ _ _ h.0 k _ c.take_memory.ensures.more c.take_memory.ensures.few_starters c.take_memory.ensures.lowest,
+      IsStack-kept _ h.0 k _ c.take_memory.ensures.more c.take_memory.ensures.few_starters c.take_memory.ensures.lowest,
       h.1 ∙ sym k.weight,
       h.2 ∙ ap length (sym k.live),
       c.take_memory.ensures.begun,
@@ -18,7 +18,7 @@ invariant_of-self-2 g c =
     let h = c.self.invariant in
     let k = c.take_memory.ensures.kept in
     let e = c.in_ok-take_memory.ensures in (
-      rw e.both (IsStack-ready _ _ _ _ _ h.0 k e.some (omega (arith, c.take_memory.ensures.lowest, e.both)) e.ready),
+      rw e.both (IsStack-ready _ h.0 k e.some (omega (arith, c.take_memory.ensures.lowest, e.both)) e.ready),
       h.1 ∙ sym k.weight,
       h.2 ∙ ap length (sym k.live),
       c.take_memory.ensures.begun,

@@ -6,7 +6,7 @@ pub invariant_of-self : goal.invariant_of-self
 invariant_of-self g c =
     let h = c.self.invariant in
     let k = c.keep.ensures.kept in (
-      IsStack-kept _ _ _ _ _ h.0 k _ (omega arith) h.0.starters_few (omega (arith, c.keep.ensures.lowest, c.len.ensures)),
+      IsStack-kept _ h.0 k _ (omega arith) h.0.starters_few (omega (arith, c.keep.ensures.lowest, c.len.ensures)),
       h.1 ∙ sym k.weight,
       h.2 ∙ ap length (sym k.live),
       h.3,

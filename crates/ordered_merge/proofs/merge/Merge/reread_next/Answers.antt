@@ -1,4 +1,5 @@
 use Rattle.std.proofs.Common.{arith, ap, refl, rules}
+use Rattle.query_laws.specs.declared.item.Order.TheVariants.{Second}
 use Rattle.builder_trait.proofs.RebuildingLemmas.{length-reordered}
 use Rattle.ordered_merge.proofs.MergingLemmas.{Merges-of, Merges-swap, HasRead-of, HasRead-reread, all_read, all_read_swapped, StampsDiffer-reordered, reread_below, place_noted, FitsSecond-next, Merges-reread}
 use Rattle.ordered_merge.proofs.merge.Merge.reread_next.Goals as goal
@@ -9,7 +10,6 @@ next_item-is_a-requires g c =
     let same = length-reordered c.requires.valid in
     let other_same = length-reordered c.requires.valid_other in
     record {
-      order = omega arith;
       within = omega (arith, h.retaking.front.within);
       within_other = omega (arith, h.retaking.front.within_other);
       more = omega (arith, h.to_go, all_read c.self.view_is c.requires.read, ap (λ m. m.left) c.self.view_is);
@@ -19,7 +19,7 @@ next_item-is_a-requires g c =
 pub put_again-requires : goal.put_again-requires
 put_again-requires g c =
     let h = Merges-of c.self.view_is c.requires.merges in
-    let order = g.met.B.Item.Item.ordered 1 (omega arith) in
+    let order = g.met.B.Item.Item.ordered Second in
     let full = all_read c.self.view_is c.requires.read in
     let next = c.next_item-is_a.ensures.first c.if-is_a.true in
     record {
@@ -32,7 +32,7 @@ put_again-requires g c =
 pub put_again-requires-else-is_a : goal.put_again-requires-else-is_a
 put_again-requires-else-is_a g c =
     let h = Merges-swap (Merges-of c.self.view_is c.requires.merges) in
-    let order = g.met.B.Item.Item.ordered 1 (omega arith) in
+    let order = g.met.B.Item.Item.ordered Second in
     let full = all_read_swapped c.self.view_is _ _ c.requires.read in
     let next = c.next_item-is_a.ensures.second c.if-is_a.false in
     record {
@@ -44,7 +44,7 @@ put_again-requires-else-is_a g c =
 
 pub returns-then-is_a : goal.returns-then-is_a
 returns-then-is_a g c =
-    let reread = Merges-reread (Merges-of c.self.view_is c.requires.merges) (g.met.B.Item.Item.ordered 1 (omega arith)) c.requires.valid
+    let reread = Merges-reread (Merges-of c.self.view_is c.requires.merges) (g.met.B.Item.Item.ordered Second) c.requires.valid
     c.requires.valid_other (all_read c.self.view_is c.requires.read) _ (c.next_item-is_a.ensures.first c.if-is_a.true)
     (g.B.Builder.progress c.put_again.new.builder) c.put_again.ensures.put c.put_again.ensures.skipped in
     record {
@@ -55,7 +55,7 @@ returns-then-is_a g c =
 
 pub returns-else-is_a : goal.returns-else-is_a
 returns-else-is_a g c =
-    let reread = Merges-reread (Merges-swap (Merges-of c.self.view_is c.requires.merges)) (g.met.B.Item.Item.ordered 1 (omega arith))
+    let reread = Merges-reread (Merges-swap (Merges-of c.self.view_is c.requires.merges)) (g.met.B.Item.Item.ordered Second)
     c.requires.valid_other c.requires.valid (all_read_swapped c.self.view_is _ _ c.requires.read) _ (c.next_item-is_a.ensures.second c.if-is_a.false)
     (g.B.Builder.progress c.put_again-else-is_a.new.builder) c.put_again-else-is_a.ensures.put c.put_again-else-is_a.ensures.skipped in
     record {

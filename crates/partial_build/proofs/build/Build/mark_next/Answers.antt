@@ -1,8 +1,8 @@
 use Rattle.std.proofs.Common.{◌≡◌, ◌*◌, ◌-◌, ◌∙◌, refl, ap, sym, subst, arith, length}
 use Rattle.std.proofs.lemmas.List.{length_push}
 use Rattle.query_laws.specs.StepLedger.{Spends}
-use Rattle.partial_build.specs.Construction.{KeepsUp, IsUnderConstruction, live_of}
-use Rattle.builder_trait.specs.Parts.{marked}
+use Rattle.partial_build.specs.Construction.{KeepsUp, IsUnderConstruction}
+use Rattle.builder_trait.specs.Parts.{marked, live_of}
 use Rattle.partial_build.proofs.Stamps.{length-fallen}
 use Rattle.partial_build.proofs.Clock.{IsUnderConstruction-marked}
 use Rattle.partial_build.proofs.KeepingUp.{Builds-of, KeepsUp-marked, OwnsStamp-waiting, few_items}

@@ -1,4 +1,5 @@
 use Rattle.std.proofs.Common.{◌≡◌, ◌^◌, ◌-◌, ◌∙◌, ap, sym, arith}
+use Rattle.query_laws.specs.declared.item.Order.TheVariants.{First}
 use Rattle.partial_build.specs.Quota.{quota}
 use Rattle.partial_build.proofs.Clock.{twice, none_left}
 use Rattle.partial_build.proofs.KeepingUp.{Builds-of, IsPublished-ended, IsPublished-seen}
@@ -12,5 +13,5 @@ returns-clause-published g c a b builds =
     let none = none_left (2 ^ (inside.level - 1)) inside.ticks (quota g.B.Builder.SLOPE g.B.Builder.BASE inside.level) _ c.self.invariant.in_time
     (omega (arith, ticks, twice inside.level c.self.invariant.least)) in
     IsPublished-seen c.self.view_is c.into_part.ensures.whole
-    (IsPublished-ended _ a b (g.met.B.Item.Item.ordered 0 (omega arith)) (Builds-of c.self.view_is builds)
+    (IsPublished-ended _ a b (g.met.B.Item.Item.ordered First) (Builds-of c.self.view_is builds)
     (ap (λ v. v.waiting) c.self.view_is ∙ c.requires.none) (omega (arith, none)) c.self.invariant.flagged c.self.invariant.at_level)

@@ -1,10 +1,11 @@
 use Rattle.std.proofs.Common.{◌≡◌, ◌+◌, ◌-◌, ◌*◌, ◌≤◌, ◌++◌, ◌^◌, List, length, min, refl, sym, ap, ◌∙◌, arith, subst, All}
-use Rattle.std.specs.List.{flat_map, sum_by, items_where_true, filter}
+use Rattle.std.specs.List.{flat_map, sum_by, filter}
 use Rattle.std.proofs.lemmas.List.{nil_from_length}
 use Rattle.std.proofs.lemmas.List.Elements.{All-head, All-tail}
 use Rattle.std.proofs.lemmas.List.Sums.{sum_by-append}
 use Rattle.query_laws.specs.Sums.{capped_add}
 use Rattle.query_laws.proofs.Counting.{Spends-then, Spends-within, Spends-weaker}
+use Rattle.builder_trait.specs.Parts.{live_of}
 use Rattle.row_blocks.specs.Heights.{height_of}
 use Rattle.map_shapes.specs.Questions.{is_in}
 use Rattle.range_tree.specs.declared.span.Span.{Span}
@@ -62,11 +63,11 @@ returns-clause-added g c =
     let both = sum_by-append m (flat_map live c.cut-pieces.result.spans.items) (live_in_places part rect c.cut-pieces.result.front ++ live_in_places part rect c.cut-pieces.result.back) in
     let ends = sum_by-append m (live_in_places part rect c.cut-pieces.result.front) (live_in_places part rect c.cut-pieces.result.back) in
     let whole : c.measure_places-front.result + c.measure_places-back.result + sum_by m (flat_map live c.into_iter-span-iterator.result.rest.now)
-    ≡ sum_by m (filter (is_in rect) (items_where_true part.flags part.items)) =
+    ≡ sum_by m (filter (is_in rect) (live_of part)) =
     omega (arith, spans, all, both, ends, c.measure_places-front.ensures.sum, c.measure_places-back.ensures.sum) in
     summed_all c.args.tally.now c.add.new.self c.loop-span.sum _ _ _ c.loop-span.invariant.added none c.add.ensures
     ∙ ap (λ n. capped_add c.args.tally.now (min n (2 ^ 64 - 1))) whole
-    ∙ ap (capped_add c.args.tally.now) (measure_in-is c.args.measure rect (items_where_true part.flags part.items))
+    ∙ ap (capped_add c.args.tally.now) (measure_in-is c.args.measure rect (live_of part))
 
 pub returns-clause-cost : goal.returns-clause-cost
 returns-clause-cost g c = Spends-weaker (paid_all (length c.args.points.now.items) _ 0 c.loop-span.invariant.cost) (omega arith)

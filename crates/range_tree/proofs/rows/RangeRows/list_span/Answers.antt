@@ -64,8 +64,8 @@ overflow_add-k g c =
     let within = live_within c.index-level.result.now.counts.places c.live_from-found.result.0 c.live_from-found.ensures.live in
     omega (arith, within, (level_is c.args.points.now c.args.self.now c.requires.over _ _ c.requires.span.row at).2, c.requires.over.few)
 
-pub item-requires-clause-index : goal.item-requires-clause-index
-item-requires-clause-index g c =
+pub item-requires : goal.item-requires
+item-requires g c =
     let at = slice_get-from_read c.args.self.now.levels.items c.args.span.now.row c.index-level.result.now (omega (arith, c.requires.span.row, c.requires.over.within)) c.index-level.ensures in
     known_within c.args.points.now.items c.live_from-found.result.1 (live_place c.args.points.now c.args.self.now c.requires.over c.args.span.now _ c.requires.span.row at _ _ c.live_from-found.ensures.entry)
 

@@ -3,7 +3,7 @@ use Rattle.std.specs.List.{flat_map}
 use Rattle.std.proofs.lemmas.List.Sums.{sum_by_more}
 use Rattle.query_laws.specs.StepLedger.{Spends}
 use Rattle.query_laws.proofs.Counting.{Spends-then}
-use Rattle.partial_build.specs.Construction.{live_of}
+use Rattle.builder_trait.specs.Parts.{live_of}
 use Rattle.stack_levels.proofs.Joining.{flat_map-more, asked_over-then}
 use Rattle.stack_levels.proofs.level.Level.ask.Goals as goal
 
@@ -20,13 +20,12 @@ loop-part-preserved g c =
     let question : c.loop-part.asking.question ≡ now.question = ap (λ a. a.question) h.asked in
     let less : i < length parts = omega (arith, c.loop-part-test.true, ap length c.parts-part-items.ensures.value) in
     let here : part ≡ get_or parts i part = c.part-item.is ∙ ap (λ ps. get_or ps i part) c.parts-part-items.ensures.value in
-    let items : flat_map live (take i parts) ++ g.B.Part.Part.live_items part ≡ flat_map live (take (i + 1) parts) =
-    ap (λ xs. flat_map live (take i parts) ++ xs) (g.met.B.Part.Part.live_by_flags part)
-    ∙ ap (λ p. flat_map live (take i parts) ++ live p) here ∙ flat_map-more live parts i part less in
+    let items : flat_map live (take i parts) ++ live part ≡ flat_map live (take (i + 1) parts) =
+    ap (λ p. flat_map live (take i parts) ++ live p) here ∙ flat_map-more live parts i part less in
     let sum : sum_by touches (take i parts) + touches part ≡ sum_by touches (take (i + 1) parts) =
     ap (λ p. sum_by touches (take i parts) + touches p) here ∙ sym (sum_by_more touches parts i part less) in
     record {
-      asked = asked_over-then laws now c.loop-part.asking c.part.new.self (flat_map live (take i parts)) (g.B.Part.Part.live_items part) i 1 c.requires.lawful
+      asked = asked_over-then laws now c.loop-part.asking c.part.new.self (flat_map live (take i parts)) (live part) i 1 c.requires.lawful
           h.asked c.in_ok-part.ensures.joined items refl;
       lawful = subst (λ q. g.Q.Question.lawful q c.part.new.self.so_far) question c.part.ensures.lawful;
       spent = subst (λ n. Spends c.args.steps.now c.part.new.steps 0 0 n) sum

@@ -1,7 +1,7 @@
 use Rattle.std.proofs.Common.{◌≡◌, ◌+◌, length, sum_by, take}
 use Rattle.std.specs.List.{flat_map}
 use Rattle.query_laws.specs.StepLedger.{Spends}
-use Rattle.partial_build.specs.Construction.{live_of}
+use Rattle.builder_trait.specs.Parts.{live_of}
 use Rattle.stack_levels.proofs.level.Level.ask.Given as goal
 
 abbrev pub invariant-loop-part : goal.invariant-loop-part
