@@ -1,5 +1,5 @@
 //! The flat kind through the traits, and questions put to its parts.
-ghost use Rattle.std.specs.Prelude.{◌≡◌, ◌≢◌, [], ◌∷◌, IsTrue, IfOk};
+ghost use Rattle.std.specs.Prelude.{◌≡◌, ◌≢◌, ◌+◌, ◌<◌, ◌^◌, [], ◌∷◌, false, IsTrue, IfOk};
 ghost use Rattle.query_laws.specs.declared.item.Order.TheVariants.{First, Second};
 
 use crate::item::Pair;
@@ -111,40 +111,33 @@ fn marks_one_of_two(rt: HostRuntime) -> Result<(), Fail> {
     Ok(())
 }
 
-/// A part of one item, which dies or not.
-fn single<B: Builder, L: Ledger>(
+/// Asks for the sum of `x` over a part of one item, which dies first or not.
+fn ask_single<B: Builder<Item = Pair>, L: Ledger>(
     alloc: Global,
-    item: B::Item,
+    asking: &mut Asking<B::Part, SumOfX>,
+    item: Pair,
     dies: bool,
     steps: &mut Steps<L>,
-) -> Result<B::Part, NoMemory> {
+) -> Result<(), NoMemory>
+where
+    B::Part: Answers<SumOfX>,
+    requires going { asking.old.is_given_up ≡ false }
+    requires room { asking.old.parts + 1 < 2 ^ 32 }
+    ensures going { IfOk result (λ _. asking.new.is_given_up ≡ false) }
+    ensures counted { IfOk result (λ _. asking.new.parts ≡ asking.old.parts + 1) }
+{
     let mut part: B::Part = part_of_one(B::room(alloc, 0)?, item, steps);
     if dies {
         part.mark(&item, steps);
     }
-    Ok(part)
-}
-
-/// The sum of `x` over three parts, the parts consulted, and their live items.
-fn sum_of_three<P: Answers<SumOfX, Item = Pair>, L: Ledger>(
-    alloc: Global,
-    parts: [&P; 3],
-    steps: &mut Steps<L>,
-) -> Result<(u64, u32, u128), NoMemory> {
-    let mut asking = Asking::<P, SumOfX>::new(alloc, &SumOfX);
-    asking.part(parts[0], steps)?;
-    asking.part(parts[1], steps)?;
-    asking.part(parts[2], steps)?;
-    let given = asking.finish()?;
-    let (consulted, live) = (given.consulted(), given.live());
-    Ok((given.into_answer(), consulted, live))
+    asking.part(&part, steps)
 }
 
 /// Three parts of one point each, of which the second is marked: the sum of `x`, the parts consulted, their live items, and the turns.
 fn sum_seen<B: Builder<Item = Pair>, L: Ledger>(
     alloc: Global,
     blank: Blank,
-) -> Result<((u64, u32, u128), u64), NoMemory>
+) -> Result<(u64, u32, u128, u64), NoMemory>
 where
     B::Part: Answers<SumOfX>,
     requires name { blank.name ≡ L.name }
@@ -152,16 +145,18 @@ where
     requires shares { blank.parts ≡ SHARES }
 {
     let mut steps = Steps::<L>::new(blank);
-    let one = single::<B, L>(alloc, Pair::new(7, 1, 0), false, &mut steps)?;
-    let other = single::<B, L>(alloc, Pair::new(100, 2, 1), true, &mut steps)?;
-    let third = single::<B, L>(alloc, Pair::new(50, 3, 2), false, &mut steps)?;
-    let sum = sum_of_three::<B::Part, L>(alloc, [&one, &other, &third], &mut steps)?;
-    Ok((sum, steps.lap_turns()))
+    let mut asking = Asking::<B::Part, SumOfX>::new(alloc, &SumOfX);
+    ask_single::<B, L>(alloc, &mut asking, Pair::new(7, 1, 0), false, &mut steps)?;
+    ask_single::<B, L>(alloc, &mut asking, Pair::new(100, 2, 1), true, &mut steps)?;
+    ask_single::<B, L>(alloc, &mut asking, Pair::new(50, 3, 2), false, &mut steps)?;
+    let given = asking.finish()?;
+    let (consulted, live) = (given.consulted(), given.live());
+    Ok((given.into_answer(), consulted, live, steps.lap_turns()))
 }
 
 #[test]
 fn sums_over_parts(rt: HostRuntime) -> Result<(), Fail> {
     let seen = sum_seen::<FlatBuilder<Pair>, Brand>(rt.alloc(), blank())?;
-    assert_eq!(rt; seen, ((57, 3, 2), 9));
+    assert_eq!(rt; seen, (57, 3, 2, 9));
     Ok(())
 }
