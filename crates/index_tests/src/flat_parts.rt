@@ -1,11 +1,12 @@
 //! The flat kind through the traits, and questions put to its parts.
-ghost use Rattle.std.specs.Prelude.{◌≡◌, ◌≢◌, [], ◌∷◌, IsTrue, IfOk};
+ghost use Rattle.std.specs.Prelude.{◌≡◌, ◌≢◌, ◌+◌, ◌<◌, ◌^◌, [], ◌∷◌, false, IsTrue, IfOk};
 ghost use Rattle.query_laws.specs.declared.item.Order.TheVariants.{First, Second};
 
 use crate::item::Pair;
+use crate::pairs::{put_first, sealed};
 use crate::sums::SumOfX;
-use builder_trait::flat::{FlatBuilder, FlatPart};
-use builder_trait::{Asking, Builder, Given, Part, part_of_one};
+use builder_trait::flat::FlatBuilder;
+use builder_trait::{Answers, Asking, Builder, Part, part_of_one};
 use query_laws::step_ledger::{SHARES, Steps, blank};
 use query_laws::{Item, NoMemory, Order};
 use std::alloc::Global;
@@ -24,15 +25,10 @@ fn pair<B: Builder, L: Ledger>(
     requires falling { IsTrue (B.Item.before Second second first) }
     ensures { IfOk result (λ made. (B.Part.Part.contents made.1).items ≡ first ∷ second ∷ []) }
 {
-    let mut builder = B::room(alloc, 1)?;
-    builder.put(Order::First, first, 0, steps);
-    builder.put(Order::First, second, 1, steps);
+    let mut builder = put_first::<B, L>(alloc, first, second, steps)?;
     builder.put(Order::Second, second, 1, steps);
     builder.put(Order::Second, first, 0, steps);
-    builder.seal();
-    let left = builder.left();
-    builder.turns(left, steps);
-    Ok((left, builder.finish()))
+    Ok(sealed(builder, steps))
 }
 
 /// The item at a place of the first order, if there is one: its stamp, its index in the second order by the place there, and whether it is live.
@@ -115,56 +111,52 @@ fn marks_one_of_two(rt: HostRuntime) -> Result<(), Fail> {
     Ok(())
 }
 
-/// The sum of `x` over three parts.
-fn sum_of_three<L: Ledger>(
+/// Asks for the sum of `x` over a part of one item, which dies first or not.
+fn ask_single<B: Builder<Item = Pair>, L: Ledger>(
     alloc: Global,
-    parts: &[FlatPart<Pair>; 3],
+    asking: &mut Asking<B::Part, SumOfX>,
+    item: Pair,
+    dies: bool,
     steps: &mut Steps<L>,
-) -> Result<Given<FlatPart<Pair>, SumOfX>, NoMemory> {
-    let mut asking = Asking::new(alloc, &SumOfX);
-    asking.part(&parts[0], steps)?;
-    asking.part(&parts[1], steps)?;
-    asking.part(&parts[2], steps)?;
-    asking.finish()
+) -> Result<(), NoMemory>
+where
+    B::Part: Answers<SumOfX>,
+    requires going { asking.old.is_given_up ≡ false }
+    requires room { asking.old.parts + 1 < 2 ^ 32 }
+    ensures going { IfOk result (λ _. asking.new.is_given_up ≡ false) }
+    ensures counted { IfOk result (λ _. asking.new.parts ≡ asking.old.parts + 1) }
+{
+    let mut part: B::Part = part_of_one(B::room(alloc, 0)?, item, steps);
+    if dies {
+        part.mark(&item, steps);
+    }
+    asking.part(&part, steps)
 }
 
 /// Three parts of one point each, of which the second is marked: the sum of `x`, the parts consulted, their live items, and the turns.
-fn sum_seen<L: Ledger>(alloc: Global, blank: Blank) -> Result<(u64, u32, u128, u64), NoMemory>
+fn sum_seen<B: Builder<Item = Pair>, L: Ledger>(
+    alloc: Global,
+    blank: Blank,
+) -> Result<(u64, u32, u128, u64), NoMemory>
+where
+    B::Part: Answers<SumOfX>,
     requires name { blank.name ≡ L.name }
     requires parts { blank.parts ≡ L.parts }
     requires shares { blank.parts ≡ SHARES }
 {
     let mut steps = Steps::<L>::new(blank);
-    let one = Pair {
-        x: 7,
-        y: 1,
-        stamp: 0,
-    };
-    let other = Pair {
-        x: 100,
-        y: 2,
-        stamp: 1,
-    };
-    let third = Pair {
-        x: 50,
-        y: 3,
-        stamp: 2,
-    };
-    let mut marked: FlatPart<Pair> = part_of_one(FlatBuilder::room(alloc, 0)?, other, &mut steps);
-    marked.mark(&other, &mut steps);
-    let parts = [
-        part_of_one(FlatBuilder::room(alloc, 0)?, one, &mut steps),
-        marked,
-        part_of_one(FlatBuilder::room(alloc, 0)?, third, &mut steps),
-    ];
-    let given = sum_of_three(alloc, &parts, &mut steps)?;
+    let mut asking = Asking::<B::Part, SumOfX>::new(alloc, &SumOfX);
+    ask_single::<B, L>(alloc, &mut asking, Pair::new(7, 1, 0), false, &mut steps)?;
+    ask_single::<B, L>(alloc, &mut asking, Pair::new(100, 2, 1), true, &mut steps)?;
+    ask_single::<B, L>(alloc, &mut asking, Pair::new(50, 3, 2), false, &mut steps)?;
+    let given = asking.finish()?;
     let (consulted, live) = (given.consulted(), given.live());
     Ok((given.into_answer(), consulted, live, steps.lap_turns()))
 }
 
 #[test]
 fn sums_over_parts(rt: HostRuntime) -> Result<(), Fail> {
-    let seen = sum_seen::<Brand>(rt.alloc(), blank())?;
+    let seen = sum_seen::<FlatBuilder<Pair>, Brand>(rt.alloc(), blank())?;
     assert_eq!(rt; seen, (57, 3, 2, 9));
     Ok(())
 }

@@ -1,4 +1,5 @@
 //! Two numbers and a stamp.
+ghost use Rattle.std.specs.Prelude.{◌≡◌};
 ghost use Rattle.query_laws.specs.Orders.{before_in};
 ghost use Rattle.query_laws.specs.OrderLaws.{IsStrictTotalOrder-before_in};
 
@@ -9,6 +10,14 @@ pub struct Pair {
     pub x: u32,
     pub y: u32,
     pub stamp: u64,
+}
+
+impl Pair {
+    pub fn new(x: u32, y: u32, stamp: u64) -> Pair
+        ensures { result ≡ record { x = x; y = y; stamp = stamp } }
+    {
+        Pair { x, y, stamp }
+    }
 }
 
 impl Item for Pair {

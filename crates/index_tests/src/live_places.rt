@@ -1,6 +1,6 @@
 //! The calls on their happy path, over small rows.
-ghost use Rattle.std.specs.Prelude.{◌≡◌, ◌^◌, ◌≤◌, IfOk, length, map};
-ghost use Rattle.weak_delete.specs.Places.{IsBuilt, live_place};
+ghost use Rattle.std.specs.Prelude.{◌≡◌, ◌^◌, ◌≤◌, false, IfOk, length, map};
+ghost use Rattle.weak_delete.specs.Places.{IsBuilt, live_place, nothing_put};
 
 use query_laws::NoMemory;
 use query_laws::step_ledger::{SHARES, Steps, blank};
@@ -9,6 +9,29 @@ use std::marker::Brand;
 use std::sync::ledger::{Blank, Ledger};
 use std::test::Fail;
 use weak_delete::{LiveCounts, LiveMax};
+
+/// Puts places of these weights.
+fn put_weights<L: Ledger>(counts: &mut LiveCounts, weights: &[u32], steps: &mut Steps<L>)
+    requires { counts.old ≡ nothing_put (length weights.now) }
+    ensures open { counts.new.sealed ≡ false }
+    ensures places { counts.new.places ≡ map live_place weights.now }
+{
+    for weight in weights {
+        counts.put(*weight, steps);
+    }
+}
+
+/// Seals live places and takes all turns.
+fn turn_counts<L: Ledger>(counts: &mut LiveCounts, steps: &mut Steps<L>)
+    requires { counts.old.sealed ≡ false }
+    ensures built { IsBuilt counts.new }
+    ensures places { counts.new.places ≡ counts.old.places }
+{
+    counts.seal();
+    while counts.left() > 0 {
+        counts.turn(steps);
+    }
+}
 
 /// Live places of these weights, with all turns taken.
 fn counts_of<L: Ledger>(
@@ -21,13 +44,8 @@ fn counts_of<L: Ledger>(
     ensures places { IfOk result (λ counts. counts.places ≡ map live_place weights.now) }
 {
     let mut counts = LiveCounts::room(alloc, weights.len())?;
-    for weight in weights {
-        counts.put(*weight, steps);
-    }
-    counts.seal();
-    while counts.left() > 0 {
-        counts.turn(steps);
-    }
+    put_weights(&mut counts, weights, steps);
+    turn_counts(&mut counts, steps);
     Ok(counts)
 }
 
@@ -75,6 +93,29 @@ fn counts_what_is_live(rt: HostRuntime) -> Result<(), Fail> {
     Ok(())
 }
 
+/// Puts places of these values.
+fn put_values<L: Ledger>(most: &mut LiveMax, values: &[u32], steps: &mut Steps<L>)
+    requires { most.old ≡ nothing_put (length values.now) }
+    ensures open { most.new.sealed ≡ false }
+    ensures places { most.new.places ≡ map live_place values.now }
+{
+    for value in values {
+        most.put(*value, steps);
+    }
+}
+
+/// Seals live places and takes all turns.
+fn turn_most<L: Ledger>(most: &mut LiveMax, steps: &mut Steps<L>)
+    requires { most.old.sealed ≡ false }
+    ensures built { IsBuilt most.new }
+    ensures places { most.new.places ≡ most.old.places }
+{
+    most.seal();
+    while most.left() > 0 {
+        most.turn(steps);
+    }
+}
+
 /// Live places of these values, with all turns taken.
 fn most_of<L: Ledger>(
     alloc: Global,
@@ -86,13 +127,8 @@ fn most_of<L: Ledger>(
     ensures places { IfOk result (λ most. most.places ≡ map live_place values.now) }
 {
     let mut most = LiveMax::room(alloc, values.len())?;
-    for value in values {
-        most.put(*value, steps);
-    }
-    most.seal();
-    while most.left() > 0 {
-        most.turn(steps);
-    }
+    put_values(&mut most, values, steps);
+    turn_most(&mut most, steps);
     Ok(most)
 }
 

@@ -1,7 +1,10 @@
 //! A merge of two flat parts of one item each.
-ghost use Rattle.std.specs.Prelude.{◌≡◌, ◌≢◌, ◌<◌};
+ghost use Rattle.std.specs.Prelude.{◌≡◌, ◌≢◌, ◌<◌, false, length};
+ghost use Rattle.builder_trait.specs.Parts.{IsPart};
+ghost use Rattle.ordered_merge.specs.Merging.{MergesInto};
 
 use crate::item::Pair;
+use crate::pairs::sealed;
 use builder_trait::flat::FlatBuilder;
 use builder_trait::{Builder, Part, part_of_one};
 use ordered_merge::Merge;
@@ -11,6 +14,28 @@ use std::alloc::Global;
 use std::marker::Brand;
 use std::sync::ledger::{Blank, Ledger};
 use std::test::Fail;
+
+/// Takes all turns of a merge: whether the first order had passed an item after the first of them, and whether all was done after the others.
+fn run<B: Builder, L: Ledger>(
+    merge: &mut Merge<B>,
+    a: &B::Part,
+    b: &B::Part,
+    builder: &mut B,
+    item: &B::Item,
+    steps: &mut Steps<L>,
+) -> [bool; 2]
+    requires more { 0 < merge.old.left }
+    requires valid { (IsPart B.Item.before (B.Part.Part.contents a.now)) × (IsPart B.Item.before (B.Part.Part.contents b.now)) }
+    requires merges { MergesInto B.Part.Part.contents B.progress B.Item.stamp B.Item.before merge.old a.now b.now builder.old }
+    ensures open { (B.progress builder.new).is_sealed ≡ false }
+    ensures complete { length (B.progress builder.new).reordered ≡ length (B.progress builder.new).items }
+{
+    let left = merge.left();
+    merge.turn(a, b, builder, steps);
+    let passed = merge.passed(item);
+    merge.turns(left - 1, a, b, builder, steps);
+    [passed, merge.done()]
+}
 
 /// The parts of two items, merged: the turns left at the beginning, and once the merge is cleared; whether the first order had passed the
 /// first item after a turn, and whether all was done after the others; and the part of both.
@@ -28,37 +53,31 @@ fn merged<B: Builder, L: Ledger>(
     let mut builder = B::room(alloc, 1)?;
     merge.begin(&a, &b);
     let left = merge.left();
-    merge.turn(&a, &b, &mut builder, steps);
-    let passed = merge.passed(&low);
-    merge.turns(left - 1, &a, &b, &mut builder, steps);
-    let done = merge.done();
-    builder.seal();
-    let rest = builder.left();
-    builder.turns(rest, steps);
+    let passed_and_done = run(&mut merge, &a, &b, &mut builder, &low, steps);
     merge.clear();
-    Ok(([left, merge.left()], [passed, done], builder.finish()))
+    let (_turns, part) = sealed(builder, steps);
+    Ok(([left, merge.left()], passed_and_done, part))
 }
 
-/// The stamps of a part in an order.
-fn stamps<P: Part, L: Ledger>(
-    alloc: Global,
+/// Adds the stamps of a part in an order.
+fn add_stamps<P: Part, L: Ledger>(
+    stamps: &mut Vec<u64>,
     order: Order,
     part: &P,
     steps: &mut Steps<L>,
-) -> Result<Vec<u64>, NoMemory> {
-    let mut stamps = Vec::new(alloc);
+) -> Result<(), NoMemory> {
     for k in 0..part.len() {
         stamps.push(part.item(order, k, steps).stamp())?;
     }
-    Ok(stamps)
+    Ok(())
 }
 
-/// What a merge of two items told, and the stamps of its part in both orders.
+/// What a merge of two items told, and the stamps of its part in the first order and then in the second.
 #[derive(Drop)]
 struct Seen {
     left: [u64; 2],
     passed_and_done: [bool; 2],
-    stamps: [Vec<u64>; 2],
+    stamps: Vec<u64>,
 }
 
 fn merge_seen<B: Builder, L: Ledger>(
@@ -74,12 +93,13 @@ fn merge_seen<B: Builder, L: Ledger>(
 {
     let mut steps = Steps::<L>::new(blank);
     let (left, passed_and_done, part) = merged::<B, L>(alloc, low, high, &mut steps)?;
-    let first = stamps(alloc, Order::First, &part, &mut steps)?;
-    let second = stamps(alloc, Order::Second, &part, &mut steps)?;
+    let mut stamps = Vec::new(alloc);
+    add_stamps(&mut stamps, Order::First, &part, &mut steps)?;
+    add_stamps(&mut stamps, Order::Second, &part, &mut steps)?;
     Ok(Seen {
         left,
         passed_and_done,
-        stamps: [first, second],
+        stamps,
     })
 }
 
@@ -96,9 +116,8 @@ fn merges_two_items(rt: HostRuntime) -> Result<(), Fail> {
         stamp: 9,
     };
     let seen = merge_seen::<FlatBuilder<Pair>, Brand>(rt.alloc(), low, high, blank())?;
-    assert_eq!(rt; seen.left, [4, 0]);
-    assert_eq!(rt; seen.passed_and_done, [true, true]);
-    assert_eq!(rt; seen.stamps[0].as_slice(), [7, 9].as_slice());
-    assert_eq!(rt; seen.stamps[1].as_slice(), [9, 7].as_slice());
+    let told = (seen.left, seen.passed_and_done);
+    assert_eq!(rt; told, ([4, 0], [true, true]));
+    assert_eq!(rt; seen.stamps.as_slice(), [7, 9, 9, 7].as_slice());
     Ok(())
 }

@@ -1,11 +1,11 @@
 //! Twelve inserts, a delete after five, and the rooms that are held.
-ghost use Rattle.std.specs.Prelude.{◌≡◌, ◌<◌, ◌≤◌, ◌^◌, [], Contains, OnOk};
+ghost use Rattle.std.specs.Prelude.{◌≡◌, ◌<◌, ◌≤◌, ◌^◌, [], Contains, IfOk, OnOk};
 ghost use Rattle.stack_levels.specs.Levels.{weight_of, live_items};
 
 use crate::item::Pair;
 use builder_trait::flat::FlatBuilder;
 use builder_trait::{Builder, Part};
-use level_slots::Stack;
+use level_slots::{Retired, Stack};
 use query_laws::NoMemory;
 use query_laws::step_ledger::{SHARES, Steps, blank};
 use std::alloc::Global;
@@ -41,6 +41,21 @@ fn insert_up_to<B: Builder<Item = Pair>, L: Ledger>(
     Ok(seen)
 }
 
+/// A stack of so many items.
+fn filled<B: Builder<Item = Pair>, L: Ledger>(
+    alloc: Global,
+    count: u64,
+    steps: &mut Steps<L>,
+) -> Result<Stack<B>, NoMemory>
+    requires { count < 2 ^ 10 }
+    ensures weight { IfOk result (λ stack. weight_of stack.levels ≡ count) }
+    ensures first { IfOk result (λ stack. 0 < count → Contains (live_items B.Part.Part.contents stack.levels) (record { x = 1; y = 2; stamp = 0 })) }
+{
+    let mut stack = Stack::<B>::new(alloc);
+    insert_up_to(alloc, &mut stack, count, steps)?;
+    Ok(stack)
+}
+
 /// The numbers of parts and the weights after each of twelve inserts.
 fn traced<B: Builder<Item = Pair>, L: Ledger>(
     alloc: Global,
@@ -65,8 +80,7 @@ fn deleted<B: Builder<Item = Pair>, L: Ledger>(
     requires shares { blank.parts ≡ SHARES }
 {
     let mut steps = Steps::<L>::new(blank);
-    let mut stack = Stack::<B>::new(alloc);
-    insert_up_to(alloc, &mut stack, 5, &mut steps)?;
+    let mut stack = filled::<B, L>(alloc, 5, &mut steps)?;
     stack.prepare()?;
     stack.delete(&pair(0), &mut steps);
     Ok((
@@ -86,8 +100,7 @@ fn prepared<B: Builder<Item = Pair>, L: Ledger>(
 ) -> Result<(u64, u32), NoMemory>
     requires { count < 2 ^ 10 }
 {
-    let mut stack = Stack::<B>::new(alloc);
-    insert_up_to(alloc, &mut stack, count, steps)?;
+    let mut stack = filled::<B, L>(alloc, count, steps)?;
     stack.prepare()?;
     Ok((stack.rooms(), stack.spare()))
 }
@@ -109,6 +122,15 @@ fn prepared_thrice<B: Builder<Item = Pair>, L: Ledger>(
     ])
 }
 
+/// Takes over all parts of a retired stack, and gives their number.
+fn take_all<B: Builder<Item = Pair>>(stack: &mut Stack<B>, retired: &mut Retired<B>) -> usize {
+    let held = retired.len();
+    for _update in 0..held {
+        stack.take_over(retired);
+    }
+    held
+}
+
 /// A stack of twelve items is retired, and taken over by one of five that is prepared, in as many updates as it has parts in memory:
 /// their number, how many are left, and the kept builders, the rooms, the parts and the spare after it.
 fn retired<B: Builder<Item = Pair>, L: Ledger>(
@@ -120,16 +142,11 @@ fn retired<B: Builder<Item = Pair>, L: Ledger>(
     requires shares { blank.parts ≡ SHARES }
 {
     let mut steps = Steps::<L>::new(blank);
-    let mut old = Stack::<B>::new(alloc);
-    insert_up_to(alloc, &mut old, 12, &mut steps)?;
-    let mut stack = Stack::<B>::new(alloc);
-    insert_up_to(alloc, &mut stack, 5, &mut steps)?;
+    let old = filled::<B, L>(alloc, 12, &mut steps)?;
+    let mut stack = filled::<B, L>(alloc, 5, &mut steps)?;
     stack.prepare()?;
     let mut retired = old.retire();
-    let held = retired.len();
-    for _update in 0..held {
-        stack.take_over(&mut retired);
-    }
+    let held = take_all(&mut stack, &mut retired);
     Ok((
         held,
         retired.len(),

@@ -28,10 +28,8 @@ fn try_parts<L: Ledger>(rt: &HostRuntime, blank: Blank) -> Result<[bool; 2], Fai
     for layer in [Layer::Part, Layer::Stack, Layer::Index] {
         measure_layer::<RangeRows, HostRuntime, L>(&mut bench, layer, 1, 33, Spread::Column)?;
     }
-    let mut trial = Trial::<RangeBuilder, Marked<RangeBuilder>>::new(
-        rt.alloc(),
-        Plan::compared(1, 64),
-    )?;
+    let plan = Plan::compared(1, 64);
+    let mut trial = Trial::<RangeBuilder, Marked<RangeBuilder>>::new(rt.alloc(), plan)?;
     trial.fill(&mut bench)?;
     trial.items.clear();
     let count = trial.ask::<CountIn, HostRuntime, L>(&mut bench);

@@ -93,9 +93,14 @@ fn compare_writing<R: Clock, L: Ledger>(
 /// Writes the replies to sizes of 0, 1 and so on.
 fn write_sizes<K: Sink>(count: u64, sink: &mut K) -> Result<(), WriteFault> {
     for n in 0..count {
-        write_reply(&Reply::Size { n }, false, sink)?;
+        write_size(n, sink)?;
     }
     Ok(())
+}
+
+/// Writes the reply to a size.
+fn write_size<K: Sink>(n: u64, sink: &mut K) -> Result<(), WriteFault> {
+    write_reply(&Reply::Size { n }, false, sink)
 }
 
 /// Writes the same lines by `writeln!`.

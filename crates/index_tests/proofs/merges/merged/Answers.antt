@@ -2,8 +2,8 @@ use Rattle.std.proofs.Common.{◌+◌, ◌≤◌, ◌^◌, length, ap, arith, sy
 use Rattle.ordered_merge.specs.Merging.{Merges}
 use Rattle.index_tests.proofs.merges.merged.Goals as goal
 
-pub turn-requires-clause-merges : goal.turn-requires-clause-merges
-turn-requires-clause-merges g c =
+pub run-passed_and_done-requires-clause-merges : goal.run-passed_and_done-requires-clause-merges
+run-passed_and_done-requires-clause-merges g c =
     let a = g.B.Part.Part.contents c.part_of_one-a.result in
     let b = g.B.Part.Part.contents c.part_of_one-b.result in
     let few : length a.items + length b.items ≤ 2 ^ 1 =
