@@ -1,0 +1,24 @@
+-- Shares of one index, and of two together.
+use Rattle.std.proofs.Common.{◌≡◌, ℕ, ◌≤◌, List, ◌++◌, Option, Some, sym, subst, arith}
+use Rattle.std.proofs.lemmas.List.Sums.{sum_by-append}
+use Rattle.query_laws.specs.StepLedger.{Counts}
+use Rattle.stack_levels.specs.Cost.{IsWithin}
+use Rattle.stack_levels.proofs.Spending.{IsWithin-more, IsWithin-then}
+use Rattle.global_rebuild.specs.Index.{Indexed}
+use Rattle.map_kinds.specs.Touches.{touches_at}
+use Rattle.layer_kinds.specs.Shares.{Rate, IsShared}
+use Rattle.layer_kinds.specs.Indexing.{rates_of}
+
+module _ (turns marks : Rate → ℕ) (g : ℕ) where
+  -- what one index costs that is there
+  pub IsShared-there : {P Item : Type 0} (rate : Rate) {touches : ℕ} {old new : Counts} (index : Option (Indexed P Item)) (i : Indexed P Item)
+      → index ≡ Some i → touches ≤ touches_at g → IsWithin (turns rate) (marks rate) touches old new
+      → IsShared turns marks (rates_of rate index) g old new
+  IsShared-there rate {touches} {old} {new} index i is few h =
+      subst (λ o. IsShared turns marks (rates_of rate o) g old new) (sym is) (IsWithin-more h (omega arith) (omega arith) few)
+
+  -- what some cost, and then others
+  pub IsShared-then : (first second : List Rate) {old mid new : Counts} → IsShared turns marks first g old mid
+      → IsShared turns marks second g mid new → IsShared turns marks (first ++ second) g old new
+  IsShared-then first second {old} {mid} {new} h k =
+      IsWithin-more (IsWithin-then h k) (omega (arith, sum_by-append turns first second)) (omega (arith, sum_by-append marks first second)) (omega arith)

@@ -1,0 +1,169 @@
+//! The indexes of a layer.
+ghost use Rattle.std.specs.Prelude.{◌≡◌, ℕ, ◌+◌, ◌*◌, ◌^◌, ◌<◌, ◌≤◌, ◌++◌, ◌∷◌, [], List, IsTrue, OnOk, length};
+ghost use Rattle.std.specs.Option.{is_some};
+ghost use Rattle.query_laws.specs.StepLedger.{Counts};
+ghost use Rattle.id_chain.specs.Chain.{Entry, HandlesDiffer, is_linked, without_handle};
+ghost use Rattle.layer_kinds.specs.Shares.{Rate, IsShared, prepare_turns, prepare_marks, insert_turns, insert_marks, delete_turns, delete_marks};
+ghost use Rattle.layer_kinds.specs.Indexing.{rates_of, IsOf, IsReady};
+
+use builder_trait::{Builder, Part};
+use global_rebuild::Index;
+use id_chain::{Chain, Handle};
+use map_kinds::MapKind;
+use map_shapes::Shaped;
+use query_laws::NoMemory;
+use query_laws::step_ledger::Steps;
+use std::alloc::Global;
+use std::sync::ledger::Ledger;
+
+/// Indexes over the items of one layer, of which each may be there or not.
+pub trait Indexes: Drop + Sized {
+    type Item: Shaped;
+
+    /// The rates of the indexes that are there.
+    ghost rates: { Self → List Rate };
+
+    /// Each is the index of these entries, and every stamp in it, dead items' included, is below a number.
+    ghost are_of: { Self → List (Entry Self.Item) → ℕ → Type 0 };
+
+    /// The next update of each is prepared.
+    ghost are_ready: { Self → Type 0 };
+
+    /// How many there are.
+    fn count(&self) -> u64
+        requires few { length (rates self.now) ≤ 16 }
+        ensures { result ≡ length (rates self.now) };
+
+    /// Readies the next update.
+    ///
+    /// `NoMemory` where memory for it isn't given to one of them. They are then the indexes of the same items.
+    fn prepare<L: Ledger>(
+        &mut self,
+        chain: &Chain<Self::Item>,
+        steps: &mut Steps<L>,
+    ) -> Result<(), NoMemory>
+        requires of { (stamps : ℕ) × are_of self.old chain.now.entries stamps }
+        ensures of { (stamps : ℕ) → are_of self.old chain.now.entries stamps → are_of self.new chain.now.entries stamps }
+        ensures there { rates self.new ≡ rates self.old }
+        ensures ready { OnOk result (are_ready self.new) }
+        ensures cost { (g : ℕ) → 2 * length chain.now.entries + 10 < 2 ^ (g + 1)
+            → IsShared (prepare_turns g) (prepare_marks g) (rates self.old) g steps.old steps.new };
+
+    /// Takes in the last item of a chain.
+    fn insert<L: Ledger>(&mut self, chain: &Chain<Self::Item>, handle: Handle, steps: &mut Steps<L>)
+        requires ready { are_ready self.old }
+        requires last { (front : List (Entry Self.Item)) × (item : Self.Item) × (chain.now.entries ≡ front ++ record { handle = handle; item = item } ∷ [])
+            × are_of self.old front (Self.Item.stamp item) }
+        requires differ { HandlesDiffer chain.now.entries }
+        requires few { length chain.now.entries < 2 ^ 29 }
+        ensures of { (front : List (Entry Self.Item)) (item : Self.Item) → chain.now.entries ≡ front ++ record { handle = handle; item = item } ∷ []
+            → are_of self.new chain.now.entries (Self.Item.stamp item + 1) }
+        ensures there { rates self.new ≡ rates self.old }
+        ensures some_turns { steps.old.turns + 3 * length (rates self.old) ≤ steps.new.turns }
+        ensures cost { (g : ℕ) → 2 * length chain.now.entries + 8 < 2 ^ (g + 1)
+            → IsShared (insert_turns g) (insert_marks g) (rates self.old) g steps.old steps.new };
+
+    /// Lets go of a linked item, which is unlinked next.
+    fn delete<L: Ledger>(&mut self, chain: &Chain<Self::Item>, handle: Handle, steps: &mut Steps<L>)
+        requires ready { are_ready self.old }
+        requires of { (stamps : ℕ) × are_of self.old chain.now.entries stamps }
+        requires linked { IsTrue (is_linked handle chain.now.entries) }
+        ensures of { (stamps : ℕ) → are_of self.old chain.now.entries stamps → are_of self.new (without_handle handle chain.now.entries) stamps }
+        ensures there { rates self.new ≡ rates self.old }
+        ensures cost { (g : ℕ) → 2 * length chain.now.entries + 10 < 2 ^ (g + 1)
+            → IsShared (delete_turns g) (delete_marks g) (rates self.old) g steps.old steps.new };
+}
+
+/// One index of a layer, where it was named.
+#[derive(Drop)]
+pub struct LayerIndex<B: MapKind> {
+    index: Option<Index<B>>,
+}
+
+impl<B: MapKind> LayerIndex<B> {
+    /// An index without items, where it is wanted. It takes no memory.
+    pub fn new(alloc: Global, wanted: bool) -> LayerIndex<B>
+        ensures there { is_some result.index ≡ wanted }
+        ensures of { IsOf B.Part.Part.contents B.Item.stamp result.index [] 0 }
+    {
+        let index = if wanted {
+            Some(Index::new(alloc))
+        } else {
+            None
+        };
+        LayerIndex { index }
+    }
+}
+
+impl<B: MapKind> Indexes for LayerIndex<B>
+where
+    B::Item: Shaped,
+{
+    type Item = B::Item;
+
+    ghost rates = { λ s. rates_of (record { slope = B.SLOPE; base = B.BASE }) s.index };
+
+    ghost are_of = { λ s es stamps. IsOf B.Part.Part.contents B.Item.stamp s.index es stamps };
+
+    ghost are_ready = { λ s. IsReady B.Part.Part.contents s.index };
+
+    fn count(&self) -> u64 {
+        u64::from(self.index.is_some())
+    }
+
+    fn prepare<L: Ledger>(
+        &mut self,
+        chain: &Chain<B::Item>,
+        steps: &mut Steps<L>,
+    ) -> Result<(), NoMemory> {
+        match &mut self.index {
+            Some(index) => index.prepare(chain, steps),
+            None => Ok(()),
+        }
+    }
+
+    fn insert<L: Ledger>(&mut self, chain: &Chain<B::Item>, handle: Handle, steps: &mut Steps<L>) {
+        if let Some(index) = &mut self.index {
+            index.commit_insert(chain, handle, steps);
+        }
+    }
+
+    fn delete<L: Ledger>(&mut self, chain: &Chain<B::Item>, handle: Handle, steps: &mut Steps<L>) {
+        if let Some(index) = &mut self.index {
+            index.commit_delete(chain, handle, steps);
+        }
+    }
+}
+
+impl<A: Indexes, B: Indexes<Item = A::Item>> Indexes for (A, B) {
+    type Item = A::Item;
+
+    ghost rates = { λ s. A.rates s.0 ++ B.rates s.1 };
+
+    ghost are_of = { λ s es stamps. A.are_of s.0 es stamps × B.are_of s.1 es stamps };
+
+    ghost are_ready = { λ s. A.are_ready s.0 × B.are_ready s.1 };
+
+    fn count(&self) -> u64 {
+        self.0.count() + self.1.count()
+    }
+
+    fn prepare<L: Ledger>(
+        &mut self,
+        chain: &Chain<A::Item>,
+        steps: &mut Steps<L>,
+    ) -> Result<(), NoMemory> {
+        self.0.prepare(chain, steps)?;
+        self.1.prepare(chain, steps)
+    }
+
+    fn insert<L: Ledger>(&mut self, chain: &Chain<A::Item>, handle: Handle, steps: &mut Steps<L>) {
+        self.0.insert(chain, handle, steps);
+        self.1.insert(chain, handle, steps);
+    }
+
+    fn delete<L: Ledger>(&mut self, chain: &Chain<A::Item>, handle: Handle, steps: &mut Steps<L>) {
+        self.0.delete(chain, handle, steps);
+        self.1.delete(chain, handle, steps);
+    }
+}

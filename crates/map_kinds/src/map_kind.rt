@@ -1,0 +1,23 @@
+//! The numbers of a kind of the map.
+ghost use Rattle.std.specs.Prelude.{ℕ, ◌≤◌};
+ghost use Rattle.map_kinds.specs.Touches.{touches_at};
+
+use builder_trait::flat::FlatBuilder;
+use builder_trait::{Builder, Part};
+use map_shapes::Shaped;
+
+/// A kind that keeps to the numbers of the map: its turns are within a slope of 4 and a base of 12, and a mark touches no more than
+/// `16 * (h + 2)^2` in a part of at most `2^h` items.
+pub trait MapKind: Builder {
+    ghost few: { (Self.SLOPE ≤ 4) × (Self.BASE ≤ 12) };
+
+    ghost few_touches: { (h : ℕ) → Self.Part.mark_touches h ≤ touches_at h };
+}
+
+impl<I: Shaped> MapKind for FlatBuilder<I> {
+    ghost use Rattle.std.proofs.Common.{arith};
+
+    ghost few = { (Prim.omega arith, Prim.omega arith) };
+
+    ghost few_touches = { λ h. Prim.grind arith };
+}
