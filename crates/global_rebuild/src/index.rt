@@ -6,7 +6,7 @@ ghost use Rattle.id_chain.specs.Chain.{Entry, HandlesDiffer, is_linked, item_at,
 ghost use Rattle.stack_levels.specs.Levels.{live_items, all_items, weight_of, parts_of, touches_of};
 ghost use Rattle.level_slots.specs.Stack.{memory_of};
 ghost use Rattle.level_slots.specs.Rooms.{rooms_of};
-ghost use Rattle.level_slots.specs.Height.{HaveAtMost, size_of};
+ghost use Rattle.level_slots.specs.Height.{HaveAtMost, AreFew, size_of};
 ghost use Rattle.stack_levels.specs.Cost.{IsWithin, quotas};
 ghost use Rattle.global_rebuild.specs.Index.{Shadow as Walked, live_in, unwalked, walked_on, shadow_weight, main_weight_on, shadow_weight_on, shadow_rooms, retired_parts, retired_parts_on, is_heavy, IsForecast, IsKept, IsInTime, IsIndex, IsIndexOf, IsPrepared};
 
@@ -169,7 +169,7 @@ impl<B: Builder> Index<B> {
     where
         B::Part: Answers<Q>,
         requires going { asking.old.is_given_up ≡ false }
-        requires room { asking.old.parts + parts_of self.now.main.levels < 2 ^ 32 }
+        requires room { asking.old.parts < 2 ^ 31 }
         ensures joined { (es : List (Entry B.Item)) (stamps : ℕ) → IsIndexOf B.Part.Part.contents B.Item.stamp self.now es stamps
             → IfOk result (λ _. asking.new ≡ record asking.old {
               so_far = Q.join asking.old.question asking.old.so_far (Q.value asking.old.question (map (λ e. e.item) es));
@@ -180,6 +180,7 @@ impl<B: Builder> Index<B> {
             ≡ record asking.old { so_far = asking.new.so_far; parts = asking.new.parts; live = asking.new.live; is_given_up = true }) }
         ensures refused { IsErr result → IsTrue asking.old.refusable }
         ensures cost { Spends steps.old steps.new 0 0 (touches_of (B.Part.ask_touches asking.old.question) self.now.main.levels) }
+        ensures few { AreFew B.Part.Part.contents (2 * live_in B.Part.Part.contents self.now.main + 9) self.now.main.levels }
     {
         self.main.ask(asking, steps)
     }

@@ -8,7 +8,7 @@ ghost use Rattle.partial_build.specs.Quota.{quota};
 ghost use Rattle.stack_levels.specs.Slots.{IsPartOf, held_in};
 ghost use Rattle.stack_levels.specs.Levels.{live_items, all_items, weight_of, parts_of, asked, touches_of};
 ghost use Rattle.level_slots.specs.Stack.{Stacked, held_by_level, memory_of};
-ghost use Rattle.level_slots.specs.Height.{IsHeight, HaveAtMost, size_of};
+ghost use Rattle.level_slots.specs.Height.{IsHeight, HaveAtMost, AreFew, size_of};
 ghost use Rattle.stack_levels.specs.Level.{IsOfLevel};
 ghost use Rattle.stack_levels.specs.Cost.{IsWithin, quotas};
 ghost use Rattle.level_slots.specs.Rooms.{rooms_of, kept_in, forecast_of};
@@ -160,7 +160,7 @@ impl<B: Builder> Stack<B> {
     where
         B::Part: Answers<Q>,
         requires going { asking.old.is_given_up ≡ false }
-        requires room { asking.old.parts + parts_of self.now.levels < 2 ^ 32 }
+        requires room { asking.old.parts < 2 ^ 31 }
         ensures joined { IfOk result (λ _. asking.new ≡ record asking.old {
           so_far = Q.join asking.old.question asking.old.so_far
               (Q.value asking.old.question (live_items B.Part.Part.contents self.now.levels));
@@ -171,6 +171,7 @@ impl<B: Builder> Stack<B> {
             ≡ record asking.old { so_far = asking.new.so_far; parts = asking.new.parts; live = asking.new.live; is_given_up = true }) }
         ensures refused { IsErr result → IsTrue asking.old.refusable }
         ensures cost { Spends steps.old steps.new 0 0 (touches_of (B.Part.ask_touches asking.old.question) self.now.levels) }
+        ensures few { AreFew B.Part.Part.contents (weight_of self.now.levels) self.now.levels }
     {
         // It says that what was answered so far is lawful.
         asking.consulted();

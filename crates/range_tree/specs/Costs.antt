@@ -1,7 +1,8 @@
 -- The most touches of one question.
-use Rattle.std.specs.Prelude.{◌≡◌, ℕ, ◌+◌, ◌-◌, ◌*◌, ◌≤◌, List, length, filter}
+use Rattle.std.specs.Prelude.{◌≡◌, ℕ, ◌+◌, ◌-◌, ◌*◌, ◌^◌, ◌≤◌, List, length, filter}
 use Rattle.std.proofs.Common.{arith, subst}
 use Rattle.builder_trait.specs.Parts.{Contents, live_of}
+use Rattle.map_kinds.specs.Touches.{PartTouches, AreFew, touches_at}
 use Rattle.map_shapes.specs.declared.point.Point.{Point}
 use Rattle.map_shapes.specs.declared.rect.Rect.{Rect}
 use Rattle.map_shapes.specs.Questions.{is_in}
@@ -25,3 +26,14 @@ pub mark_touches-rise : (g h : ℕ) → g ≤ h → 16 * ((g + 2) * (g + 2)) ≤
 mark_touches-rise g h le =
     let is : g + (h - g) ≡ h = omega arith in
     subst (λ n. 16 * ((g + 2) * (g + 2)) ≤ 16 * ((n + 2) * (n + 2))) is (longer g (h - g))
+
+-- the same of any question to a part of at most 2 ^ g points
+abbrev pub question_touches : ℕ → PartTouches
+question_touches g = record { part = touches_at g; hit = 8 * (g + 2); item = 0 }
+
+pub question_touches-few : (g : ℕ) → g ≤ 17 → AreFew (question_touches g)
+question_touches-few g low = record {
+  part = omega (arith, mark_touches-rise g 17 low);
+  hit = omega (arith, low);
+  item = omega arith;
+}

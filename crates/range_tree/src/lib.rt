@@ -19,6 +19,7 @@ mod level;
 mod listing;
 mod measure;
 mod places;
+mod questions;
 mod rows;
 mod search;
 mod span;

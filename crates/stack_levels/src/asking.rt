@@ -1,7 +1,9 @@
 //! A question put to the complete parts of levels.
-ghost use Rattle.std.specs.Prelude.{◌≡◌, ◌+◌, ◌^◌, ◌<◌, true, false, IsTrue, IfOk, IsErr, OnErr, length, sum_by};
+ghost use Rattle.std.specs.Prelude.{◌≡◌, ◌+◌, ◌^◌, ◌<◌, ◌≤◌, true, false, All, IsTrue, IfOk, IsErr, OnErr, length, sum_by};
 ghost use Rattle.std.specs.List.{flat_map};
 ghost use Rattle.query_laws.specs.StepLedger.{Spends};
+ghost use Rattle.builder_trait.specs.Parts.{live_of};
+ghost use Rattle.stack_levels.specs.Level.{IsOfLevel};
 ghost use Rattle.stack_levels.specs.Levels.{live_items, parts_of, touches_of};
 
 use crate::level::Level;
@@ -32,12 +34,44 @@ where
     ensures refused { IsErr result → IsTrue asking.old.refusable }
     ensures lawful { Q.lawful asking.old.question asking.new.so_far }
     ensures cost { Spends steps.old steps.new 0 0 (touches_of (B.Part.ask_touches asking.old.question) levels.now) }
+
+    // On no level there are more than three, and each is of its level.
+    ensures few { All (λ l. length l.parts ≤ 3) levels.now }
+    ensures of_level { All (λ l. All (λ p. IsOfLevel l.level (B.Part.Part.contents p)) l.parts) levels.now }
 {
     match levels.split_first() {
         Some((lowest, above)) => {
+            let parts = lowest.parts();
             ask_levels::<B, Q, L>(above, asking, steps)?;
-            lowest.ask(asking, steps)
+            ask_parts::<B::Part, Q, L>(parts, asking, steps)
         }
         None => Ok(()),
     }
+}
+
+/// Puts a question to some parts, once each, in their order.
+fn ask_parts<P: Answers<Q>, Q: Question<Item = P::Item>, L: Ledger>(
+    parts: &[P],
+    asking: &mut Asking<P, Q>,
+    steps: &mut Steps<L>,
+) -> Result<(), NoMemory>
+    requires going { asking.old.is_given_up ≡ false }
+    requires lawful { Q.lawful asking.old.question asking.old.so_far }
+    requires room { asking.old.parts + length parts.now < 2 ^ 32 }
+    ensures joined { IfOk result (λ _. asking.new ≡ record asking.old {
+      so_far = Q.join asking.old.question asking.old.so_far
+          (Q.value asking.old.question (flat_map (λ p. live_of (P.Part.contents p)) parts.now));
+      parts = asking.old.parts + length parts.now;
+      live = asking.old.live + length (flat_map (λ p. live_of (P.Part.contents p)) parts.now);
+    }) }
+    ensures given_up { OnErr result (asking.new
+        ≡ record asking.old { so_far = asking.new.so_far; parts = asking.new.parts; live = asking.new.live; is_given_up = true }) }
+    ensures refused { IsErr result → IsTrue asking.old.refusable }
+    ensures lawful { Q.lawful asking.old.question asking.new.so_far }
+    ensures cost { Spends steps.old steps.new 0 0 (sum_by (P.ask_touches asking.old.question) parts.now) }
+{
+    for part in parts {
+        asking.part(part, steps)?;
+    }
+    Ok(())
 }

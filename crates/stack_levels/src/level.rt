@@ -12,7 +12,6 @@ ghost use Rattle.stack_levels.specs.Neighbours.{IsConstructionOf, IsFed, IsPunct
 ghost use Rattle.stack_levels.specs.Marking.{IsLiveIn, AreMarkedAt};
 ghost use Rattle.stack_levels.specs.Cost.{IsWithin};
 
-mod asking;
 mod giving;
 mod rooms;
 mod visiting;

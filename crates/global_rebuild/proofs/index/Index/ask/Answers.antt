@@ -1,8 +1,10 @@
-use Rattle.std.proofs.Common.{◌≡◌, ◌+◌, ◌∙◌, length, map, ap}
+use Rattle.std.proofs.Common.{◌≡◌, ◌+◌, ◌*◌, ◌∙◌, length, map, ap, subst, arith}
 use Rattle.query_laws.proofs.Values.{value-Permuted}
 use Rattle.level_slots.proofs.Forecasting.{when_ok}
 use Rattle.stack_levels.specs.Levels.{live_items, parts_of}
-use Rattle.global_rebuild.proofs.Weights.{as_many}
+use Rattle.level_slots.specs.Height.{AreFew}
+use Rattle.global_rebuild.specs.Index.{live_in}
+use Rattle.global_rebuild.proofs.Weights.{as_many, main_within}
 use Rattle.global_rebuild.proofs.index.Index.ask.Goals as goal
 
 pub returns-clause-joined : goal.returns-clause-joined
@@ -19,3 +21,16 @@ returns-clause-joined g c es stamps h =
     when_ok c.ask.result
     (λ joined. joined ∙ (λ i. record asking { so_far = g.Q.Question.join q asking.so_far (value i); parts = asking.parts + parts i; live = asking.live + live i }))
     c.ask.ensures.joined
+
+pub returns-clause-few : goal.returns-clause-few
+returns-clause-few g c =
+    let contents = g.B.Part.Part.contents in
+    let h = c.ask.ensures.few in
+    let light = main_within c.self.view_is c.self.invariant in
+    let most = 2 * live_in contents c.args.self.now.main + 9 in
+    subst (λ i. AreFew contents most i.main.levels) c.self.view_is (record {
+      on_level = h.on_level;
+      parts = λ g' less. h.parts g' (omega (arith, less, light));
+      sizes = λ g' less. h.sizes g' (omega (arith, less, light));
+      items = omega (arith, h.items, light);
+    })

@@ -2,16 +2,16 @@ use Rattle.std.proofs.Common.{◌≡◌, ◌+◌, length, sum_by, take}
 use Rattle.std.specs.List.{flat_map}
 use Rattle.query_laws.specs.StepLedger.{Spends}
 use Rattle.builder_trait.specs.Parts.{live_of}
-use Rattle.stack_levels.proofs.level.Level.ask.Given as goal
+use Rattle.stack_levels.proofs.asking.ask_parts.Given as goal
 
 abbrev pub invariant-loop-part : goal.invariant-loop-part
 invariant-loop-part g l = record {
   asked : l.asking ≡ record l.initial.asking {
     so_far = g.Q.Question.join l.initial.asking.question l.initial.asking.so_far
-        (g.Q.Question.value l.initial.asking.question (flat_map (λ p. live_of (g.B.Part.Part.contents p)) (take l.part-index l.self.parts)));
+        (g.Q.Question.value l.initial.asking.question (flat_map (λ p. live_of (g.P.Part.contents p)) (take l.part-index l.parts)));
     parts = l.initial.asking.parts + l.part-index;
-    live = l.initial.asking.live + length (flat_map (λ p. live_of (g.B.Part.Part.contents p)) (take l.part-index l.self.parts));
+    live = l.initial.asking.live + length (flat_map (λ p. live_of (g.P.Part.contents p)) (take l.part-index l.parts));
   };
   lawful : g.Q.Question.lawful l.initial.asking.question l.asking.so_far;
-  spent : Spends l.initial.steps l.steps 0 0 (sum_by (g.B.Part.Answers.ask_touches l.initial.asking.question) (take l.part-index l.self.parts));
+  spent : Spends l.initial.steps l.steps 0 0 (sum_by (g.P.Answers.ask_touches l.initial.asking.question) (take l.part-index l.parts));
 }
