@@ -1,1 +1,4 @@
 pub mod Shared
+pub mod Items
+pub mod WithinBounds
+pub mod Touches

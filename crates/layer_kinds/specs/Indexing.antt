@@ -1,15 +1,15 @@
 -- An index that may be there, over the chain of a layer's items.
-use Rattle.std.specs.Prelude.{ℕ, List, [], ◌∷◌, Option, Some, None, IfSome}
+use Rattle.std.specs.Prelude.{ℕ, List, [], ◌∷◌, Option, IfSome}
+use Rattle.std.specs.Option.{option_map}
 use Rattle.builder_trait.specs.Parts.{Contents}
 use Rattle.id_chain.specs.Chain.{Entry}
 use Rattle.global_rebuild.specs.Index.{Indexed, IsIndexOf, IsPrepared}
-use Rattle.layer_kinds.specs.Shares.{Rate}
+use Rattle.layer_kinds.specs.Shares.{Rate, Rates}
 
 module _ {P Item : Type 0} where
-  -- the rate of an index that is there
-  abbrev pub rates_of : Rate → Option (Indexed P Item) → List Rate
-  rates_of rate None = []
-  rates_of rate (Some index) = rate ∷ []
+  -- the rate of one, where it is there
+  abbrev pub rates_of : Rate → Option (Indexed P Item) → Rates
+  rates_of rate index = option_map (λ _. rate) index ∷ []
 
   module _ (contents : P → Contents Item) where
     -- where it is there, it is that of the entries, and every stamp in it is below a number

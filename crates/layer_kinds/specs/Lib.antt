@@ -1,2 +1,6 @@
 pub mod Shares
+pub mod SharesLaws
 pub mod Indexing
+pub mod Layered
+pub mod Costs
+pub mod Asking

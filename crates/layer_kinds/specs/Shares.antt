@@ -1,5 +1,6 @@
 -- What updates of several indexes cost, each a share.
-use Rattle.std.specs.Prelude.{ℕ, ◌+◌, ◌*◌, List, sum_by}
+use Rattle.std.specs.Prelude.{ℕ, ◌+◌, ◌*◌, ◌≤◌, All, List, Option, IfSome, count_by, sum_by}
+use Rattle.std.specs.Option.{is_some, option_map_or}
 use Rattle.query_laws.specs.StepLedger.{Counts}
 use Rattle.stack_levels.specs.Cost.{IsWithin, quotas}
 use Rattle.map_kinds.specs.Touches.{touches_at}
@@ -9,9 +10,28 @@ pub record Rate : Type 0 where
   pub slope : ℕ
   pub base : ℕ
 
--- at most the shares of turns and marks of these kinds together, and the touches that kinds of the map may take
-abbrev pub IsShared : (Rate → ℕ) → (Rate → ℕ) → List Rate → ℕ → Counts → Counts → Type 0
-IsShared turns marks rates g old new = IsWithin (sum_by turns rates) (sum_by marks rates) (touches_at g) old new
+-- of each index the rate, where it is there
+abbrev pub Rates : Type 0
+Rates = List (Option Rate)
+
+-- how many are there
+abbrev pub count_of : Rates → ℕ
+count_of rates = count_by is_some rates
+
+-- the sum over those that are there
+abbrev pub share : (Rate → ℕ) → Rates → ℕ
+share f rates = sum_by (λ r. option_map_or f r 0) rates
+
+-- a rate that kinds of the map may have
+abbrev pub IsLow : Rate → Type 0
+IsLow rate = (rate.slope ≤ 4) × (rate.base ≤ 12)
+
+abbrev pub AreLow : Rates → Type 0
+AreLow rates = All (λ r. IfSome r IsLow) rates
+
+-- at most the shares of turns and marks of these indexes together, and the touches that kinds of the map may take
+abbrev pub IsShared : (Rate → ℕ) → (Rate → ℕ) → Rates → ℕ → Counts → Counts → Type 0
+IsShared turns marks rates g old new = IsWithin (share turns rates) (share marks rates) (touches_at g) old new
 
 abbrev pub prepare_turns : ℕ → Rate → ℕ
 prepare_turns g rate = 4 * quotas rate.slope rate.base 0 g

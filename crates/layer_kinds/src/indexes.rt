@@ -1,10 +1,15 @@
 //! The indexes of a layer.
+mod asking;
+mod has;
+
 ghost use Rattle.std.specs.Prelude.{◌≡◌, ℕ, ◌+◌, ◌*◌, ◌^◌, ◌<◌, ◌≤◌, ◌++◌, ◌∷◌, [], List, IsTrue, OnOk, length};
 ghost use Rattle.std.specs.Option.{is_some};
-ghost use Rattle.query_laws.specs.StepLedger.{Counts};
 ghost use Rattle.id_chain.specs.Chain.{Entry, HandlesDiffer, is_linked, without_handle};
-ghost use Rattle.layer_kinds.specs.Shares.{Rate, IsShared, prepare_turns, prepare_marks, insert_turns, insert_marks, delete_turns, delete_marks};
+ghost use Rattle.layer_kinds.specs.Shares.{Rates, AreLow, count_of, IsShared, prepare_turns, prepare_marks, insert_turns, insert_marks, delete_turns, delete_marks};
+ghost use Rattle.layer_kinds.specs.SharesLaws.{AreLow-one, AreLow-both};
 ghost use Rattle.layer_kinds.specs.Indexing.{rates_of, IsOf, IsReady};
+
+pub use has::{First, Has, Next};
 
 use builder_trait::{Builder, Part};
 use global_rebuild::Index;
@@ -14,14 +19,15 @@ use map_shapes::Shaped;
 use query_laws::NoMemory;
 use query_laws::step_ledger::Steps;
 use std::alloc::Global;
+use std::marker::Model;
 use std::sync::ledger::Ledger;
 
 /// Indexes over the items of one layer, of which each may be there or not.
 pub trait Indexes: Drop + Sized {
     type Item: Shaped;
 
-    /// The rates of the indexes that are there.
-    ghost rates: { Self → List Rate };
+    /// Which are there, each by its rate.
+    ghost rates: { Self → Rates };
 
     /// Each is the index of these entries, and every stamp in it, dead items' included, is below a number.
     ghost are_of: { Self → List (Entry Self.Item) → ℕ → Type 0 };
@@ -32,7 +38,7 @@ pub trait Indexes: Drop + Sized {
     /// How many there are.
     fn count(&self) -> u64
         requires few { length (rates self.now) ≤ 16 }
-        ensures { result ≡ length (rates self.now) };
+        ensures { result ≡ count_of (rates self.now) };
 
     /// Readies the next update.
     ///
@@ -59,7 +65,7 @@ pub trait Indexes: Drop + Sized {
         ensures of { (front : List (Entry Self.Item)) (item : Self.Item) → chain.now.entries ≡ front ++ record { handle = handle; item = item } ∷ []
             → are_of self.new chain.now.entries (Self.Item.stamp item + 1) }
         ensures there { rates self.new ≡ rates self.old }
-        ensures some_turns { steps.old.turns + 3 * length (rates self.old) ≤ steps.new.turns }
+        ensures some_turns { steps.old.turns + 3 * count_of (rates self.old) ≤ steps.new.turns }
         ensures cost { (g : ℕ) → 2 * length chain.now.entries + 8 < 2 ^ (g + 1)
             → IsShared (insert_turns g) (insert_marks g) (rates self.old) g steps.old steps.new };
 
@@ -72,6 +78,9 @@ pub trait Indexes: Drop + Sized {
         ensures there { rates self.new ≡ rates self.old }
         ensures cost { (g : ℕ) → 2 * length chain.now.entries + 10 < 2 ^ (g + 1)
             → IsShared (delete_turns g) (delete_marks g) (rates self.old) g steps.old steps.new };
+
+    /// All are of kinds of the map.
+    ghost low: { (s : Self) → AreLow (rates s) };
 }
 
 /// One index of a layer, where it was named.
@@ -80,11 +89,20 @@ pub struct LayerIndex<B: MapKind> {
     index: Option<Index<B>>,
 }
 
+impl<B: MapKind> Model for LayerIndex<B> {
+    ghost use Rattle.std.specs.Prelude.{Option};
+    ghost use Rattle.global_rebuild.specs.Index.{Indexed};
+
+    ghost Value = { Option (Indexed B.Part B.Item) };
+
+    ghost view = { λ l. l.index };
+}
+
 impl<B: MapKind> LayerIndex<B> {
     /// An index without items, where it is wanted. It takes no memory.
     pub fn new(alloc: Global, wanted: bool) -> LayerIndex<B>
-        ensures there { is_some result.index ≡ wanted }
-        ensures of { IsOf B.Part.Part.contents B.Item.stamp result.index [] 0 }
+        ensures there { is_some result ≡ wanted }
+        ensures of { IsOf B.Part.Part.contents B.Item.stamp result [] 0 }
     {
         let index = if wanted {
             Some(Index::new(alloc))
@@ -101,11 +119,11 @@ where
 {
     type Item = B::Item;
 
-    ghost rates = { λ s. rates_of (record { slope = B.SLOPE; base = B.BASE }) s.index };
+    ghost rates = { λ s. rates_of (record { slope = B.SLOPE; base = B.BASE }) s };
 
-    ghost are_of = { λ s es stamps. IsOf B.Part.Part.contents B.Item.stamp s.index es stamps };
+    ghost are_of = { λ s es stamps. IsOf B.Part.Part.contents B.Item.stamp s es stamps };
 
-    ghost are_ready = { λ s. IsReady B.Part.Part.contents s.index };
+    ghost are_ready = { λ s. IsReady B.Part.Part.contents s };
 
     fn count(&self) -> u64 {
         u64::from(self.index.is_some())
@@ -133,6 +151,8 @@ where
             index.commit_delete(chain, handle, steps);
         }
     }
+
+    ghost low = { λ s. AreLow-one (record { slope = B.SLOPE; base = B.BASE }) s B.few };
 }
 
 impl<A: Indexes, B: Indexes<Item = A::Item>> Indexes for (A, B) {
@@ -166,4 +186,6 @@ impl<A: Indexes, B: Indexes<Item = A::Item>> Indexes for (A, B) {
         self.0.delete(chain, handle, steps);
         self.1.delete(chain, handle, steps);
     }
+
+    ghost low = { λ s. AreLow-both (A.rates s.0) (B.rates s.1) (A.low s.0) (B.low s.1) };
 }

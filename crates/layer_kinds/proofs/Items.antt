@@ -1,0 +1,50 @@
+-- The items of a layer, as the definitions have them, beside its directory.
+use Rattle.std.proofs.Common.{◌≡◌, ℕ, ◌≤◌, true, List, [], ◌∷◌, Some, None, length, refl, arith}
+use Rattle.std.specs.Option.{is_some}
+use Rattle.std.proofs.lemmas.Bool.Decides.{nat_tests}
+use Rattle.std.proofs.lemmas.Grind.{common_steps}
+use Rattle.std.proofs.lemmas.List.{length-map}
+use Rattle.id_chain.specs.Chain.{Entry, HandlesDiffer, is_linked, item_at}
+use Rattle.id_directory.specs.Directory.{handle_of, without, IdsDiffer}
+use Rattle.map_model.specs.State.{Item, is_live, shape_of, without_item}
+use Rattle.layer_kinds.specs.Layered.{items_of}
+
+module _ {I : Type 0} (id_of : I → ℕ) (item_of : I → Item) (same : (x : I) → (item_of x).id ≡ id_of x) where
+  -- an identifier is live exactly where the directory finds it
+  pub live_found : (id : ℕ) (es : List (Entry I)) → is_live id (items_of item_of es) ≡ is_some (handle_of id_of id es)
+  live_found id [] = refl
+  live_found id (e ∷ es) = let rest = live_found id es in grind (arith, nat_tests, common_steps, rest, same e.item)
+
+  none_live : (id : ℕ) (es : List (Entry I)) → handle_of id_of id es ≡ None → without_item id (items_of item_of es) ≡ items_of item_of es
+  none_live id [] none = refl
+  none_live id (e ∷ es) none = grind (arith, nat_tests, common_steps, none_live id es, same e.item)
+
+  -- without an entry there are the others' items
+  pub items_without : (id : ℕ) (es : List (Entry I)) → IdsDiffer id_of es → items_of item_of (without id_of id es) ≡ without_item id (items_of item_of es)
+  items_without id [] differ = refl
+  items_without id (e ∷ es) differ = grind (arith, nat_tests, common_steps, differ.0, none_live id es, items_without id es differ.1, same e.item)
+
+  pub shape_not_found : (id : ℕ) (es : List (Entry I)) → handle_of id_of id es ≡ None → shape_of id (items_of item_of es) ≡ None
+  shape_not_found id [] none = refl
+  shape_not_found id (e ∷ es) none = grind (arith, nat_tests, common_steps, shape_not_found id es, same e.item)
+
+module _ {I : Type 0} (id_of : I → ℕ) where
+  -- the handle that is found is linked
+  pub linked_found : (id handle : ℕ) (es : List (Entry I)) → handle_of id_of id es ≡ Some handle → is_linked handle es ≡ true
+  linked_found id handle [] found = absurd cc
+  linked_found id handle (e ∷ es) found = grind (arith, nat_tests, common_steps, linked_found id handle es)
+
+  pub fewer : (id : ℕ) (es : List (Entry I)) → length (without id_of id es) ≤ length es
+  fewer id [] = omega arith
+  fewer id (e ∷ es) = grind (arith, nat_tests, common_steps, fewer id es)
+
+module _ {I : Type 0} (id_of : I → ℕ) (item_of : I → Item) (same : (x : I) → (item_of x).id ≡ id_of x) where
+  -- the shape of an identifier is that of the item under the handle that is found
+  pub shape_found : (id handle : ℕ) (x : I) (es : List (Entry I)) → HandlesDiffer es → handle_of id_of id es ≡ Some handle
+      → item_at handle es ≡ Some x → shape_of id (items_of item_of es) ≡ Some (item_of x).shape
+  shape_found id handle x [] differ found at = absurd cc
+  shape_found id handle x (e ∷ es) differ found at =
+      grind (arith, nat_tests, common_steps, shape_found id handle x es differ.1, linked_found id_of id handle es, differ.0, same e.item)
+
+pub as_many_items : {I : Type 0} (item_of : I → Item) (es : List (Entry I)) → length (items_of item_of es) ≡ length es
+as_many_items item_of es = length-map es (λ e. item_of e.item)

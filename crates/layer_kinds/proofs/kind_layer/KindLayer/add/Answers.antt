@@ -1,0 +1,142 @@
+use Rattle.std.proofs.Common.{rules, ◌≡◌, ◌≤◌, ◌<◌, ◌^◌, ◌+◌, ◌*◌, ◌∙◌, true, false, ◌∷◌, ◌++◌, [], Err, length, ap, sym, subst, refl, arith}
+use Rattle.std.specs.Option.{is_some}
+use Rattle.std.proofs.lemmas.List.{length-append, map-append}
+use Rattle.id_directory.specs.Directory.{handle_of}
+use Rattle.map_model.specs.State.{is_live}
+use Rattle.map_model.specs.Cost.{greatest_level}
+use Rattle.layer_kinds.specs.declared.faults.UpdateFault.TheVariants as faults
+use Rattle.layer_kinds.specs.Shares.{count_of, IsShared, insert_turns, insert_marks}
+use Rattle.layer_kinds.specs.Costs.{IsInBounds}
+use Rattle.layer_kinds.specs.Layered.{items_of, IsAdd}
+use Rattle.layer_kinds.proofs.WithinBounds.{IsTold-of, greatest-light, refused-cost, added-cost}
+use Rattle.layer_kinds.proofs.Items.{live_found, as_many_items}
+use Rattle.layer_kinds.proofs.kind_layer.KindLayer.add.Goals as goal
+
+pub returns-then-is_some-clause-added : goal.returns-then-is_some-clause-added
+returns-then-is_some-clause-added g c =
+    let id = g.X.Item.Named.id in
+    let item_of = g.X.Item.Shaped.item_of in
+    let laws = g.met.X.Item.Shaped.same_id in
+    let es = c.args.self.now.entries in
+    let found : is_some (handle_of id (id c.args.item) es) ≡ true = search rules in
+    (
+      ap (λ k. is_live k (items_of item_of es)) (laws c.args.item) ∙ live_found id item_of laws (id c.args.item) es ∙ found,
+      c.id-id.ensures ∙ sym (laws c.args.item),
+      refl,
+    )
+
+pub returns-then-len-ge-MOST_ITEMS-clause-added : goal.returns-then-len-ge-MOST_ITEMS-clause-added
+returns-then-len-ge-MOST_ITEMS-clause-added g c =
+    let id = g.X.Item.Named.id in
+    let item_of = g.X.Item.Shaped.item_of in
+    let laws = g.met.X.Item.Shaped.same_id in
+    let es = c.args.self.now.entries in
+    let none : is_some (handle_of id (id c.args.item) es) ≡ false = search rules in
+    let long : c.len.result ≡ length es = search rules in
+    (
+      ap (λ k. is_live k (items_of item_of es)) (laws c.args.item) ∙ live_found id item_of laws (id c.args.item) es ∙ none,
+      omega (arith, c.if-len-ge-MOST_ITEMS.true, long, as_many_items item_of es),
+      refl,
+    )
+
+pub returns-in_err-prepare_add-clause-added : goal.returns-in_err-prepare_add-clause-added
+returns-in_err-prepare_add-clause-added g c =
+    let id = g.X.Item.Named.id in
+    let item_of = g.X.Item.Shaped.item_of in
+    let laws = g.met.X.Item.Shaped.same_id in
+    let es = c.args.self.now.entries in
+    let refused : c.from_residual.result ≡ Err faults.NoMemory = search rules in
+    let none : is_some (handle_of id (id c.args.item) es) ≡ false = search rules in
+    let long : c.len.result ≡ length es = search rules in
+    let same : c.prepare_add.new.self.entries ≡ es = search rules in
+    subst (IsAdd (items_of item_of es) (item_of c.args.item) (items_of item_of c.prepare_add.new.self.entries)) (sym refused) (
+      ap (λ k. is_live k (items_of item_of es)) (laws c.args.item) ∙ live_found id item_of laws (id c.args.item) es ∙ none,
+      omega (arith, c.if-len-ge-MOST_ITEMS.false, long, as_many_items item_of es),
+      ap (items_of item_of) same,
+    )
+
+pub returns-then-is_err-clause-added : goal.returns-then-is_err-clause-added
+returns-then-is_err-clause-added g c =
+    let id = g.X.Item.Named.id in
+    let item_of = g.X.Item.Shaped.item_of in
+    let laws = g.met.X.Item.Shaped.same_id in
+    let es = c.args.self.now.entries in
+    let none : is_some (handle_of id (id c.args.item) es) ≡ false = search rules in
+    let long : c.len.result ≡ length es = search rules in
+    let same : c.cancel_add.new.self.entries ≡ es = search rules in (
+      ap (λ k. is_live k (items_of item_of es)) (laws c.args.item) ∙ live_found id item_of laws (id c.args.item) es ∙ none,
+      omega (arith, c.if-len-ge-MOST_ITEMS.false, long, as_many_items item_of es),
+      ap (items_of item_of) same,
+    )
+
+pub insert-requires-clause-last : goal.insert-requires-clause-last
+insert-requires-clause-last g c =
+    let l = c.self.inside in
+    let old = l.directory.entries in
+    let item = c.stamped.result in
+    let all : c.chain-3.result.now.entries ≡ old ++ record { handle = c.add-handle.result; item = item } ∷ [] = search rules in
+    let same : c.chain-2.result.now.entries ≡ old = search rules in
+    let adds : g.X.Item.Item.stamp item ≡ l.directory.adds = search rules in (
+      old,
+      item,
+      all,
+      rw adds (subst (λ es. g.X.Indexes.are_of c.prepare.new.self es l.directory.adds) same
+          (c.prepare.ensures.of l.directory.adds (subst (λ es. g.X.Indexes.are_of l.indexes es l.directory.adds) (sym same) c.self.invariant.1))),
+    )
+
+pub returns-clause-added : goal.returns-clause-added
+returns-clause-added g c =
+    let id = g.X.Item.Named.id in
+    let item_of = g.X.Item.Shaped.item_of in
+    let laws = g.met.X.Item.Shaped.same_id in
+    let es = c.args.self.now.entries in
+    let all : c.add-handle.new.self.entries ≡ es ++ record { handle = c.add-handle.result; item = c.stamped.result } ∷ [] = search rules in
+    let items : items_of item_of c.add-handle.new.self.entries ≡ items_of item_of es ++ item_of c.args.item ∷ [] =
+    ap (items_of item_of) all ∙ map-append (λ e. item_of e.item) es (record { handle = c.add-handle.result; item = c.stamped.result } ∷ [])
+    ∙ ap (λ i. items_of item_of es ++ i ∷ []) c.stamped.ensures.same_item in
+    let none : is_some (handle_of id (id c.args.item) es) ≡ false = search rules in
+    let long : c.len.result ≡ length es = search rules in (
+      ap (λ k. is_live k (items_of item_of es)) (laws c.args.item) ∙ live_found id item_of laws (id c.args.item) es ∙ none,
+      omega (arith, c.if-len-ge-MOST_ITEMS.false, long, as_many_items item_of es),
+      items,
+    )
+
+pub returns-then-is_err-clause-cost : goal.returns-then-is_err-clause-cost
+returns-then-is_err-clause-cost g c =
+    let l = c.self.inside in
+    let n = length l.directory.entries in
+    let same : c.chain-2.result.now.entries ≡ l.directory.entries = search rules in
+    let level = greatest_level n in
+    let light : 2 * n + 10 < 2 ^ (level + 1) = greatest-light n c.self.invariant.2 in
+    subst (λ k. IsInBounds (count_of (g.X.Indexes.rates k.indexes)) (length k.entries) c.args.steps.now c.prepare.new.steps) c.self.view_is
+    (refused-cost (g.X.Indexes.rates l.indexes) (g.met.X.Indexes.low l.indexes) level (c.prepare.ensures.cost level (omega (arith, light, ap length same))))
+
+pub returns-clause-cost : goal.returns-clause-cost
+returns-clause-cost g c =
+    let l = c.self.inside in
+    let n = length l.directory.entries in
+    let same : c.chain-2.result.now.entries ≡ l.directory.entries = search rules in
+    let all : c.chain-3.result.now.entries ≡ l.directory.entries ++ record { handle = c.add-handle.result; item = c.stamped.result } ∷ [] = search rules in
+    let more : length c.chain-3.result.now.entries ≡ n + 1 =
+    ap length all ∙ length-append l.directory.entries (record { handle = c.add-handle.result; item = c.stamped.result } ∷ []) in
+    let level = greatest_level n in
+    let light : 2 * n + 10 < 2 ^ (level + 1) = greatest-light n c.self.invariant.2 in
+    subst (λ k. IsInBounds (count_of (g.X.Indexes.rates k.indexes)) (length k.entries) c.args.steps.now c.insert.new.steps) c.self.view_is
+    (added-cost (g.X.Indexes.rates l.indexes) (g.met.X.Indexes.low l.indexes) level (c.prepare.ensures.cost level (omega (arith, light, ap length same)))
+    (subst (λ rs. IsShared (insert_turns level) (insert_marks level) rs level c.prepare.new.steps c.insert.new.steps) c.prepare.ensures.there
+    (c.insert.ensures.cost level (omega (arith, light, more)))))
+
+pub returns-clause-told : goal.returns-clause-told
+returns-clause-told g c =
+    let l = c.self.inside in
+    let n = length l.directory.entries in
+    let rates = g.X.Indexes.rates c.args.self.now.indexes in
+    let same : c.chain-2.result.now.entries ≡ l.directory.entries = search rules in
+    let prepared = c.prepare.ensures.cost (greatest_level n) (omega (arith, ap length same, greatest-light n c.self.invariant.2)) in
+    let later : c.args.steps.now.turns ≤ c.prepare.new.steps.turns = omega (arith, prepared.spent.turns_spent) in
+    let there : count_of (g.X.Indexes.rates c.prepare.new.self) ≡ count_of rates =
+    ap count_of c.prepare.ensures.there ∙ ap (λ k. count_of (g.X.Indexes.rates k.indexes)) c.self.view_is in
+    let some_turns : c.args.steps.now.turns + 3 * count_of rates ≤ c.insert.new.steps.turns = omega (arith, later, c.insert.ensures.some_turns, there) in
+    let cost : IsInBounds (count_of rates) (length c.args.self.now.entries) c.args.steps.now c.insert.new.steps = returns-clause-cost g c in
+    IsTold-of (count_of rates) (length c.args.self.now.entries) true c.bounds-bounds.result.turns c.bounds-bounds.result.marks cost c.requires.lap
+    c.bounds-bounds.ensures.turns c.bounds-bounds.ensures.marks c.bounds-bounds.ensures.few_turns c.bounds-bounds.ensures.few_marks (λ adds. some_turns) c.spent.ensures

@@ -1,0 +1,43 @@
+-- What a question to a layer meets and costs.
+use Rattle.std.specs.Prelude.{◌≡◌, ℕ, ◌+◌, ◌*◌, ◌<◌, ◌≤◌, All, Option, None, Some, Result, Ok, Err, length}
+use Rattle.query_laws.specs.StepLedger.{Counts}
+use Rattle.stack_levels.specs.Levels.{parts_of}
+use Rattle.global_rebuild.specs.Index.{Indexed}
+use Rattle.map_kinds.specs.Touches.{PartTouches}
+use Rattle.map_model.specs.Cost.{bounds_at}
+use Rattle.map_shapes.specs.declared.asked.Asked.{Asked}
+use Rattle.layer_kinds.specs.declared.faults.AskFault.{AskFault}
+use Rattle.layer_kinds.specs.declared.faults.AskFault.TheVariants.{NoLayer, WrongKind, NoIndex, Unknown, NoMemory}
+
+-- so many as the index has complete parts, of which no level has more than three
+abbrev pub IsEveryPart : {P Item : Type 0} → Option (Indexed P Item) → ℕ → Type 0
+IsEveryPart None parts = ⊥
+IsEveryPart (Some index) parts = (parts ≡ parts_of index.main.levels) × All (λ l. length l.parts ≤ 3) index.main.levels
+
+-- the most touches of any question to n items, at these of one part
+abbrev pub most_of : PartTouches → ℕ → ℕ
+most_of touches n = (bounds_at n).parts * touches.part + touches.hit * n + touches.item * (2 * n + 9)
+
+-- A question to n items that is answered costs so many touches at most, and no turn and no mark; how many parts and touches is told.
+pub record IsAsking (n most : ℕ) (asked : Asked) (old new : Counts) : Type 0 where
+  pub part_bound : asked.part_bound ≡ (bounds_at n).parts
+  pub few_parts : asked.parts ≤ asked.part_bound
+  pub some_part : 0 < n → 1 ≤ asked.parts
+  pub touches : new.touches ≡ old.touches + asked.touches
+  pub few_touches : asked.touches ≤ most
+
+-- A question, answered or refused, counts no turn and no mark, takes no touch back, and stays in the lap.
+pub record IsReading (old new : Counts) : Type 0 where
+  pub turns : new.turns ≡ old.turns
+  pub marks : new.marks ≡ old.marks
+  pub touches : old.touches ≤ new.touches
+  pub same_lap : new.lap_start ≡ old.lap_start
+
+-- One that is answered or that memory refused touches so much at most, and any other that is refused counts nothing.
+abbrev pub IsTouching : {T : Type 0} → ℕ → Result T AskFault → Counts → Counts → Type 0
+IsTouching most (Ok given) old new = new.touches ≤ old.touches + most
+IsTouching most (Err NoLayer) old new = new ≡ old
+IsTouching most (Err WrongKind) old new = new ≡ old
+IsTouching most (Err NoIndex) old new = new ≡ old
+IsTouching most (Err (Unknown id)) old new = new ≡ old
+IsTouching most (Err NoMemory) old new = new.touches ≤ old.touches + most

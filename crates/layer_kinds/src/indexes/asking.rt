@@ -1,0 +1,48 @@
+//! A question to one index of a layer.
+ghost use Rattle.std.specs.Prelude.{◌≡◌, ℕ, ◌+◌, ◌*◌, List, None, IfOk, IfSome, length, map};
+ghost use Rattle.query_laws.specs.StepLedger.{Spends};
+ghost use Rattle.id_chain.specs.Chain.{Entry};
+ghost use Rattle.stack_levels.specs.Levels.{parts_of, touches_of};
+ghost use Rattle.level_slots.specs.Height.{AreFew};
+ghost use Rattle.global_rebuild.specs.Index.{live_in};
+ghost use Rattle.layer_kinds.specs.Indexing.{IsOf};
+ghost use Rattle.layer_kinds.specs.Layered.{IsAskRefusal};
+
+use crate::{AskFault, LayerIndex};
+use builder_trait::{Answers, Asking, Builder, Given, Part};
+use map_kinds::MapKind;
+use query_laws::step_ledger::Steps;
+use query_laws::{Item, Question};
+use std::alloc::Global;
+use std::sync::ledger::Ledger;
+
+impl<B: MapKind> LayerIndex<B> {
+    /// Puts a question to the items, where the index is there.
+    ///
+    /// `NoIndex` where it isn't, and `NoMemory` where the answer wanted memory that wasn't given.
+    pub fn ask<Q: Question<Item = B::Item>, L: Ledger>(
+        &self,
+        alloc: Global,
+        question: &Q,
+        steps: &mut Steps<L>,
+    ) -> Result<Given<B::Part, Q>, AskFault>
+    where
+        B::Part: Answers<Q>,
+        requires of { (es : List (Entry B.Item)) × (stamps : ℕ) × IsOf B.Part.Part.contents B.Item.stamp self.now es stamps }
+        ensures question { IfOk result (λ given. given.question ≡ question.now) }
+        ensures answer { (es : List (Entry B.Item)) (stamps : ℕ) → IsOf B.Part.Part.contents B.Item.stamp self.now es stamps
+            → IfOk result (λ given. (given.answer ≡ Q.value question.now (map (λ e. e.item) es)) × (given.live ≡ length es)) }
+        ensures refused { IsAskRefusal self.now Q.refusable result }
+        ensures parts { IfOk result (λ given. IfSome self.now (λ i. given.parts ≡ parts_of i.main.levels)) }
+        ensures few { IfSome self.now (λ i. AreFew B.Part.Part.contents (2 * live_in B.Part.Part.contents i.main + 9) i.main.levels) }
+        ensures cost { IfSome self.now (λ i. Spends steps.old steps.new 0 0 (touches_of (B.Part.ask_touches question.now) i.main.levels)) }
+        ensures nothing { self.now ≡ None → steps.new ≡ steps.old }
+    {
+        let Some(index) = &self.index else {
+            return Err(AskFault::NoIndex);
+        };
+        let mut asking = Asking::<B::Part, Q>::new(alloc, question);
+        index.ask::<Q, L>(&mut asking, steps)?;
+        Ok(asking.finish()?)
+    }
+}

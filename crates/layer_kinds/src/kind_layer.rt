@@ -1,0 +1,155 @@
+//! A layer of one kind.
+mod asking;
+
+ghost use Rattle.std.specs.Prelude.{◌≡◌, ◌+◌, ◌*◌, ◌<◌, ◌≤◌, ◌^◌, true, false, [], IfOk, bytes_eq, length};
+ghost use Rattle.std.specs.Option.{option_map};
+ghost use Rattle.std.specs.Result.{is_ok};
+ghost use Rattle.query_laws.specs.StepLedger.{AtLapStart};
+ghost use Rattle.map_model.specs.Index.{one_if};
+ghost use Rattle.map_model.specs.State as state;
+ghost use Rattle.map_model.specs.Cost.{bounds_at};
+ghost use Rattle.map_shapes.specs.Shape.{model_shape};
+ghost use Rattle.layer_kinds.specs.Shares.{count_of};
+ghost use Rattle.layer_kinds.specs.Layered.{items_of, IsAdd, IsRemoval};
+ghost use Rattle.layer_kinds.specs.Costs.{turns_of, marks_of, IsCost, IsTold};
+
+pub use asking::ask_layer;
+
+use crate::bounds::{Bounds, spent};
+use crate::{Indexes, UpdateFault};
+use id_directory::Directory;
+use map_shapes::{Name, Shape, Shaped, Spent};
+use query_laws::Named;
+use query_laws::step_ledger::Steps;
+use std::alloc::Global;
+use std::marker::Model;
+use std::sync::ledger::Ledger;
+
+/// The most live items of a layer.
+const MOST_ITEMS: usize = 65_536;
+
+/// Items by identifier, and the indexes over them. Contracts see the items in order of add.
+///
+/// Each update is handed steps whose lap begins there. All memory is taken, in all indexes, before anything is changed.
+#[derive(Drop)]
+pub struct KindLayer<X: Indexes> {
+    name: Name,
+    directory: Directory<X::Item>,
+    indexes: X,
+}
+
+impl<X: Indexes> Model for KindLayer<X> {
+    ghost use Rattle.std.specs.Prelude.{◌≡◌, ◌≤◌, None, length};
+    ghost use Rattle.map_model.specs.State.{most_items};
+    ghost use Rattle.layer_kinds.specs.Layered.{Layered};
+
+    ghost Value = { Layered X X.Item };
+
+    ghost view = { λ l. record { name = l.name; entries = l.directory.entries; adds = l.directory.adds; indexes = l.indexes } };
+
+    ghost invariant = { λ l. (l.directory.pending ≡ None) × X.are_of l.indexes l.directory.entries l.directory.adds
+        × (length l.directory.entries ≤ most_items) × (length (X.rates l.indexes) ≤ 4) };
+}
+
+impl<X: Indexes> KindLayer<X> {
+    /// A layer without items, over indexes without items, four at most. It takes no memory; updates take theirs from `alloc`.
+    pub fn new(alloc: Global, name: Name, indexes: X) -> KindLayer<X>
+        requires of { X.are_of indexes [] 0 }
+        requires few { length (X.rates indexes) ≤ 4 }
+        ensures { result ≡ record { name = name; entries = []; adds = 0; indexes = indexes } }
+    {
+        KindLayer {
+            name,
+            directory: Directory::new(alloc, MOST_ITEMS),
+            indexes,
+        }
+    }
+
+    /// Whether it has this name.
+    pub fn has_name(&self, name: &Name) -> bool
+        ensures { result ≡ bytes_eq self.now.name name.now }
+    {
+        self.name == *name
+    }
+
+    /// How many items there are.
+    pub fn len(&self) -> usize
+        ensures count { result ≡ length self.now.entries }
+        ensures few { result ≤ 2 ^ 16 }
+    {
+        self.directory.chain().len()
+    }
+
+    /// What its updates and questions may cost now.
+    pub fn bounds(&self) -> Bounds
+        ensures turns { result.turns ≡ turns_of (count_of (X.rates self.now.indexes)) (length self.now.entries) }
+        ensures marks { result.marks ≡ marks_of (count_of (X.rates self.now.indexes)) (length self.now.entries) }
+        ensures parts { result.parts ≡ (bounds_at (length self.now.entries)).parts }
+        ensures few_turns { result.turns < 2 ^ 32 }
+        ensures few_marks { result.marks < 2 ^ 32 }
+    {
+        Bounds::new(self.len(), self.indexes.count())
+    }
+
+    /// The shape of the item with an identifier.
+    pub fn get(&self, id: u64) -> Option<Shape>
+        ensures { option_map model_shape result ≡ state.shape_of id (items_of X.Item.item_of self.now.entries) }
+    {
+        let handle = self.directory.find(id)?;
+        let item = self.directory.chain().item(handle);
+        Some(item.shape())
+    }
+
+    /// Adds an item at the end, with a stamp of its own, and says what it cost.
+    pub fn add<L: Ledger>(
+        &mut self,
+        item: X::Item,
+        steps: &mut Steps<L>,
+    ) -> Result<Spent, UpdateFault>
+        requires few { self.old.adds < 2 ^ 62 }
+        requires lap { AtLapStart steps.old }
+        ensures added { IsAdd (items_of X.Item.item_of self.old.entries) (X.Item.item_of item) (items_of X.Item.item_of self.new.entries) result }
+        ensures adds { self.new.adds ≡ self.old.adds + one_if (is_ok result) }
+        ensures name { self.new.name ≡ self.old.name }
+        ensures there { X.rates self.new.indexes ≡ X.rates self.old.indexes }
+        ensures cost { IsCost (count_of (X.rates self.old.indexes)) (length self.old.entries) result steps.old steps.new }
+        ensures told { IfOk result (λ spent. IsTold (count_of (X.rates self.old.indexes)) (length self.old.entries) true spent steps.old steps.new) }
+    {
+        let bounds = self.bounds();
+        let id = item.id();
+        if self.directory.find(id).is_some() {
+            return Err(UpdateFault::Duplicate(id));
+        }
+        if self.directory.chain().len() >= MOST_ITEMS {
+            return Err(UpdateFault::Full);
+        }
+        self.directory.prepare_add(id)?;
+        if self.indexes.prepare(self.directory.chain(), steps).is_err() {
+            self.directory.cancel_add();
+            return Err(UpdateFault::NoMemory);
+        }
+        let handle = self.directory.add(item.stamped(self.directory.adds()));
+        self.indexes.insert(self.directory.chain(), handle, steps);
+        Ok(spent(bounds, steps))
+    }
+
+    /// Takes the item with an identifier out, and says what it cost.
+    pub fn remove<L: Ledger>(&mut self, id: u64, steps: &mut Steps<L>) -> Result<Spent, UpdateFault>
+        requires lap { AtLapStart steps.old }
+        ensures removed { IsRemoval (items_of X.Item.item_of self.old.entries) id (items_of X.Item.item_of self.new.entries) result }
+        ensures adds { self.new.adds ≡ self.old.adds }
+        ensures name { self.new.name ≡ self.old.name }
+        ensures there { X.rates self.new.indexes ≡ X.rates self.old.indexes }
+        ensures cost { IsCost (count_of (X.rates self.old.indexes)) (length self.old.entries) result steps.old steps.new }
+        ensures told { IfOk result (λ spent. IsTold (count_of (X.rates self.old.indexes)) (length self.old.entries) false spent steps.old steps.new) }
+    {
+        let bounds = self.bounds();
+        let Some(handle) = self.directory.find(id) else {
+            return Err(UpdateFault::Unknown(id));
+        };
+        self.indexes.prepare(self.directory.chain(), steps)?;
+        self.indexes.delete(self.directory.chain(), handle, steps);
+        self.directory.remove(id);
+        Ok(spent(bounds, steps))
+    }
+}

@@ -1,0 +1,49 @@
+//! A question to a layer.
+ghost use Rattle.std.specs.Prelude.{◌≡◌, IfOk, length};
+ghost use Rattle.query_laws.specs.StepLedger.{AtLapStart};
+ghost use Rattle.map_model.specs.Answer.{answer_over};
+ghost use Rattle.map_model.specs.Command.{lists_ids};
+ghost use Rattle.map_model.specs.Cost.{bounds_at};
+ghost use Rattle.layer_kinds.specs.Layered.{items_of, IsAskRefusal};
+ghost use Rattle.layer_kinds.specs.Asking.{IsEveryPart, IsAsking, IsReading, IsTouching, most_of};
+
+use crate::{AskFault, Has, KindLayer};
+use builder_trait::{AnsweringRows, Given, Rows, RowsPart};
+use map_kinds::{MapQuestion, MapRows};
+use map_shapes::{Asked, Shaped};
+use query_laws::Question;
+use query_laws::step_ledger::Steps;
+use std::alloc::Global;
+use std::sync::ledger::Ledger;
+
+/// Puts a question to the items of a layer, by the index at a place.
+///
+/// `NoIndex` where it isn't there, and `NoMemory` where the answer wanted memory that wasn't given.
+pub fn ask_layer<R: MapRows, P, X: Has<R, P>, Q: MapQuestion<R>, L: Ledger>(
+    layer: &KindLayer<X>,
+    alloc: Global,
+    question: &Q,
+    steps: &mut Steps<L>,
+) -> Result<(Given<RowsPart<R>, Q>, Asked), AskFault>
+where
+    R: AnsweringRows<Q>,
+    R::Item: Shaped,
+    requires lap { AtLapStart steps.old }
+    ensures question { IfOk result (λ given. given.0.question ≡ question.now) }
+    ensures answer { IfOk result (λ given. Q.tells given.0.answer ≡ answer_over (items_of R.Item.item_of layer.now.entries) (Q.asks question.now)) }
+    ensures refused { IsAskRefusal (X.index layer.now.indexes) (lists_ids (Q.asks question.now)) result }
+    ensures every_part { IfOk result (λ given. IsEveryPart (X.index layer.now.indexes) given.1.parts × (given.1.parts ≡ given.0.parts)
+        × (given.0.live ≡ length layer.now.entries)) }
+    ensures cost { IfOk result (λ given. let n = length layer.now.entries in
+        IsAsking n (Q.most_touches (bounds_at n).level given.1.parts n given.0.answer) given.1 steps.old steps.new) }
+    ensures touches { let n = length layer.now.entries in IsTouching (most_of (Q.touches (bounds_at n).level) n) result steps.old steps.new }
+    ensures reads { IsReading steps.old steps.new }
+{
+    let given = layer.indexes.index().ask(alloc, question, steps)?;
+    let asked = Asked {
+        parts: given.consulted(),
+        part_bound: layer.bounds().parts,
+        touches: steps.lap_touches(),
+    };
+    Ok((given, asked))
+}
