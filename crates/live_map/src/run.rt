@@ -63,7 +63,7 @@ pub struct Ended {
 /// end, to the first fault of the source, or to 67,108,864 bytes and one more. After a fault and after too long a
 /// script the lines that a line feed ended are answered. It stops at the first fault of the sink.
 ///
-/// All updates together cost at most the sum of their bounds, each that of the map before it.
+/// Each line takes at most what its command may, on the map before it: an update the bounds of its layer, a question the touches of one.
 pub fn run<S: Source, K: Sink, L: Ledger>(
     alloc: Global,
     words: &[String],

@@ -1,68 +1,69 @@
 -- The machine's step where the layer of a name is found.
 use Rattle.std.proofs.Common.{◌≡◌, ℕ, ◌∙◌, Bool, true, false, not, ◌&&◌, if◌then◌else◌, List, [], ◌∷◌, ◌++◌, Some, None, Result, Ok, Err, length, refl, sym, ap}
-use Rattle.std.specs.Prelude.{nat_le, IfOk, IfSome, Option}
+use Rattle.std.specs.Prelude.{nat_le, IfOk, Option}
 use Rattle.std.specs.Option.{is_some}
 use Rattle.std.proofs.lemmas.Bool.{le-leb, lt-leb}
-use Rattle.stack_levels.specs.Levels.{parts_of}
-use Rattle.global_rebuild.specs.Index.{Indexed}
 use Rattle.map_model.specs.Shape as shapes
 use Rattle.map_model.specs.Index as indexes
+use Rattle.map_model.specs.Index.{has}
 use Rattle.map_model.specs.State.{Item, Layer, State, most_items, most_layers, live_count, is_live, layer_named, with_items, with_item, without_item}
 use Rattle.map_model.specs.Answer.{Question, Answer, answer_over, index_of, kind_asked}
 use Rattle.map_model.specs.Command.{MakeLayer, Add, Drop, Ask, lists_ids}
 use Rattle.map_model.specs.Refusal as refusals
 use Rattle.map_model.specs.Reply.{Made, Updated, Answered, Refused, is_refusal}
-use Rattle.map_model.specs.Machine.{Outcome, step, is_taken, replied, refused}
-use Rattle.map_layers.specs.declared.faults.UpdateFault.{UpdateFault}
-use Rattle.map_layers.specs.declared.faults.UpdateFault.TheVariants.{NoLayer, WrongKind, Duplicate, Unknown, Full, NoMemory}
-use Rattle.map_layers.specs.declared.faults.AskFault.{AskFault}
-use Rattle.map_layers.specs.declared.faults.AskFault.TheVariants as ask
-use Rattle.map_layers.specs.Costs.{IsEveryPart}
-use Rattle.map_layers.specs.Layer.{Layered, items_of, layer_of, IsAdd, IsRemoval, IsAskRefusal}
+use Rattle.map_model.specs.Machine.{Outcome, step, is_same_kind, is_taken, replied, refused}
+use Rattle.layer_kinds.specs.declared.faults.UpdateFault.{UpdateFault}
+use Rattle.layer_kinds.specs.declared.faults.UpdateFault.TheVariants.{NoLayer, WrongKind, Duplicate, Unknown, Full, NoMemory}
+use Rattle.layer_kinds.specs.declared.faults.AskFault.{AskFault}
+use Rattle.layer_kinds.specs.declared.faults.AskFault.TheVariants as ask
+use Rattle.layer_kinds.specs.Layered.{IsRemoval, IsAskRefusal}
+use Rattle.map_layers.specs.Layer.{IsAddTo}
 use Rattle.map_layers.specs.Replies.{updated, asked, IsAnswered}
 
 -- From one map to another, the items of the layer of a name are others.
 pub record IsRenewed (name : List ℕ) (old new : State) (layer : Layer) (items : List Item) : Type 0 where
   pub found : layer_named name old ≡ Some layer
-  pub points : layer.kind ≡ shapes.Points
   pub same : items ≡ layer.items → new ≡ old
   pub changed : (change : List Item → List Item) → items ≡ change layer.items → new ≡ with_items name change old
 
 module _ (old new : State) (name : List ℕ) (id : ℕ) (layer : Layer) (items : List Item) (h : IsRenewed name old new layer items) where
   -- ---- an add
 
-  module _ (x y w : ℕ) where
-    abbrev point : Item
-    point = record { id = id; shape = shapes.Point x y w }
+  module _ (shape : shapes.Shape) where
+    abbrev item : Item
+    item = record { id = id; shape = shape }
 
     -- what is made of it, as its tests say
-    abbrev adding : Bool → Bool → Outcome
-    adding live full =
-        if live then refused old (refusals.Duplicate id)
+    abbrev adding : Bool → Bool → Bool → Outcome
+    adding of_kind live full =
+        if not of_kind then refused old refusals.Kind
+        else (if live then refused old (refusals.Duplicate id)
         else (if full then refused old refusals.Full
-        else replied (with_items name (with_item point) old) Updated)
+        else replied (with_items name (with_item item) old) Updated))
 
-    step-add : (live full : Bool) → is_live id layer.items ≡ live → nat_le most_items (live_count layer) ≡ full
-        → step old (Add name id (shapes.Point x y w)) ≡ adding live full
-    step-add live full is_live is_full = rw h.found (rw h.points (rw is_live (rw is_full refl)))
+    step-add : (of_kind live full : Bool) → is_same_kind layer.kind (shapes.kind_of shape) ≡ of_kind → is_live id layer.items ≡ live
+        → nat_le most_items (live_count layer) ≡ full → step old (Add name id shape) ≡ adding of_kind live full
+    step-add of_kind live full is_kind is_live is_full = rw h.found (rw is_kind (rw is_live (rw is_full refl)))
 
-    pub IsAnswered-add : {T : Type 0} (result : Result T UpdateFault) → IsAdd layer.items point items result
-        → IsAnswered old (Add name id (shapes.Point x y w)) new (updated result)
+    pub IsAnswered-add : {T : Type 0} (result : Result T UpdateFault) → IsAddTo layer item items result
+        → IsAnswered old (Add name id shape) new (updated result)
     IsAnswered-add (Ok done) added =
-        step-add false false added.0 (lt-leb most_items (live_count layer) added.1)
-        ∙ ap (λ (s : State). replied s Updated) (sym (h.changed (with_item point) added.2))
-    IsAnswered-add (Err NoLayer) added = absurd added
-    IsAnswered-add (Err WrongKind) added = absurd added
+        step-add true false false added.0 added.1.0 (lt-leb most_items (live_count layer) added.1.1)
+        ∙ ap (λ (s : State). replied s Updated) (sym (h.changed (with_item item) added.1.2))
+    IsAnswered-add (Err NoLayer) added = absurd added.1
+    IsAnswered-add (Err WrongKind) added =
+        step-add false (is_live id layer.items) (nat_le most_items (live_count layer)) added.0 refl refl
+        ∙ (λ i. refused (sym (h.same added.1) i) refusals.Kind)
     IsAnswered-add (Err (Duplicate other)) added =
-        step-add true (nat_le most_items (live_count layer)) added.0 refl
-        ∙ (λ i. refused (sym (h.same added.2) i) (refusals.Duplicate (sym added.1 i)))
-    IsAnswered-add (Err (Unknown other)) added = absurd added
+        step-add true true (nat_le most_items (live_count layer)) added.0 added.1.0 refl
+        ∙ (λ i. refused (sym (h.same added.1.2) i) (refusals.Duplicate (sym added.1.1 i)))
+    IsAnswered-add (Err (Unknown other)) added = absurd added.1
     IsAnswered-add (Err Full) added =
-        step-add false true added.0 (le-leb most_items (live_count layer) added.1)
-        ∙ (λ i. refused (sym (h.same added.2) i) refusals.Full)
+        step-add true false true added.0 added.1.0 (le-leb most_items (live_count layer) added.1.1)
+        ∙ (λ i. refused (sym (h.same added.1.2) i) refusals.Full)
     IsAnswered-add (Err NoMemory) added = (
-      ap (λ (o : Outcome). not (is_refusal o.reply)) (step-add false false added.0 (lt-leb most_items (live_count layer) added.1)),
-      h.same added.2,
+      ap (λ (o : Outcome). not (is_refusal o.reply)) (step-add true false false added.0 added.1.0 (lt-leb most_items (live_count layer) added.1.1)),
+      h.same added.1.2,
     )
 
   -- ---- a drop
@@ -88,42 +89,48 @@ module _ (old new : State) (name : List ℕ) (id : ℕ) (layer : Layer) (items :
 
 -- ---- no layer of the name
 
-pub unfound-add : (old : State) (name : List ℕ) (id x y w : ℕ) → layer_named name old ≡ None
-    → IsAnswered old (Add name id (shapes.Point x y w)) old (Refused refusals.NoLayer)
-unfound-add old name id x y w none = rw none refl
+pub unfound-add : (old : State) (name : List ℕ) (id : ℕ) (shape : shapes.Shape) → layer_named name old ≡ None
+    → IsAnswered old (Add name id shape) old (Refused refusals.NoLayer)
+unfound-add old name id shape none = rw none refl
 
 pub unfound-drop : (old : State) (name : List ℕ) (id : ℕ) → layer_named name old ≡ None → IsAnswered old (Drop name id) old (Refused refusals.NoLayer)
 unfound-drop old name id none = rw none refl
 
--- ---- a question about points, for the index that answers rectangles
+-- ---- a question
 
-module _ (old : State) (name : List ℕ) (question : Question) (of_points : kind_asked question ≡ shapes.Points) (of_range : index_of question ≡ indexes.Range) where
+module _ (old : State) (name : List ℕ) (question : Question) where
   pub unfound-ask : layer_named name old ≡ None → IsAnswered old (Ask name question) old (Refused refusals.NoLayer)
   unfound-ask none = rw none refl
 
-  module _ (l : Layered) (found : layer_named name old ≡ Some (layer_of l)) where
-    abbrev asking : Bool → Outcome
-    asking there = if not there then refused old refusals.Index else replied old (Answered (answer_over (items_of l.entries) question))
+  module _ (layer : Layer) (found : layer_named name old ≡ Some layer) where
+    abbrev asking : Bool → Bool → Outcome
+    asking of_kind there =
+        if not of_kind then refused old refusals.Kind
+        else (if not there then refused old refusals.Index
+        else replied old (Answered (answer_over layer.items question)))
 
-    step-ask : (there : Bool) → is_some l.range ≡ there → step old (Ask name question) ≡ asking there
-    step-ask there is_there = rw found (rw of_points (rw of_range (rw is_there refl)))
+    step-ask : (of_kind there : Bool) → is_same_kind layer.kind (kind_asked question) ≡ of_kind → has layer.indexes (index_of question) ≡ there
+        → step old (Ask name question) ≡ asking of_kind there
+    step-ask of_kind there is_kind is_there = rw found (rw is_kind (rw is_there refl))
 
-    pub IsAnswered-ask : {T : Type 0} (refusable : Bool) → refusable ≡ lists_ids question → (answer : T → Answer) (result : Result T AskFault)
-        → IsAskRefusal l.range refusable result → IfOk result (λ t. answer t ≡ answer_over (items_of l.entries) question)
-        → IsAnswered old (Ask name question) old (asked (λ t. Answered (answer t)) result)
-    IsAnswered-ask refusable lists answer (Ok t) refused same = step-ask true refused ∙ ap (λ a. replied old (Answered a)) (sym same)
-    IsAnswered-ask refusable lists answer (Err ask.NoLayer) refused same = absurd refused
-    IsAnswered-ask refusable lists answer (Err ask.WrongKind) refused same = absurd refused
-    IsAnswered-ask refusable lists answer (Err ask.NoIndex) refused same = step-ask false refused
-    IsAnswered-ask refusable lists answer (Err (ask.Unknown id)) refused same = absurd refused
-    IsAnswered-ask refusable lists answer (Err ask.NoMemory) refused same =
-        (ap (λ b. b && not (is_refusal (step old (Ask name question)).reply)) (sym lists ∙ refused.1) ∙ ap (λ (o : Outcome). not (is_refusal o.reply)) (step-ask true refused.0), refl)
+    -- the layer is of the other kind
+    pub wrong-ask : is_same_kind layer.kind (kind_asked question) ≡ false → IsAnswered old (Ask name question) old (Refused refusals.Kind)
+    wrong-ask other = step-ask false (has layer.indexes (index_of question)) other refl
 
--- a question that isn't refused is put to every part
-pub every_part : {P Item : Type 0} (index : Option (Indexed P Item)) (parts : ℕ) → is_some index ≡ true
-    → IfSome index (λ i. parts ≡ parts_of i.main.levels) → IsEveryPart index parts
-every_part None parts there are = let clash : false ≡ true = there in cc
-every_part (Some index) parts there are = are
+    -- one of its indexes was asked
+    pub IsAnswered-ask : {T I : Type 0} (index : Option I) → is_same_kind layer.kind (kind_asked question) ≡ true → has layer.indexes (index_of question) ≡ is_some index
+        → (answer : T → Answer) (result : Result T AskFault) → IsAskRefusal index (lists_ids question) result
+        → IfOk result (λ t. answer t ≡ answer_over layer.items question) → IsAnswered old (Ask name question) old (asked (λ t. Answered (answer t)) result)
+    IsAnswered-ask index kind is_there answer (Ok t) refused same = step-ask true true kind (is_there ∙ refused) ∙ ap (λ a. replied old (Answered a)) (sym same)
+    IsAnswered-ask index kind is_there answer (Err ask.NoLayer) refused same = absurd refused
+    IsAnswered-ask index kind is_there answer (Err ask.WrongKind) refused same = absurd refused
+    IsAnswered-ask index kind is_there answer (Err ask.NoIndex) refused same = step-ask true false kind (is_there ∙ refused)
+    IsAnswered-ask index kind is_there answer (Err (ask.Unknown id)) refused same = absurd refused
+    IsAnswered-ask index kind is_there answer (Err ask.NoMemory) refused same = (
+      ap (λ b. b && not (is_refusal (step old (Ask name question)).reply)) refused.1
+          ∙ ap (λ (o : Outcome). not (is_refusal o.reply)) (step-ask true true kind (is_there ∙ refused.0)),
+      refl,
+    )
 
 -- ---- a layer is made
 

@@ -10,34 +10,33 @@ use Rattle.std.proofs.lemmas.List.Sums.{sum_by-set}
 use Rattle.std.proofs.lemmas.Slice.Eq.{bytes_eq-Decides}
 use Rattle.stack_levels.proofs.Held.{written}
 use Rattle.map_model.specs.State.{Item, layer_named, changed, with_items}
-use Rattle.map_model.specs.Shape.{Points}
-use Rattle.map_model.specs.Index.{no_indexes}
 use Rattle.map_model.specs.Machine.{is_taken}
-use Rattle.map_layers.specs.Layer.{Layered, items_of, layer_of}
+use Rattle.map_layers.specs.declared.layer.Layer.{Layer}
+use Rattle.map_layers.specs.Layer.{name_in, adds_in, items_in, layer_of}
 use Rattle.map_layers.specs.Layers.{has_name, named, place_named, names_of, adds_of, AllDiffer}
 use Rattle.map_layers.proofs.Answering.{IsRenewed}
 
 -- the layer of a name is that of the definitions
-layer_named-named : (name : List ℕ) (ls : List Layered) → layer_named name (map layer_of ls) ≡ option_map layer_of (named name ls)
+layer_named-named : (name : List ℕ) (ls : List Layer) → layer_named name (map layer_of ls) ≡ option_map layer_of (named name ls)
 layer_named-named name [] = refl
 layer_named-named name (l ∷ ls) = grind (arith, common_steps, layer_named-named name ls)
 
-pub layer_named-Some : (name : List ℕ) (ls : List Layered) {l : Layered} → named name ls ≡ Some l → layer_named name (map layer_of ls) ≡ Some (layer_of l)
+pub layer_named-Some : (name : List ℕ) (ls : List Layer) {l : Layer} → named name ls ≡ Some l → layer_named name (map layer_of ls) ≡ Some (layer_of l)
 layer_named-Some name ls found = layer_named-named name ls ∙ ap (option_map layer_of) found
 
-pub layer_named-None : (name : List ℕ) (ls : List Layered) → named name ls ≡ None → layer_named name (map layer_of ls) ≡ None
+pub layer_named-None : (name : List ℕ) (ls : List Layer) → named name ls ≡ None → layer_named name (map layer_of ls) ≡ None
 layer_named-None name ls none = layer_named-named name ls ∙ ap (option_map layer_of) none
 
-pub named-none : (name : List ℕ) (i : ℕ) (ls : List Layered) → position_from (has_name name) i ls ≡ None → named name ls ≡ None
+pub named-none : (name : List ℕ) (i : ℕ) (ls : List Layer) → position_from (has_name name) i ls ≡ None → named name ls ≡ None
 named-none name i [] none = refl
 named-none name i (l ∷ ls) none = grind (arith, common_steps, named-none name (i + 1) ls)
 
-pub is_among-named : (name : List ℕ) (ls : List Layered) → is_some (named name ls) ≡ list_any (λ other. bytes_eq other name) (names_of ls)
+pub is_among-named : (name : List ℕ) (ls : List Layer) → is_some (named name ls) ≡ list_any (λ other. bytes_eq other name) (names_of ls)
 is_among-named name [] = refl
 is_among-named name (l ∷ ls) = grind (arith, common_steps, is_among-named name ls)
 
 -- no layer of the name is there
-unnamed : (name : List ℕ) (f : List Item → List Item) (ls : List Layered) → named name ls ≡ None → with_items name f (map layer_of ls) ≡ map layer_of ls
+unnamed : (name : List ℕ) (f : List Item → List Item) (ls : List Layer) → named name ls ≡ None → with_items name f (map layer_of ls) ≡ map layer_of ls
 unnamed name f [] none = refl
 unnamed name f (l ∷ ls) none = grind (arith, common_steps, unnamed name f ls)
 
@@ -54,52 +53,52 @@ AllDiffer-push (n ∷ ns) name differ new =
     list_any-append (λ other. bytes_eq other n) ns (name ∷ []) ∙ grind (arith, common_steps, differ.0, swapped n name other) in
     (more, AllDiffer-push ns name differ.1 rest)
 
-pub is_taken-named : (name : List ℕ) (ls : List Layered) → is_taken name (map layer_of ls) ≡ is_some (named name ls)
+pub is_taken-named : (name : List ℕ) (ls : List Layer) → is_taken name (map layer_of ls) ≡ is_some (named name ls)
 is_taken-named name [] = refl
 is_taken-named name (l ∷ ls) = grind (arith, common_steps, is_taken-named name ls)
 
 -- a slice of all layers was written
-refilled : (items written_to : List Layered) (k : ℕ) (l' : Layered) → written_to ≡ items → refill (length items) items (set written_to k l') ≡ set written_to k l'
+refilled : (items written_to : List Layer) (k : ℕ) (l' : Layer) → written_to ≡ items → refill (length items) items (set written_to k l') ≡ set written_to k l'
 refilled items written_to k l' same = written (length items) items (set written_to k l') refl (length-set written_to k l' ∙ ap length same)
 
 -- ---- a layer in place of another one of the same name
 
 -- the search doesn't come to a place before that where it begins
-place_from : (name : List ℕ) (i k : ℕ) (ls : List Layered) → position_from (has_name name) i ls ≡ Some k → i ≤ k
+place_from : (name : List ℕ) (i k : ℕ) (ls : List Layer) → position_from (has_name name) i ls ≡ Some k → i ≤ k
 place_from name i k [] found = absurd cc
 place_from name i k (l ∷ ls) found = grind (arith, common_steps, place_from name (i + 1) k ls)
 
-named-place : (name : List ℕ) (i k : ℕ) (ls : List Layered) (d : Layered) → position_from (has_name name) i ls ≡ Some (i + k) → named name ls ≡ Some (get_or ls k d)
+named-place : (name : List ℕ) (i k : ℕ) (ls : List Layer) (d : Layer) → position_from (has_name name) i ls ≡ Some (i + k) → named name ls ≡ Some (get_or ls k d)
 named-place name i k [] d found = absurd cc
 named-place name i zero (l ∷ ls) d found = grind (arith, common_steps, place_from name (i + 1) i ls)
 named-place name i (suc k) (l ∷ ls) d found = grind (arith, common_steps, named-place name (i + 1) k ls d)
 
 -- the names after a layer are others than its own
-none-after : (name : List ℕ) (l : Layered) (ls : List Layered) → AllDiffer (names_of (l ∷ ls)) → bytes_eq l.name name ≡ true → named name ls ≡ None
+none-after : (name : List ℕ) (l : Layer) (ls : List Layer) → AllDiffer (names_of (l ∷ ls)) → bytes_eq (name_in l) name ≡ true → named name ls ≡ None
 none-after name l ls differ has =
-    let same : l.name ≡ name = grind (arith, bytes_eq-Decides l.name name) in
-    let none : is_some (named l.name ls) ≡ false = is_among-named l.name ls ∙ differ.0 in
+    let same : name_in l ≡ name = grind (arith, bytes_eq-Decides (name_in l) name) in
+    let none : is_some (named (name_in l) ls) ≡ false = is_among-named (name_in l) ls ∙ differ.0 in
     subst (λ n. named n ls ≡ None) same (grind (arith, common_steps))
 
-module _ (name : List ℕ) (change : List Item → List Item) (d l' : Layered) where
-  renewed : (i k : ℕ) (ls : List Layered) → position_from (has_name name) i ls ≡ Some (i + k) → AllDiffer (names_of ls)
+module _ (name : List ℕ) (change : List Item → List Item) (d l' : Layer) where
+  renewed : (i k : ℕ) (ls : List Layer) → position_from (has_name name) i ls ≡ Some (i + k) → AllDiffer (names_of ls)
       → layer_of l' ≡ changed change (layer_of (get_or ls k d)) → map layer_of (set ls k l') ≡ with_items name change (map layer_of ls)
   renewed i k [] found differ is = absurd cc
   renewed i zero (l ∷ ls) found differ is =
-      let has : bytes_eq l.name name ≡ true = grind (arith, common_steps, place_from name (i + 1) i ls) in
+      let has : bytes_eq (name_in l) name ≡ true = grind (arith, common_steps, place_from name (i + 1) i ls) in
       let after = unnamed name change ls (none-after name l ls differ has) in
       grind (arith, common_steps)
   renewed i (suc k) (l ∷ ls) found differ is =
-      let other : bytes_eq l.name name ≡ false = grind (arith, common_steps) in
+      let other : bytes_eq (name_in l) name ≡ false = grind (arith, common_steps) in
       let after = renewed (i + 1) k ls (grind (arith, common_steps)) differ.1 is in
       grind (arith, common_steps)
 
-module _ (name : List ℕ) (k : ℕ) (items ls : List Layered) (d l' : Layered) (written_to : ls ≡ items) (found : place_named name ls ≡ Some k) (within : k < length ls)
-    (same_name : l'.name ≡ (get_or ls k d).name) where
-  abbrev l : Layered
+module _ (name : List ℕ) (k : ℕ) (items ls : List Layer) (d l' : Layer) (written_to : ls ≡ items) (found : place_named name ls ≡ Some k) (within : k < length ls)
+    (kept : layer_of l' ≡ record (layer_of (get_or ls k d)) { items = items_in l' }) where
+  abbrev l : Layer
   l = get_or ls k d
 
-  abbrev ls' : List Layered
+  abbrev ls' : List Layer
   ls' = refill (length items) items (set ls k l')
 
   is_set : ls' ≡ set ls k l'
@@ -108,27 +107,28 @@ module _ (name : List ℕ) (k : ℕ) (items ls : List Layered) (d l' : Layered) 
   place : position_from (has_name name) 0 ls ≡ Some (0 + k)
   place = found ∙ ap Some (omega arith)
 
+  same_name : name_in l' ≡ name_in l
+  same_name = ap (λ m. m.name) kept
+
   -- the names are the same
   pub AllDiffer-at : AllDiffer (names_of items) → AllDiffer (names_of ls')
-  AllDiffer-at differ = subst AllDiffer (sym (ap names_of is_set ∙ map-set_same (λ x. x.name) ls k l' d same_name ∙ ap names_of written_to)) differ
+  AllDiffer-at differ = subst AllDiffer (sym (ap names_of is_set ∙ map-set_same name_in ls k l' d same_name ∙ ap names_of written_to)) differ
 
   -- as many adds more as it has
-  pub adds-at : adds_of ls' + l.adds ≡ adds_of items + l'.adds
-  adds-at = ap (λ xs. adds_of xs + l.adds) is_set ∙ sum_by-set (λ x. x.adds) ls k l' d within ∙ ap (λ xs. adds_of xs + l'.adds) written_to
+  pub adds-at : adds_of ls' + adds_in l ≡ adds_of items + adds_in l'
+  adds-at = ap (λ xs. adds_of xs + adds_in l) is_set ∙ sum_by-set adds_in ls k l' d within ∙ ap (λ xs. adds_of xs + adds_in l') written_to
 
   pub found-at : layer_named name (map layer_of items) ≡ Some (layer_of l)
   found-at = layer_named-Some name items (subst (λ xs. named name xs ≡ Some l) written_to (named-place name 0 k ls d place))
 
-  pub IsRenewed-at : AllDiffer (names_of items) → is_some l'.range ≡ is_some l.range
-      → IsRenewed name (map layer_of items) (map layer_of ls') (layer_of l) (items_of l'.entries)
-  IsRenewed-at differ range = record {
+  pub IsRenewed-at : AllDiffer (names_of items) → IsRenewed name (map layer_of items) (map layer_of ls') (layer_of l) (items_in l')
+  IsRenewed-at differ = record {
     found = found-at;
-    points = refl;
     same = λ same_items.
-        let same : layer_of l' ≡ layer_of l = λ i. record { name = same_name i; kind = Points; indexes = record no_indexes { range = range i }; items = same_items i } in
+        let same : layer_of l' ≡ layer_of l = kept ∙ ap (λ xs. record (layer_of l) { items = xs }) same_items in
         ap (map layer_of) is_set ∙ map-set_same layer_of ls k l' d same ∙ ap (map layer_of) written_to;
     changed = λ change new_items.
-        let is : layer_of l' ≡ changed change (layer_of l) = λ i. record { name = same_name i; kind = Points; indexes = record no_indexes { range = range i }; items = new_items i } in
+        let is : layer_of l' ≡ changed change (layer_of l) = kept ∙ ap (λ xs. record (layer_of l) { items = xs }) new_items in
         ap (map layer_of) is_set ∙ renewed name change d l' 0 k ls place (subst (λ xs. AllDiffer (names_of xs)) (sym written_to) differ) is
         ∙ ap (λ xs. with_items name change (map layer_of xs)) written_to;
   }

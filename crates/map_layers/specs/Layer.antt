@@ -1,65 +1,53 @@
--- What contracts see of a layer of points, and what an update does to its items.
-use Rattle.std.specs.Prelude.{◌≡◌, ℕ, ◌<◌, ◌≤◌, Bool, true, false, List, Option, Result, Ok, Err, length, map}
+-- What contracts see of a layer of either kind, and what an add does to its items.
+use Rattle.std.specs.Prelude.{◌≡◌, ℕ, true, false, List, Option, None, Result, Err}
 use Rattle.std.specs.Option.{is_some}
 use Rattle.builder_trait.specs.Parts.{Contents}
-use Rattle.id_chain.specs.Chain.{Entry}
+use Rattle.global_rebuild.specs.Index.{Indexed}
+use Rattle.layer_kinds.specs.declared.faults.UpdateFault.{UpdateFault}
+use Rattle.layer_kinds.specs.declared.faults.UpdateFault.TheVariants.{WrongKind}
+use Rattle.layer_kinds.specs.Layered.{items_of, IsAdd}
 use Rattle.map_model.specs.Shape as model
 use Rattle.map_model.specs.Index.{IndexSet, no_indexes}
-use Rattle.map_model.specs.State.{Item, Layer, most_items, is_live, with_item, without_item}
+use Rattle.map_model.specs.Machine.{is_same_kind}
+use Rattle.map_model.specs.State as state
+use Rattle.map_model.specs.State.{Item}
 use Rattle.map_shapes.specs.declared.point.Point.{Point}
 use Rattle.map_shapes.specs.Point.{item_of}
-use Rattle.global_rebuild.specs.Index.{Indexed}
-use Rattle.map_layers.specs.declared.faults.AskFault.{AskFault}
-use Rattle.map_layers.specs.declared.faults.AskFault.TheVariants as ask
-use Rattle.map_layers.specs.declared.faults.UpdateFault.{UpdateFault}
-use Rattle.map_layers.specs.declared.faults.UpdateFault.TheVariants.{NoLayer, WrongKind, Duplicate, Unknown, Full, NoMemory}
+use Rattle.map_shapes.specs.Segment.{item_of_segment}
+use Rattle.map_layers.specs.declared.layer.Layer.{Layer}
+use Rattle.map_layers.specs.declared.layer.Layer.TheVariants.{Points, Segments}
 
--- its name, the entries in order of add, how many adds there ever were, and the index for rectangles, where it was named
-pub record Layered : Type 0 where
-  pub name : List ℕ
-  pub entries : List (Entry Point)
-  pub adds : ℕ
-  pub range : Option (Indexed (Contents Point) Point)
+abbrev pub name_in : Layer → List ℕ
+name_in (Points l) = l.name
+name_in (Segments l) = l.name
 
-abbrev pub stamp_of : Point → ℕ
-stamp_of p = p.stamp
+-- how many adds there ever were
+abbrev pub adds_in : Layer → ℕ
+adds_in (Points l) = l.adds
+adds_in (Segments l) = l.adds
 
-abbrev pub items_of : List (Entry Point) → List Item
-items_of es = map (λ e. item_of e.item) es
+abbrev pub kind_in : Layer → model.Kind
+kind_in (Points l) = model.Points
+kind_in (Segments l) = model.Segments
 
-abbrev pub indexes_of : Layered → IndexSet
-indexes_of l = record no_indexes { range = is_some l.range }
+abbrev pub indexes_in : Layer → IndexSet
+indexes_in (Points l) = record no_indexes { range = is_some l.indexes.0; near = is_some l.indexes.1.0; top = is_some l.indexes.1.1 }
+indexes_in (Segments l) = record no_indexes { stab = is_some l.indexes }
+
+abbrev pub items_in : Layer → List Item
+items_in (Points l) = items_of item_of l.entries
+items_in (Segments l) = items_of item_of_segment l.entries
 
 -- a layer as the definitions have it
-abbrev pub layer_of : Layered → Layer
-layer_of l = record { name = l.name; kind = model.Points; indexes = indexes_of l; items = items_of l.entries }
+abbrev pub layer_of : Layer → state.Layer
+layer_of l = record { name = name_in l; kind = kind_in l; indexes = indexes_in l; items = items_in l }
 
--- An item whose identifier is live is refused, and any other where as many are live as may be; else it goes to the end, but for want
--- of memory.
-abbrev pub IsAdd : {T : Type 0} → List Item → Item → List Item → Result T UpdateFault → Type 0
-IsAdd old item new (Ok done) = (is_live item.id old ≡ false) × (length old < most_items) × (new ≡ with_item item old)
-IsAdd old item new (Err NoLayer) = ⊥
-IsAdd old item new (Err WrongKind) = ⊥
-IsAdd old item new (Err (Duplicate id)) = (is_live item.id old ≡ true) × (id ≡ item.id) × (new ≡ old)
-IsAdd old item new (Err (Unknown id)) = ⊥
-IsAdd old item new (Err Full) = (is_live item.id old ≡ false) × (most_items ≤ length old) × (new ≡ old)
-IsAdd old item new (Err NoMemory) = (is_live item.id old ≡ false) × (length old < most_items) × (new ≡ old)
+-- the index for rectangles, where the layer is one that may have it, and has it
+abbrev pub range_in : Layer → Option (Indexed (Contents Point) Point)
+range_in (Points l) = l.indexes.0
+range_in (Segments l) = None
 
--- An identifier that isn't live is refused, and any other item is taken out, but for want of memory.
-abbrev pub IsRemoval : {T : Type 0} → List Item → ℕ → List Item → Result T UpdateFault → Type 0
-IsRemoval old id new (Ok done) = (is_live id old ≡ true) × (new ≡ without_item id old)
-IsRemoval old id new (Err NoLayer) = ⊥
-IsRemoval old id new (Err WrongKind) = ⊥
-IsRemoval old id new (Err (Duplicate other)) = ⊥
-IsRemoval old id new (Err (Unknown other)) = (is_live id old ≡ false) × (other ≡ id) × (new ≡ old)
-IsRemoval old id new (Err Full) = ⊥
-IsRemoval old id new (Err NoMemory) = (is_live id old ≡ true) × (new ≡ old)
-
--- a question is refused exactly where the index isn't there, but for want of memory, where its tally can refuse
-abbrev pub IsAskRefusal : {T P I : Type 0} → Option (Indexed P I) → Bool → Result T AskFault → Type 0
-IsAskRefusal index refusable (Ok given) = is_some index ≡ true
-IsAskRefusal index refusable (Err ask.NoLayer) = ⊥
-IsAskRefusal index refusable (Err ask.WrongKind) = ⊥
-IsAskRefusal index refusable (Err ask.NoIndex) = is_some index ≡ false
-IsAskRefusal index refusable (Err (ask.Unknown id)) = ⊥
-IsAskRefusal index refusable (Err ask.NoMemory) = (is_some index ≡ true) × (refusable ≡ true)
+-- An item of the other kind is refused, and then as in a layer of its kind.
+abbrev pub IsAddTo : {T : Type 0} → state.Layer → Item → List Item → Result T UpdateFault → Type 0
+IsAddTo layer item new (Err WrongKind) = (is_same_kind layer.kind (model.kind_of item.shape) ≡ false) × (new ≡ layer.items)
+IsAddTo layer item new result = (is_same_kind layer.kind (model.kind_of item.shape) ≡ true) × IsAdd layer.items item new result

@@ -1,6 +1,4 @@
-pub mod Indexing
 pub mod Layer
 pub mod Costs
-pub mod QuestionLaws
 pub mod Replies
 pub mod Layers

@@ -8,10 +8,10 @@ use Rattle.map_model.specs.Machine.{step}
 use Rattle.map_model.specs.Output.{may_lack_memory}
 use Rattle.map_layers.specs.declared.faults.CreateFault.{CreateFault}
 use Rattle.map_layers.specs.declared.faults.CreateFault.TheVariants as create
-use Rattle.map_layers.specs.declared.faults.UpdateFault.{UpdateFault}
-use Rattle.map_layers.specs.declared.faults.UpdateFault.TheVariants as update
-use Rattle.map_layers.specs.declared.faults.AskFault.{AskFault}
-use Rattle.map_layers.specs.declared.faults.AskFault.TheVariants as ask
+use Rattle.layer_kinds.specs.declared.faults.UpdateFault.{UpdateFault}
+use Rattle.layer_kinds.specs.declared.faults.UpdateFault.TheVariants as update
+use Rattle.layer_kinds.specs.declared.faults.AskFault.{AskFault}
+use Rattle.layer_kinds.specs.declared.faults.AskFault.TheVariants as ask
 
 abbrev pub refusal_of_create : CreateFault → refusals.Refusal
 refusal_of_create create.Taken = refusals.Taken

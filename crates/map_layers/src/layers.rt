@@ -2,23 +2,23 @@
 mod asking;
 mod updating;
 
-ghost use Rattle.std.specs.Prelude.{◌≡◌, ℕ, ◌+◌, ◌*◌, ◌<◌, ◌≤◌, ◌^◌, true, false, None, Some, Ok, Err, IfOk, length};
+ghost use Rattle.std.specs.Prelude.{◌≡◌, ◌+◌, ◌<◌, ◌^◌, true, false, IfOk};
 ghost use Rattle.std.specs.Option.{option_map};
 ghost use Rattle.query_laws.specs.StepLedger.{lap_begun};
 ghost use Rattle.map_model.specs.State.{layer_named};
-ghost use Rattle.map_model.specs.Shape as model;
 ghost use Rattle.map_model.specs.Command as commands;
+ghost use Rattle.map_model.specs.Index.{fits};
+ghost use Rattle.map_model.specs.Line.{IsShape};
 ghost use Rattle.map_model.specs.Reply as replies;
 ghost use Rattle.map_shapes.specs.Kind.{kind_of};
 ghost use Rattle.map_shapes.specs.IndexSet.{index_set_of};
 ghost use Rattle.map_shapes.specs.Shape.{model_shape};
-ghost use Rattle.map_layers.specs.Layers.{no_layers, map_of, is_built, named};
+ghost use Rattle.map_layers.specs.Layers.{no_layers, map_of, named};
 ghost use Rattle.map_layers.specs.Costs.{IsCostIn, IsToldIn};
 ghost use Rattle.map_layers.specs.Replies.{created, updated, asked, IsAnswered};
 
 use crate::layers::updating::{add_in, remove_in};
-use crate::point_layer::PointLayer;
-use crate::{AskFault, CreateFault, UpdateFault};
+use crate::{AskFault, CreateFault, Layer, UpdateFault};
 use arrayvec::ArrayVec;
 use map_shapes::{IndexSet, Kind, Name, Shape, Spent};
 use query_laws::step_ledger::Steps;
@@ -35,7 +35,7 @@ const MOST_LAYERS: usize = 8;
 /// it. A question is put to the complete parts of one index. Each call that is handed steps begins a lap.
 #[derive(Drop)]
 pub struct Layers {
-    layers: ArrayVec<PointLayer, MOST_LAYERS, Global>,
+    layers: ArrayVec<Layer, MOST_LAYERS, Global>,
     alloc: Global,
     updates: u64,
 }
@@ -63,19 +63,9 @@ impl Layers {
         }
     }
 
-    /// Whether layers of a kind with these indexes are built: today points with `range` alone.
-    pub fn is_built(kind: Kind, indexes: IndexSet) -> bool
-        ensures { result ≡ is_built (kind_of kind) (index_set_of indexes) }
-    {
-        match kind {
-            Kind::Points => indexes.range && !indexes.near && !indexes.top && !indexes.stab,
-            Kind::Segments => false,
-        }
-    }
-
-    /// Makes an empty layer of a kind and indexes that are built, as `is_built` tells. It takes no memory.
+    /// Makes an empty layer of a kind with indexes that it can have. It takes no memory.
     pub fn create(&mut self, name: &Name, kind: Kind, indexes: IndexSet) -> Result<(), CreateFault>
-        requires built { is_built (kind_of kind) (index_set_of indexes) ≡ true }
+        requires fits { fits (kind_of kind) (index_set_of indexes) ≡ true }
         ensures answered { IsAnswered (map_of self.old) (commands.MakeLayer name.now (kind_of kind) (index_set_of indexes)) (map_of self.new) (created result) }
         ensures updates { self.new.updates ≡ self.old.updates }
     {
@@ -86,25 +76,21 @@ impl Layers {
             return Err(CreateFault::NoRoom);
         }
         self.layers
-            .push(PointLayer::new(self.alloc, *name, indexes.range));
+            .push(Layer::new(self.alloc, *name, kind, indexes));
         Ok(())
     }
 
-    /// Adds a point at the end of a layer.
-    pub fn add_point<L: Ledger>(
+    /// Adds an item at the end of a layer.
+    pub fn add<L: Ledger>(
         &mut self,
         name: &Name,
         id: u64,
-        x: u32,
-        y: u32,
-        w: u32,
+        shape: Shape,
         steps: &mut Steps<L>,
     ) -> Result<Spent, UpdateFault>
-        requires x_in_range { x < 2 ^ 31 }
-        requires y_in_range { y < 2 ^ 31 }
-        requires w_in_range { w < 2 ^ 31 }
+        requires lawful { IsShape (model_shape shape) }
         requires few { self.old.updates < 2 ^ 40 }
-        ensures answered { IsAnswered (map_of self.old) (commands.Add name.now id (model.Point x y w)) (map_of self.new) (updated result) }
+        ensures answered { IsAnswered (map_of self.old) (commands.Add name.now id (model_shape shape)) (map_of self.new) (updated result) }
         ensures counted { self.new.updates ≡ self.old.updates + 1 }
 
         // Bounded, refused memory or not; and nothing where it is refused for another cause.
@@ -113,7 +99,7 @@ impl Layers {
     {
         steps.start_lap();
         self.updates += 1;
-        add_in(&mut self.layers, name, id, x, y, w, steps)
+        add_in(&mut self.layers, name, id, shape, steps)
     }
 
     /// Drops the item with an identifier from a layer.
@@ -169,7 +155,7 @@ impl Layers {
 }
 
 /// The layer of a name.
-fn layer_of<'a>(layers: &'a [PointLayer], name: &Name) -> Option<&'a PointLayer>
+fn layer_of<'a>(layers: &'a [Layer], name: &Name) -> Option<&'a Layer>
     ensures { option_map (λ l. l.now) result ≡ named name.now layers.now }
 {
     layers.iter().find(|layer| layer.has_name(name))

@@ -1,15 +1,12 @@
-//! The layers of a map, as the script's commands ask for them: items by identifier, and an index over them that is made anew while it
-//! answers.
+//! The layers of a map, as the script's commands ask for them: items by identifier, and indexes over them that are made anew while they
+//! answer.
 #![tactic(auto)]
 
-mod bounds;
 mod faults;
-mod indexing;
+mod layer;
 mod layers;
-mod point_layer;
-mod range_question;
 
-pub use bounds::Bounds;
-pub use faults::{AskFault, CreateFault, UpdateFault};
+pub use faults::CreateFault;
+pub use layer::{Layer, PointIndexes, SegmentIndexes};
+pub use layer_kinds::{AskFault, UpdateFault};
 pub use layers::Layers;
-pub use point_layer::PointLayer;

@@ -19,7 +19,7 @@ use Rattle.answer_text.proofs.Pieces.{lines_both}
 use Rattle.map_session.specs.Built.{as_built}
 use Rattle.map_session.specs.Work.{no_work, both, work_said}
 use Rattle.map_session.specs.Session.{map_in, ExecutesLine}
-use Rattle.map_session.specs.Answering.{OutputWithin, Moment, is_update_line, IsAnswered, IsStopped, Progress}
+use Rattle.map_session.specs.Answering.{OutputWithin, Moment, AnswersLine, Runs, is_update_line, IsAnswered, IsStopped, Progress}
 use Rattle.map_session.proofs.OutputsWithin.{within_is_output, OutputWithin-push}
 
 -- ---- the first line of a text
@@ -45,17 +45,23 @@ split_at_feed text end fits h =
 
 no_lines : (start : Moment) → IsAnswered start [] start
 no_lines start = record {
+  runs = refl;
   bytes = [];
   work = no_work;
   output = (refl, refl, refl);
   delivered = Delivers-nil start.told;
   turns = omega arith;
   marks = omega arith;
+  touches = omega arith;
   ledger = refl;
   lines = sym (add-zero start.session.lines);
   refused = sym (add-zero start.session.refused);
   updates = sym (add-zero start.session.layers.updates);
 }
+
+Runs-push : (start now new : Moment) (script : List (List ℕ)) (line : List ℕ) → Runs start script now → AnswersLine now line new → Runs start (script ++ line ∷ []) new
+Runs-push start now new [] line r a = (new, subst (λ m. AnswersLine m line new) r a, refl)
+Runs-push start now new (first ∷ script) line r a = (r.0, r.1, Runs-push r.0 now new script line r.2 a)
 
 -- one line more
 pub one_more : (start now new : Moment) (script : List (List ℕ)) (line : List ℕ) (given : Given) → IsAnswered start script now → ExecutesLine now.session now.counts line given new.session new.counts
@@ -68,6 +74,7 @@ one_more start now new script line given p e a =
     OutputWithin-push ledger (map_in start.session) (map_in now.session) built (as_built line) p.bytes p.work given p.output e.answers in
     let updates : count_by is_update_line (script ++ line ∷ []) ≡ count_by is_update_line script + count_by is_update_line (line ∷ []) = sum_by-append _ script (line ∷ []) in
     record {
+      runs = Runs-push start now new script line p.runs (record { given = given; executed = e; delivered = a });
       bytes = p.bytes ++ told;
       work = both p.work (work_said (map_in now.session) (parse (as_built line)));
       output = subst (λ (ls : List (List ℕ)). OutputWithin ledger (map_in start.session) ls (p.bytes ++ told) (map_in new.session) (both p.work (work_said (map_in now.session) (parse (as_built line)))))
@@ -77,6 +84,7 @@ one_more start now new script line given p e a =
           (lines_both start.told now.told new.told p.bytes told (length script) 1 p.delivered (subst (λ (b : Bool). DeliversLines now.told new.told (written_for b given.told) 1) p.ledger a));
       turns = omega (arith, p.turns, e.counted.few_turns);
       marks = omega (arith, p.marks, e.counted.few_marks);
+      touches = omega (arith, p.touches, e.counted.few_touches);
       ledger = e.ledger ∙ p.ledger;
       lines = omega (arith, p.lines, e.lines, length-append script (line ∷ []));
       refused = omega (

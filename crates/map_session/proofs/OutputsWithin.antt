@@ -1,4 +1,4 @@
--- Outputs with what their updates may take.
+-- Outputs with what their commands may take.
 use Rattle.std.proofs.Common.{◌≡◌, ℕ, ◌+◌, Bool, List, [], ◌∷◌, ◌++◌, refl, sym, ap, ◌∙◌, subst, append_assoc, append-nil, arith}
 use Rattle.map_model.specs.State.{State}
 use Rattle.map_model.specs.Grammar.{parse}
@@ -15,13 +15,15 @@ both_none : (a : Work) → both no_work a ≡ both a no_work
 both_none a =
     let turns : 0 + a.turns ≡ a.turns + 0 = omega arith in
     let marks : 0 + a.marks ≡ a.marks + 0 = omega arith in
-    λ i. record { turns = turns i; marks = marks i }
+    let touches : 0 + a.touches ≡ a.touches + 0 = omega arith in
+    λ i. record { turns = turns i; marks = marks i; touches = touches i }
 
 both_assoc : (a b c : Work) → both (both a b) c ≡ both a (both b c)
 both_assoc a b c =
     let turns : (a.turns + b.turns) + c.turns ≡ a.turns + (b.turns + c.turns) = omega arith in
     let marks : (a.marks + b.marks) + c.marks ≡ a.marks + (b.marks + c.marks) = omega arith in
-    λ i. record { turns = turns i; marks = marks i }
+    let touches : (a.touches + b.touches) + c.touches ≡ a.touches + (b.touches + c.touches) = omega arith in
+    λ i. record { turns = turns i; marks = marks i; touches = touches i }
 
 -- one line more
 pub OutputWithin-push : (ledger : Bool) (start middle : State) (script : List (List ℕ)) (line written : List ℕ) (work : Work) (given : Given) → OutputWithin ledger start script written middle work → Answers middle line given

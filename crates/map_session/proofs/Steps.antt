@@ -14,8 +14,8 @@ use Rattle.map_shapes.specs.declared.asked.Asked.{Asked}
 use Rattle.map_shapes.specs.declared.spent.Spent.{Spent}
 use Rattle.answer_text.specs.declared.reply.Reply as replies
 use Rattle.answer_text.specs.Reply.{reply_of, cost_of}
-use Rattle.map_layers.specs.declared.faults.AskFault.{AskFault}
-use Rattle.map_layers.specs.declared.faults.UpdateFault.{UpdateFault}
+use Rattle.layer_kinds.specs.declared.faults.AskFault.{AskFault}
+use Rattle.layer_kinds.specs.declared.faults.UpdateFault.{UpdateFault}
 use Rattle.map_layers.specs.Costs.{IsToldIn, IsAskingIn}
 use Rattle.map_layers.specs.Replies.{updated, asked, IsAnswered}
 use Rattle.map_session.specs.Replies.{update_cost, question_cost}
@@ -52,7 +52,7 @@ update_allowed layer adding (Err fault) c c' told = refl
 
 -- ---- questions
 
-module _ {T : Type 0} (layer : Option Layer) (most : T × Asked → Layer → ℕ) (outcome : Result (T × Asked) AskFault) (c c' : Counts) (cost : IfOk outcome (λ given. IsAskingIn layer (most given) given.1 c c')) where
+module _ {T : Type 0} (layer : Option Layer) (most : T × Asked → ℕ → ℕ → ℕ) (outcome : Result (T × Asked) AskFault) (c c' : Counts) (cost : IfOk outcome (λ given. IsAskingIn layer (most given) given.1 c c')) where
   pub question_allowed : (answer : T × Asked → Answer) → IsCost layer false (asked (λ given. Answered (answer given)) outcome) (question_cost outcome)
   question_allowed answer = elim outcome as (λ o. IfOk o (λ given. IsAskingIn layer (most given) given.1 c c') → IsCost layer false (asked (λ given. Answered (answer given)) o) (question_cost o)) [
     | Ok given ↦ λ asking. elim layer as (λ l. IsAskingIn l (most given) given.1 c c' → IsCost l false (Answered (answer given)) (question_cost {F = AskFault} (Ok given))) [

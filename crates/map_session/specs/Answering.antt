@@ -11,7 +11,7 @@ use Rattle.map_session.specs.Built.{as_built}
 use Rattle.map_session.specs.Work.{Work, no_work, both, work_said, is_update_said}
 use Rattle.map_session.specs.Session.{SessionState, map_in, ExecutesLine}
 
--- From a map, these lines may be answered by these bytes and lead to that map, and their updates may take so much together.
+-- From a map, these lines may be answered by these bytes and lead to that map, and they may take so much together.
 abbrev pub OutputWithin : Bool → State → List (List ℕ) → List ℕ → State → Work → Type 0
 OutputWithin ledger start [] written end work = (written ≡ []) × (end ≡ start) × (work ≡ no_work)
 OutputWithin ledger start (line ∷ lines) written end work =
@@ -27,17 +27,30 @@ pub record Moment : Type 0 where
 abbrev pub moment : SessionState → SinkTold → Counts → Moment
 moment session told counts = record { session = session; told = told; counts = counts }
 
+-- From one moment to the next a line was answered in full, as it is built.
+pub record AnswersLine (now : Moment) (line : List ℕ) (next : Moment) : Type 0 where
+  pub given : Given
+  pub executed : ExecutesLine now.session now.counts line given next.session next.counts
+  pub delivered : DeliversLines now.told next.told (written_for now.session.ledger given.told) 1
+
+-- One line after another was.
+abbrev pub Runs : Moment → List (List ℕ) → Moment → Type 0
+Runs start [] now = now ≡ start
+Runs start (line ∷ lines) now = (next : Moment) × AnswersLine start line next × Runs next lines now
+
 abbrev pub is_update_line : List ℕ → Bool
 is_update_line line = is_update_said (parse (as_built line))
 
--- From one moment to another these lines were answered in full, each as it is built.
+-- From one moment to another these lines were answered in full: what each took, and all together.
 pub record IsAnswered (start : Moment) (script : List (List ℕ)) (now : Moment) : Type 0 where
+  pub runs : Runs start script now
   pub bytes : List ℕ
   pub work : Work
   pub output : OutputWithin start.session.ledger (map_in start.session) (map as_built script) bytes (map_in now.session) work
   pub delivered : DeliversLines start.told now.told bytes (length script)
   pub turns : now.counts.turns ≤ start.counts.turns + work.turns
   pub marks : now.counts.marks ≤ start.counts.marks + work.marks
+  pub touches : now.counts.touches ≤ start.counts.touches + work.touches
   pub ledger : now.session.ledger ≡ start.session.ledger
   pub lines : now.session.lines ≡ start.session.lines + length script
   pub refused : now.session.refused ≡ start.session.refused + refusals bytes

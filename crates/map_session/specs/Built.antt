@@ -1,11 +1,16 @@
 -- Which commands are built today. Any other is answered as a line without a command word is.
-use Rattle.std.specs.Prelude.{Bool, true, false, not, List, ℕ, codes, Some, None, Ok, Err, if◌then◌else◌}
-use Rattle.map_model.specs.Shape.{Shape, Point, Segment}
+use Rattle.std.specs.Prelude.{Bool, true, false, ◌&&◌, not, List, ℕ, codes, Some, None, Ok, Err, if◌then◌else◌}
+use Rattle.map_model.specs.Shape.{Kind, Points, Segments, Shape, Point, Segment}
 use Rattle.map_model.specs.Answer.{Question, CountIn, SumIn, ListIn, Near, Nearest, Above, Top, Stab, StabCount}
 use Rattle.map_model.specs.Command.{Command, MakeLayer, Add, Drop, Ask, Get, Size, Recent}
 use Rattle.map_model.specs.LineFault as faults
 use Rattle.map_model.specs.Grammar.{Parsed, parse}
-use Rattle.map_layers.specs.Layers as layers
+use Rattle.map_model.specs.Index.{IndexSet}
+
+-- points with an index for rectangles alone
+abbrev pub is_built_layer : Kind → IndexSet → Bool
+is_built_layer Points s = s.range && not s.near && not s.top && not s.stab
+is_built_layer Segments s = false
 
 abbrev pub is_built_shape : Shape → Bool
 is_built_shape (Point x y w) = true
@@ -23,7 +28,7 @@ is_built_question (Stab x) = false
 is_built_question (StabCount x) = false
 
 abbrev pub is_built : Command → Bool
-is_built (MakeLayer name kind indexes) = layers.is_built kind indexes
+is_built (MakeLayer name kind indexes) = is_built_layer kind indexes
 is_built (Add name id shape) = is_built_shape shape
 is_built (Drop name id) = true
 is_built (Ask name question) = is_built_question question

@@ -1,23 +1,27 @@
--- What the updates among some commands may take, and what was counted for one.
-use Rattle.std.specs.Prelude.{◌≡◌, ℕ, ◌+◌, ◌≤◌, ⊤, Bool, true, false, ◌&&◌, not, Option, Some, None, Ok, Err, if◌then◌else◌}
+-- What commands may take, and what was counted for one.
+use Rattle.std.specs.Prelude.{◌≡◌, ℕ, ◌+◌, ◌*◌, ◌≤◌, ⊤, Bool, true, false, Option, Some, None, Ok, Err, if◌then◌else◌}
 use Rattle.query_laws.specs.StepLedger.{Counts}
-use Rattle.map_model.specs.State.{Layer, State, layer_named}
+use Rattle.map_kinds.specs.Touches.{touches_at}
+use Rattle.layer_kinds.specs.Asking.{most_of}
+use Rattle.map_layers.specs.Costs.{most_in}
+use Rattle.range_tree.specs.Costs.{question_touches}
+use Rattle.map_model.specs.State.{Layer, State, layer_named, live_count}
 use Rattle.map_model.specs.Command.{Command, MakeLayer, Add, Drop, Ask, Get, Size, Recent, name_of}
-use Rattle.map_model.specs.Cost.{Cost, Untold, Updating, Asking, turn_bound, mark_bound}
+use Rattle.map_model.specs.Cost.{Cost, Untold, Updating, Asking, bounds_at, turn_bound, mark_bound}
 use Rattle.map_model.specs.Reply.{is_refusal}
 use Rattle.map_model.specs.Machine.{step}
 use Rattle.map_model.specs.Grammar.{Parsed}
 
--- turns and marks
 pub record Work : Type 0 where
   pub turns : ℕ
   pub marks : ℕ
+  pub touches : ℕ
 
 abbrev pub no_work : Work
-no_work = record { turns = 0; marks = 0 }
+no_work = record { turns = 0; marks = 0; touches = 0 }
 
 abbrev pub both : Work → Work → Work
-both a b = record { turns = a.turns + b.turns; marks = a.marks + b.marks }
+both a b = record { turns = a.turns + b.turns; marks = a.marks + b.marks; touches = a.touches + b.touches }
 
 abbrev pub is_update : Command → Bool
 is_update (MakeLayer name kind indexes) = false
@@ -33,14 +37,32 @@ is_update_said (Ok None) = false
 is_update_said (Ok (Some command)) = is_update command
 is_update_said (Err fault) = false
 
--- the bounds of a layer, where there is one
+-- the bounds of an update of a layer, where there is one: 16 touches a turn, and those of a part for each mark
 abbrev pub bounds_in : Option Layer → Work
 bounds_in None = no_work
-bounds_in (Some layer) = record { turns = turn_bound layer; marks = mark_bound layer }
+bounds_in (Some layer) = record {
+  turns = turn_bound layer;
+  marks = mark_bound layer;
+  touches = 16 * turn_bound layer + mark_bound layer * touches_at (bounds_at (live_count layer)).level;
+}
 
--- what a command may take: an update that only memory may refuse the bounds of its layer, as it stands before; any other command nothing
+-- the same of a question
+abbrev pub asking_in : Option Layer → Work
+asking_in None = no_work
+asking_in (Some layer) = record no_work { touches = most_in layer (λ level n. most_of (question_touches level) n) }
+
+abbrev pub work_in : Command → Option Layer → Work
+work_in (MakeLayer name kind indexes) layer = no_work
+work_in (Add name id shape) layer = bounds_in layer
+work_in (Drop name id) layer = bounds_in layer
+work_in (Ask name question) layer = asking_in layer
+work_in (Get name id) layer = no_work
+work_in (Size name) layer = no_work
+work_in (Recent name k) layer = no_work
+
+-- what a command may take: the bounds of its layer, as it stands before, where only memory may refuse it, and nothing else
 abbrev pub work_of : State → Command → Work
-work_of state command = if is_update command && not (is_refusal (step state command).reply) then bounds_in (layer_named (name_of command) state) else no_work
+work_of state command = if is_refusal (step state command).reply then no_work else work_in command (layer_named (name_of command) state)
 
 abbrev pub work_said : State → Parsed → Work
 work_said state (Ok None) = no_work
@@ -60,4 +82,5 @@ pub record IsCounted (work : Work) (cost : Cost) (old new : Counts) : Type 0 whe
   pub touches_kept : old.touches ≤ new.touches
   pub few_turns : new.turns ≤ old.turns + work.turns
   pub few_marks : new.marks ≤ old.marks + work.marks
+  pub few_touches : new.touches ≤ old.touches + work.touches
   pub told : IsTold cost old new

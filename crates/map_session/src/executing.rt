@@ -6,13 +6,16 @@ ghost use Rattle.map_model.specs.Output.{AnswersTo};
 ghost use Rattle.script_lang.specs.Command.{command_of};
 ghost use Rattle.answer_text.specs.Reply.{cost_of};
 ghost use Rattle.map_layers.specs.Layers.{map_of};
-ghost use Rattle.map_session.specs.Built.{built};
+ghost use Rattle.map_shapes.specs.Kind.{kind_of};
+ghost use Rattle.map_shapes.specs.IndexSet.{index_set_of};
+ghost use Rattle.map_session.specs.Built.{built, is_built_layer};
 ghost use Rattle.map_session.specs.Work.{work_said, is_update_said, IsCounted};
 ghost use Rattle.map_session.specs.Session.{given_by};
 
 use crate::replying::{counted, got, listed, made, refused, sized, summed, updated};
 use answer_text::{Refusal, Reply};
 use map_layers::Layers;
+use map_shapes::{IndexSet, Kind, Shape};
 use query_laws::step_ledger::Steps;
 use script_lang::Command;
 use std::sync::ledger::Ledger;
@@ -30,8 +33,10 @@ pub fn execute<L: Ledger>(layers: &mut Layers, command: &Command, steps: &mut St
             name,
             kind,
             indexes,
-        } if Layers::is_built(kind, indexes) => made(layers.create(&name, kind, indexes)),
-        Command::Add { name, id, x, y, w } => updated(layers.add_point(&name, id, x, y, w, steps)),
+        } if is_built(kind, indexes) => made(layers.create(&name, kind, indexes)),
+        Command::Add { name, id, x, y, w } => {
+            updated(layers.add(&name, id, Shape::Point { x, y, w }, steps))
+        }
         Command::Drop { name, id } => updated(layers.remove(&name, id, steps)),
         Command::Count { name, rect } => counted(layers.count(&name, &rect, steps)),
         Command::Sum { name, rect } => summed(layers.sum(&name, &rect, steps)),
@@ -47,5 +52,15 @@ pub fn execute<L: Ledger>(layers: &mut Layers, command: &Command, steps: &mut St
         | Command::Stab { .. }
         | Command::StabCount { .. }
         | Command::Recent { .. } => refused(Refusal::Command),
+    }
+}
+
+/// Whether layers of a kind with these indexes are built: today points with `range` alone.
+fn is_built(kind: Kind, indexes: IndexSet) -> bool
+    ensures { result ≡ is_built_layer (kind_of kind) (index_set_of indexes) }
+{
+    match kind {
+        Kind::Points => indexes.range && !indexes.near && !indexes.top && !indexes.stab,
+        Kind::Segments => false,
     }
 }

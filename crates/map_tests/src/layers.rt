@@ -1,5 +1,8 @@
 //! Each call once, and each refusal that needs no full layer.
-ghost use Rattle.std.specs.Prelude.{◌≡◌, ◌<◌, ◌^◌, [], IfOk, OnOk};
+ghost use Rattle.std.specs.Prelude.{◌≡◌, ◌<◌, ◌^◌, true, [], IfOk, OnOk};
+ghost use Rattle.map_model.specs.Index.{fits};
+ghost use Rattle.map_shapes.specs.IndexSet.{index_set_of};
+ghost use Rattle.map_shapes.specs.Kind.{kind_of};
 ghost use Rattle.map_layers.specs.Layers.{no_layers};
 
 use map_layers::{AskFault, CreateFault, Layers, UpdateFault};
@@ -41,8 +44,8 @@ fn updates_seen<L: Ledger>(
     let mut layers = with_layer(alloc, name)?;
     Ok([
         layers.remove(other, 7, &mut steps),
-        layers.add_point(name, 7, 1, 2, 3, &mut steps),
-        layers.add_point(name, 7, 4, 5, 6, &mut steps),
+        layers.add(name, 7, Shape::Point { x: 1, y: 2, w: 3 }, &mut steps),
+        layers.add(name, 7, Shape::Point { x: 4, y: 5, w: 6 }, &mut steps),
         layers.remove(name, 8, &mut steps),
         layers.remove(name, 7, &mut steps),
     ])
@@ -57,9 +60,9 @@ fn three_points<L: Ledger>(
     requires { layers.old.updates ≡ 0 }
     ensures { OnOk result (layers.new.updates ≡ 3) }
 {
-    layers.add_point(name, 7, 1, 2, 3, steps)?;
-    layers.add_point(name, 3, 4, 2, 5, steps)?;
-    layers.add_point(name, 9, 9, 9, 1, steps)?;
+    layers.add(name, 7, Shape::Point { x: 1, y: 2, w: 3 }, steps)?;
+    layers.add(name, 3, Shape::Point { x: 4, y: 2, w: 5 }, steps)?;
+    layers.add(name, 9, Shape::Point { x: 9, y: 9, w: 1 }, steps)?;
     Ok(())
 }
 
@@ -114,6 +117,36 @@ fn readings_seen<L: Ledger>(
     ))
 }
 
+/// In a layer of a kind: an add of the other kind, one of its own, the shape that is there then, a count, and the drop.
+fn kind_seen<L: Ledger>(
+    alloc: Global,
+    name: &Name,
+    kind: Kind,
+    indexes: IndexSet,
+    blank: Blank,
+) -> Result<([Result<Spent, UpdateFault>; 3], Shape, bool), Fail>
+    requires fits { fits (kind_of kind) (index_set_of indexes) ≡ true }
+    requires name { blank.name ≡ L.name }
+    requires parts { blank.parts ≡ L.parts }
+    requires shares { blank.parts ≡ SHARES }
+{
+    let mut steps = Steps::<L>::new(blank);
+    let mut layers = Layers::new(alloc);
+    layers.create(name, kind, indexes)?;
+    let point = Shape::Point { x: 1, y: 2, w: 3 };
+    let segment = Shape::Segment { lo: 1, hi: 2, y: 3 };
+    let first = layers.add(name, 7, point, &mut steps);
+    let second = layers.add(name, 7, segment, &mut steps);
+    let shape = layers.get(name, 7)?;
+    let rect = Rect { x1: 0, y1: 0, x2: 9, y2: 9 };
+    let is_counted = layers.count(name, &rect, &mut steps).is_ok();
+    Ok((
+        [first, second, layers.remove(name, 7, &mut steps)],
+        shape,
+        is_counted,
+    ))
+}
+
 /// The layer is empty, so its level is at most 3, and then it has one point, with the same bounds. A part of one point takes three turns.
 #[test]
 fn updates_are_answered(rt: HostRuntime) -> Result<(), Fail> {
@@ -125,6 +158,58 @@ fn updates_are_answered(rt: HostRuntime) -> Result<(), Fail> {
     assert_eq!(rt; seen[2], Err(UpdateFault::Duplicate(7)));
     assert_eq!(rt; seen[3], Err(UpdateFault::Unknown(8)));
     assert_eq!(rt; seen[4], Ok(spent(0, 1)));
+    Ok(())
+}
+
+/// Each of three indexes takes its share of the first add and of its drop, and one of segments the same.
+#[test]
+fn kinds_are_kept_apart(rt: HostRuntime) -> Result<(), Fail> {
+    let name = Name::read(b"shops").expect(&rt, "a name");
+    let points = IndexSet {
+        range: true,
+        near: true,
+        top: true,
+        stab: false,
+    };
+    let (updates, shape, is_counted) =
+        kind_seen::<Brand>(rt.alloc(), &name, Kind::Points, points, blank())?;
+    let three = |turns, marks| Spent {
+        turns,
+        turn_bound: 1_440,
+        marks,
+        mark_bound: 180,
+    };
+    assert_eq!(rt;
+        updates,
+        [
+            Ok(three(9, 0)),
+            Err(UpdateFault::WrongKind),
+            Ok(three(0, 3))
+        ]
+    );
+    assert_eq!(rt; shape, Shape::Point { x: 1, y: 2, w: 3 });
+    assert!(rt; is_counted);
+    let segments = IndexSet {
+        range: false,
+        near: false,
+        top: false,
+        stab: true,
+    };
+    let (updates, shape, is_counted) =
+        kind_seen::<Brand>(rt.alloc(), &name, Kind::Segments, segments, blank())?;
+    assert_eq!(rt;
+        updates,
+        [
+            Err(UpdateFault::WrongKind),
+            Ok(spent(3, 0)),
+            Ok(spent(0, 1))
+        ]
+    );
+    assert_eq!(rt;
+        shape,
+        Shape::Segment { lo: 1, hi: 2, y: 3 }
+    );
+    assert!(rt; !is_counted);
     Ok(())
 }
 

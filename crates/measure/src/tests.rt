@@ -1,4 +1,6 @@
 //! Words of the command line, and what the program ends with.
+mod differences;
+
 use crate::words::{Job, Work, command, job_of};
 use crate::{DIFFERS, exit_code};
 use samples::{Failure, Spread};

@@ -24,9 +24,6 @@ pub use made::check_made_script;
 pub use marked::Marked;
 pub use script::measure_script;
 pub use stacked::Stacked;
-pub use text::measure_text;
+pub use text::{compare_reading, measure_text};
 pub use trial::{Plan, Trial};
 pub use tried::Tried;
-
-#[cfg(test)]
-mod tests;

@@ -2,53 +2,49 @@
 ghost use Rattle.std.specs.Prelude.{◌≡◌, ◌+◌, ◌<◌, ◌≤◌, ◌^◌, true, false, IfOk, IfSome, length, map};
 ghost use Rattle.query_laws.specs.StepLedger.{AtLapStart};
 ghost use Rattle.map_model.specs.State.{layer_named};
-ghost use Rattle.map_model.specs.Shape as model;
 ghost use Rattle.map_model.specs.Command as commands;
+ghost use Rattle.map_model.specs.Line.{IsShape};
+ghost use Rattle.map_shapes.specs.Shape.{model_shape};
 ghost use Rattle.map_layers.specs.Layer.{layer_of};
 ghost use Rattle.map_layers.specs.Layers.{AllDiffer, adds_of, names_of, place_named};
 ghost use Rattle.map_layers.specs.Costs.{IsCostIn, IsToldIn};
 ghost use Rattle.map_layers.specs.Replies.{updated, IsAnswered};
 
 use super::MOST_LAYERS;
-use crate::UpdateFault;
-use crate::point_layer::PointLayer;
+use crate::{Layer, UpdateFault};
 use arrayvec::ArrayVec;
-use map_shapes::{Name, Spent};
+use map_shapes::{Name, Shape, Spent};
 use query_laws::step_ledger::Steps;
 use std::alloc::Global;
 use std::sync::ledger::Ledger;
 
-/// Adds a point at the end of the layer of a name, where there is one.
+/// Adds an item at the end of the layer of a name, where there is one.
 pub(super) fn add_in<L: Ledger>(
-    layers: &mut ArrayVec<PointLayer, MOST_LAYERS, Global>,
+    layers: &mut ArrayVec<Layer, MOST_LAYERS, Global>,
     name: &Name,
     id: u64,
-    x: u32,
-    y: u32,
-    w: u32,
+    shape: Shape,
     steps: &mut Steps<L>,
 ) -> Result<Spent, UpdateFault>
-    requires x_in_range { x < 2 ^ 31 }
-    requires y_in_range { y < 2 ^ 31 }
-    requires w_in_range { w < 2 ^ 31 }
+    requires lawful { IsShape (model_shape shape) }
     requires differ { AllDiffer (names_of layers.old.items) }
     requires few { adds_of layers.old.items < 2 ^ 62 }
     requires lap { AtLapStart steps.old }
-    ensures answered { IsAnswered (map layer_of layers.old.items) (commands.Add name.now id (model.Point x y w)) (map layer_of layers.new.items) (updated result) }
+    ensures answered { IsAnswered (map layer_of layers.old.items) (commands.Add name.now id (model_shape shape)) (map layer_of layers.new.items) (updated result) }
     ensures differ { AllDiffer (names_of layers.new.items) }
     ensures adds { adds_of layers.new.items ≤ adds_of layers.old.items + 1 }
     ensures cost { IsCostIn (layer_named name.now (map layer_of layers.old.items)) result steps.old steps.new }
     ensures told { IfOk result (λ spent. IsToldIn (layer_named name.now (map layer_of layers.old.items)) true spent steps.old steps.new) }
 {
     match place_of(layers.as_slice(), name) {
-        Some(k) => layers.as_mut_slice()[k].add(id, x, y, w, steps),
+        Some(k) => layers.as_mut_slice()[k].add(id, shape, steps),
         None => Err(UpdateFault::NoLayer),
     }
 }
 
-/// Takes the point with an identifier out of the layer of a name, where there is one.
+/// Takes the item with an identifier out of the layer of a name, where there is one.
 pub(super) fn remove_in<L: Ledger>(
-    layers: &mut ArrayVec<PointLayer, MOST_LAYERS, Global>,
+    layers: &mut ArrayVec<Layer, MOST_LAYERS, Global>,
     name: &Name,
     id: u64,
     steps: &mut Steps<L>,
@@ -68,7 +64,7 @@ pub(super) fn remove_in<L: Ledger>(
 }
 
 /// Where the layer of a name is.
-fn place_of(layers: &[PointLayer], name: &Name) -> Option<usize>
+fn place_of(layers: &[Layer], name: &Name) -> Option<usize>
     ensures place { result ≡ place_named name.now layers.now }
     ensures within { IfSome result (λ k. k < length layers.now) }
 {

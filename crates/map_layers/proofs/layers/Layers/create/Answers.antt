@@ -10,9 +10,8 @@ use Rattle.map_model.specs.Reply.{Made}
 use Rattle.map_model.specs.Machine.{replied}
 use Rattle.map_shapes.specs.Kind.{kind_of}
 use Rattle.map_shapes.specs.IndexSet.{index_set_of}
-use Rattle.map_layers.specs.Layer.{layer_of}
+use Rattle.map_layers.specs.Layer.{name_in, adds_in, layer_of}
 use Rattle.map_layers.specs.Layers.{map_of, named, names_of, adds_of, AllDiffer}
-use Rattle.map_layers.proofs.Built.{is_built-range, layer_of-new}
 use Rattle.map_layers.proofs.Names.{is_taken-named, is_among-named, AllDiffer-push}
 use Rattle.map_layers.proofs.Answering.{step-make}
 use Rattle.map_layers.proofs.layers.Layers.create.Goals as goal
@@ -35,24 +34,22 @@ pub invariant_of-self : goal.invariant_of-self
 invariant_of-self c =
     let ls = c.self.inside.layers.items in
     let free : is_some (named c.args.name.now ls) ≡ false = search rules in
-    let unused : list_any (λ other. bytes_eq other c.new.result.name) (names_of ls) ≡ false =
-    ap (λ n. list_any (λ other. bytes_eq other n) (names_of ls)) c.new.ensures.name ∙ sym (is_among-named c.args.name.now ls) ∙ free in
-    let names : names_of (ls ++ c.new.result ∷ []) ≡ names_of ls ++ c.new.result.name ∷ [] = map-append (λ l. l.name) ls (c.new.result ∷ []) in (
+    let named_as : name_in c.new.result ≡ c.args.name.now = ap (λ m. m.name) c.new.ensures.made in
+    let unused : list_any (λ other. bytes_eq other (name_in c.new.result)) (names_of ls) ≡ false =
+    ap (λ n. list_any (λ other. bytes_eq other n) (names_of ls)) named_as ∙ sym (is_among-named c.args.name.now ls) ∙ free in
+    let names : names_of (ls ++ c.new.result ∷ []) ≡ names_of ls ++ name_in c.new.result ∷ [] = map-append name_in ls (c.new.result ∷ []) in (
       subst (λ xs. AllDiffer (names_of xs)) (sym c.push.ensures.items)
-          (subst AllDiffer (sym names) (AllDiffer-push (names_of ls) c.new.result.name c.self.invariant.0 unused)),
-      omega (arith, c.self.invariant.1, c.new.ensures.adds, ap adds_of c.push.ensures.items, sum_by_push (λ l. l.adds) ls c.new.result),
+          (subst AllDiffer (sym names) (AllDiffer-push (names_of ls) (name_in c.new.result) c.self.invariant.0 unused)),
+      omega (arith, c.self.invariant.1, c.new.ensures.adds, ap adds_of c.push.ensures.items, sum_by_push adds_in ls c.new.result),
     )
 
 pub returns-clause-answered : goal.returns-clause-answered
 returns-clause-answered c =
     let ls = c.args.self.now.layers in
-    let built = is_built-range (kind_of c.args.kind) (index_set_of c.args.indexes) c.requires.built in
     let free : is_some (named c.args.name.now ls) ≡ false = search rules in
     let held : c.len.result ≡ length ls = search rules in
     let items : c.push.new.self.items ≡ ls ++ c.new.result ∷ [] = search rules in
-    let made : layer_of c.new.result ≡ record { name = c.args.name.now; kind = kind_of c.args.kind; indexes = index_set_of c.args.indexes; items = [] } =
-    layer_of-new c.new.result c.args.name.now (kind_of c.args.kind) (index_set_of c.args.indexes) c.new.ensures.name c.new.ensures.entries c.new.ensures.range built in
     step-make (map_of c.args.self.now) c.args.name.now (kind_of c.args.kind) (index_set_of c.args.indexes) false false
     (is_taken-named c.args.name.now ls ∙ free)
     (lt-leb most_layers (length (map_of c.args.self.now)) (omega (arith, c.if-len-ge-MOST_LAYERS.false, held, length-map ls layer_of)))
-    ∙ ap (λ s. replied s Made) (sym (ap (map layer_of) items ∙ map-append layer_of ls (c.new.result ∷ []) ∙ ap (λ (l : Layer). map_of c.args.self.now ++ l ∷ []) made))
+    ∙ ap (λ s. replied s Made) (sym (ap (map layer_of) items ∙ map-append layer_of ls (c.new.result ∷ []) ∙ ap (λ (l : Layer). map_of c.args.self.now ++ l ∷ []) c.new.ensures.made))

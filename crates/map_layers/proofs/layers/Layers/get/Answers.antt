@@ -4,7 +4,7 @@ use Rattle.map_model.specs.State.{shape_of}
 use Rattle.map_model.specs.Refusal as refusals
 use Rattle.map_model.specs.Machine.{got, get_from, refused}
 use Rattle.map_shapes.specs.Shape.{model_shape}
-use Rattle.map_layers.specs.Layer.{items_of}
+use Rattle.map_layers.specs.Layer.{items_in}
 use Rattle.map_layers.specs.Layers.{map_of, named}
 use Rattle.map_layers.proofs.Names.{layer_named-Some, layer_named-None}
 use Rattle.map_layers.proofs.layers.Layers.get.Goals as goal
@@ -19,7 +19,7 @@ returns-in-Some-get c =
     let l = c.in-Some.layer.now in
     let found : named c.args.name.now c.args.self.now.layers ≡ Some l = search rules in
     let here = layer_named-Some c.args.name.now c.args.self.now.layers found in
-    let shape : shape_of c.args.id (items_of l.entries) ≡ Some (model_shape c.in-Some-get.shape) =
+    let shape : shape_of c.args.id (items_in l) ≡ Some (model_shape c.in-Some-get.shape) =
     sym c.get.ensures ∙ ap (option_map model_shape) c.in-Some-get.is in
     record { answered = ap (get_from (map_of c.args.self.now) c.args.id) here ∙ ap (got (map_of c.args.self.now) c.args.id) shape }
 
@@ -28,7 +28,7 @@ returns-in-None c =
     let l = c.in-Some.layer.now in
     let found : named c.args.name.now c.args.self.now.layers ≡ Some l = search rules in
     let here = layer_named-Some c.args.name.now c.args.self.now.layers found in
-    let none : shape_of c.args.id (items_of l.entries) ≡ None = sym c.get.ensures ∙ ap (option_map model_shape) c.in-None.is in
+    let none : shape_of c.args.id (items_in l) ≡ None = sym c.get.ensures ∙ ap (option_map model_shape) c.in-None.is in
     record {
       answered = ap (get_from (map_of c.args.self.now) c.args.id) here ∙ ap (got (map_of c.args.self.now) c.args.id) none
           ∙ ap (λ id. refused (map_of c.args.self.now) (refusals.Unknown id)) (omega arith);

@@ -2,7 +2,6 @@ use Rattle.std.proofs.Common.{rules, ◌≡◌, ◌∙◌, None, Some, ap, arith
 use Rattle.map_model.specs.Reply as replies
 use Rattle.map_model.specs.Machine.{replied, size_of}
 use Rattle.map_layers.specs.Layers.{map_of, named}
-use Rattle.map_layers.proofs.PointItems.{as_many_items}
 use Rattle.map_layers.proofs.Names.{layer_named-Some, layer_named-None}
 use Rattle.map_layers.proofs.layers.Layers.size.Goals as goal
 
@@ -13,7 +12,7 @@ returns-in-Some c =
     let here = layer_named-Some c.args.name.now c.args.self.now.layers found in
     record {
       answered = ap (size_of (map_of c.args.self.now)) here
-          ∙ ap (λ n. replied (map_of c.args.self.now) (replies.Sized n)) (omega (arith, as_many_items l.entries, c.len.ensures.count, c.len.ensures.few));
+          ∙ ap (λ n. replied (map_of c.args.self.now) (replies.Sized n)) (omega (arith, c.len.ensures.count, c.len.ensures.few));
     }
 
 pub returns-in-None : goal.returns-in-None

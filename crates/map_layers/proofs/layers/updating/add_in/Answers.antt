@@ -1,18 +1,25 @@
-use Rattle.std.proofs.Common.{rules, ◌≡◌, ◌<◌, true, None, Some, IfOk, length, map, get_or, set, ap, sym, subst, arith}
+use Rattle.std.proofs.Common.{rules, ◌≡◌, ◌≤◌, ◌<◌, Bool, true, false, None, Some, IfOk, length, map, get_or, set, ap, sym, subst, arith}
 use Rattle.std.specs.List.{refill}
+use Rattle.std.specs.Result.{is_ok}
+use Rattle.map_model.specs.Index.{one_if}
 use Rattle.std.proofs.lemmas.List.Sums.{get_or-le-sum_by}
 use Rattle.map_layers.specs.Costs.{IsCostIn, IsToldIn}
-use Rattle.map_layers.specs.Layer.{items_of, layer_of}
+use Rattle.map_shapes.specs.Shape.{model_shape}
+use Rattle.map_layers.specs.Layer.{adds_in, items_in, layer_of}
 use Rattle.map_layers.specs.Layers.{place_named, adds_of}
 use Rattle.map_layers.proofs.Answering.{IsAnswered-add, unfound-add}
 use Rattle.map_layers.proofs.Names.{named-none, layer_named-None, AllDiffer-at, adds-at, found-at, IsRenewed-at}
 use Rattle.map_layers.proofs.layers.updating.add_in.Goals as goal
 
+one_if-few : (b : Bool) → one_if b ≤ 1
+one_if-few true = omega arith
+one_if-few false = omega arith
+
 pub add-requires-clause-few : goal.add-requires-clause-few
 add-requires-clause-few g c =
     let ls = c.as_mut_slice.result.now in
     let within : c.in-Some.k < length ls = search rules in
-    omega (arith, get_or-le-sum_by (λ l. l.adds) ls c.in-Some.k c.index-as_mut_slice-k.result within, c.requires.few, ap adds_of c.as_mut_slice.ensures.value)
+    omega (arith, get_or-le-sum_by adds_in ls c.in-Some.k c.index-as_mut_slice-k.result within, c.requires.few, ap adds_of c.as_mut_slice.ensures.value)
 
 pub returns-in-Some : goal.returns-in-Some
 returns-in-Some g c =
@@ -25,12 +32,12 @@ returns-in-Some g c =
     let same = c.as_mut_slice.ensures.value in
     let found : place_named name ls ≡ Some k = search rules in
     let within : k < length ls = search rules in
-    let here = sym (found-at name k items ls d new same found within c.add.ensures.name) in
+    let here = sym (found-at name k items ls d new same found within c.add.ensures.same) in
     record {
-      answered = IsAnswered-add (map layer_of items) (map layer_of (refill (length items) items (set ls k new))) name c.args.id (layer_of (get_or ls k d)) (items_of new.entries)
-          (IsRenewed-at name k items ls d new same found within c.add.ensures.name c.requires.differ c.add.ensures.range) c.args.x c.args.y c.args.w c.add.result c.add.ensures.added;
-      differ = AllDiffer-at name k items ls d new same found within c.add.ensures.name c.requires.differ;
-      adds = omega (arith, adds-at name k items ls d new same found within c.add.ensures.name, c.add.ensures.adds);
+      answered = IsAnswered-add (map layer_of items) (map layer_of (refill (length items) items (set ls k new))) name c.args.id (layer_of (get_or ls k d)) (items_in new)
+          (IsRenewed-at name k items ls d new same found within c.add.ensures.same c.requires.differ) (model_shape c.args.shape) c.add.result c.add.ensures.added;
+      differ = AllDiffer-at name k items ls d new same found within c.add.ensures.same c.requires.differ;
+      adds = omega (arith, adds-at name k items ls d new same found within c.add.ensures.same, c.add.ensures.adds, one_if-few (is_ok c.add.result));
       cost = subst (λ o. IsCostIn o c.add.result c.args.steps.now c.add.new.steps) here c.add.ensures.cost;
       told = subst (λ o. IfOk c.add.result (λ spent. IsToldIn o true spent c.args.steps.now c.add.new.steps)) here c.add.ensures.told;
     }
@@ -38,5 +45,5 @@ returns-in-Some g c =
 pub returns-in-None-clause-answered : goal.returns-in-None-clause-answered
 returns-in-None-clause-answered g c =
     let none : place_named c.args.name.now c.args.layers.now.items ≡ None = search rules in
-    unfound-add (map layer_of c.args.layers.now.items) c.args.name.now c.args.id c.args.x c.args.y c.args.w
+    unfound-add (map layer_of c.args.layers.now.items) c.args.name.now c.args.id (model_shape c.args.shape)
     (layer_named-None c.args.name.now c.args.layers.now.items (named-none c.args.name.now 0 c.args.layers.now.items none))

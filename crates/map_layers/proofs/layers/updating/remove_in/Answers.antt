@@ -1,7 +1,7 @@
 use Rattle.std.proofs.Common.{rules, ◌≡◌, ◌<◌, false, None, Some, IfOk, length, map, get_or, set, sym, subst, arith}
 use Rattle.std.specs.List.{refill}
 use Rattle.map_layers.specs.Costs.{IsCostIn, IsToldIn}
-use Rattle.map_layers.specs.Layer.{items_of, layer_of}
+use Rattle.map_layers.specs.Layer.{items_in, layer_of}
 use Rattle.map_layers.specs.Layers.{place_named}
 use Rattle.map_layers.proofs.Answering.{IsAnswered-drop, unfound-drop}
 use Rattle.map_layers.proofs.Names.{named-none, layer_named-None, AllDiffer-at, adds-at, found-at, IsRenewed-at}
@@ -18,12 +18,12 @@ returns-in-Some g c =
     let same = c.as_mut_slice.ensures.value in
     let found : place_named name ls ≡ Some k = search rules in
     let within : k < length ls = search rules in
-    let here = sym (found-at name k items ls d new same found within c.remove.ensures.name) in
+    let here = sym (found-at name k items ls d new same found within c.remove.ensures.same) in
     record {
-      answered = IsAnswered-drop (map layer_of items) (map layer_of (refill (length items) items (set ls k new))) name c.args.id (layer_of (get_or ls k d)) (items_of new.entries)
-          (IsRenewed-at name k items ls d new same found within c.remove.ensures.name c.requires.differ c.remove.ensures.range) c.remove.result c.remove.ensures.removed;
-      differ = AllDiffer-at name k items ls d new same found within c.remove.ensures.name c.requires.differ;
-      adds = omega (arith, adds-at name k items ls d new same found within c.remove.ensures.name, c.remove.ensures.adds);
+      answered = IsAnswered-drop (map layer_of items) (map layer_of (refill (length items) items (set ls k new))) name c.args.id (layer_of (get_or ls k d)) (items_in new)
+          (IsRenewed-at name k items ls d new same found within c.remove.ensures.same c.requires.differ) c.remove.result c.remove.ensures.removed;
+      differ = AllDiffer-at name k items ls d new same found within c.remove.ensures.same c.requires.differ;
+      adds = omega (arith, adds-at name k items ls d new same found within c.remove.ensures.same, c.remove.ensures.adds);
       cost = subst (λ o. IsCostIn o c.remove.result c.args.steps.now c.remove.new.steps) here c.remove.ensures.cost;
       told = subst (λ o. IfOk c.remove.result (λ spent. IsToldIn o false spent c.args.steps.now c.remove.new.steps)) here c.remove.ensures.told;
     }

@@ -1,4 +1,4 @@
-use Rattle.trials.proofs.tests.differences_are_told.Given as goal
+use Rattle.measure.proofs.tests.differences.differences_are_told.Given as goal
 
 abbrev pub ghosts-try_parts : goal.ghosts-try_parts
 ghosts-try_parts g a = record { name = a.blank.name; parts = a.blank.parts }

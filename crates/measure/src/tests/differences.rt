@@ -1,13 +1,6 @@
 //! Trials that run, and such as differ.
 ghost use Rattle.std.specs.Prelude.{◌≡◌};
 
-use crate::marked::Marked;
-use crate::text::compare_reading;
-use crate::trial::{Plan, Trial};
-use crate::{
-    Bench, Layer, check_examples, check_kind, check_made_script, measure_layer, measure_script,
-    measure_text,
-};
 use map_shapes::CountIn;
 use query_laws::step_ledger::{SHARES, blank};
 use range_tree::{RangeBuilder, RangeRows};
@@ -16,6 +9,10 @@ use std::fs;
 use std::marker::Brand;
 use std::sync::ledger::{Blank, Ledger};
 use std::test::Fail;
+use trials::{
+    Bench, Layer, Marked, Plan, Trial, check_examples, check_kind, check_made_script,
+    compare_reading, measure_layer, measure_script, measure_text,
+};
 
 /// Tries all of range parts, and tells whether counts and updates of a part differ from those of a list without items.
 fn try_parts<L: Ledger>(rt: &HostRuntime, blank: Blank) -> Result<[bool; 2], Failure>

@@ -1,0 +1,152 @@
+-- What the calls of layers count.
+use Rattle.std.proofs.Common.{◌≡◌, ◌∙◌, ℕ, ◌+◌, ◌-◌, ◌*◌, ◌≤◌, Bool, true, false, not, ◌&&◌, Option, Some, None, Result, Ok, Err, if◌then◌else◌, refl, sym, ap, subst, arith}
+use Rattle.std.specs.Prelude.{⊤, IfOk}
+use Rattle.query_laws.specs.StepLedger.{Counts, lap_begun}
+use Rattle.map_kinds.specs.Touches.{touches_at}
+use Rattle.layer_kinds.specs.declared.faults.AskFault.{AskFault}
+use Rattle.layer_kinds.specs.declared.faults.AskFault.TheVariants as ask
+use Rattle.layer_kinds.specs.declared.faults.UpdateFault.{UpdateFault}
+use Rattle.layer_kinds.specs.declared.faults.UpdateFault.TheVariants.{NoLayer, WrongKind, Duplicate, Unknown, Full, NoMemory}
+use Rattle.layer_kinds.specs.Asking.{IsReading}
+use Rattle.layer_kinds.specs.Costs.{IsInBounds}
+use Rattle.map_model.specs.Answer.{Answer}
+use Rattle.map_model.specs.Command.{Command, name_of, takes_memory}
+use Rattle.map_model.specs.Cost.{Cost, Untold, bounds_at, mark_bound}
+use Rattle.map_model.specs.Index.{index_count}
+use Rattle.map_model.specs.Machine.{Outcome, step}
+use Rattle.map_model.specs.Reply.{Answered, is_refusal}
+use Rattle.map_model.specs.State.{Layer, State, layer_named, live_count}
+use Rattle.map_shapes.specs.declared.asked.Asked.{Asked}
+use Rattle.map_shapes.specs.declared.spent.Spent.{Spent}
+use Rattle.map_layers.specs.Costs.{IsCostIn, IsToldIn, IsAskingIn, IsTouchingIn}
+use Rattle.map_layers.specs.Replies.{updated, asked, IsAnswered}
+use Rattle.range_tree.specs.Costs.{question_touches}
+use Rattle.map_session.specs.Replies.{update_cost, question_cost}
+use Rattle.map_session.specs.Work.{Work, no_work, bounds_in, asking_in, work_in, work_of, IsTold, IsCounted}
+
+-- ---- commands that only memory refuses
+
+abbrev IsAccepted : State → Command → Type 0
+IsAccepted old command = is_refusal (step old command).reply ≡ false
+
+unrefused : (b c : Bool) → (b && not c) ≡ true → c ≡ false
+unrefused true true h = absurd cc
+unrefused true false h = refl
+unrefused false c h = absurd cc
+
+-- of a refusal for another cause than memory nothing is asked
+abbrev UnlessRefused : {T : Type 0} → Result T UpdateFault → Type 0 → Type 0
+UnlessRefused (Ok done) X = X
+UnlessRefused (Err NoLayer) X = ⊤
+UnlessRefused (Err WrongKind) X = ⊤
+UnlessRefused (Err (Duplicate id)) X = ⊤
+UnlessRefused (Err (Unknown id)) X = ⊤
+UnlessRefused (Err Full) X = ⊤
+UnlessRefused (Err NoMemory) X = X
+
+module _ (old new : State) (command : Command) where
+  update_accepted : (result : Result Spent UpdateFault) → IsAnswered old command new (updated result) → UnlessRefused result (IsAccepted old command)
+  update_accepted (Ok spent) is = ap (λ (o : Outcome). is_refusal o.reply) is
+  update_accepted (Err NoLayer) is = tt
+  update_accepted (Err WrongKind) is = tt
+  update_accepted (Err (Duplicate id)) is = tt
+  update_accepted (Err (Unknown id)) is = tt
+  update_accepted (Err Full) is = tt
+  update_accepted (Err NoMemory) is = unrefused (takes_memory command) (is_refusal (step old command).reply) is.0
+
+  accepted_work : (layer : Option Layer) → layer_named (name_of command) old ≡ layer → IsAccepted old command → work_of old command ≡ work_in command layer
+  accepted_work layer is accepted =
+      ap (λ b. if b then no_work else work_in command (layer_named (name_of command) old)) accepted ∙ ap (work_in command) is
+
+module _ (work : Work) {before after : Counts} where
+  -- nothing is counted
+  quiet : after ≡ lap_begun before → IsCounted work Untold before after
+  quiet same = record {
+    turns_kept = omega (arith, ap (λ s. s.turns) same);
+    marks_kept = omega (arith, ap (λ s. s.marks) same);
+    touches_kept = omega (arith, ap (λ s. s.touches) same);
+    few_turns = omega (arith, ap (λ s. s.turns) same);
+    few_marks = omega (arith, ap (λ s. s.marks) same);
+    few_touches = omega (arith, ap (λ s. s.touches) same);
+    told = tt;
+  }
+
+times : (a b n : ℕ) → a ≤ b → a * n ≤ b * n
+times a b n less = grind (arith, less)
+
+module _ {before after : Counts} where
+  -- an update within its bounds
+  within : (layer : Layer) (cost : Cost) → IsInBounds (index_count layer.indexes) (live_count layer) (lap_begun before) after → IsTold cost before after
+      → IsCounted (bounds_in (Some layer)) cost before after
+  within layer cost h told =
+      let touches = touches_at (bounds_at (live_count layer)).level in
+      let marked = times (after.marks - before.marks) (mark_bound layer) touches h.few_marks in
+      record {
+        turns_kept = omega (arith, h.spent.turns_spent);
+        marks_kept = omega (arith, h.spent.marks_spent);
+        touches_kept = h.spent.touches_kept;
+        few_turns = omega (arith, h.few_turns);
+        few_marks = omega (arith, h.few_marks);
+        few_touches = omega (arith, h.spent.touches_bound, h.few_turns, marked);
+        told = told;
+      }
+
+  -- a question that touches so much
+  reading : (layer : Layer) (cost : Cost) → after.touches ≤ before.touches + (asking_in (Some layer)).touches → IsReading (lap_begun before) after
+      → IsTold cost before after → IsCounted (asking_in (Some layer)) cost before after
+  reading layer cost few h told = record {
+    turns_kept = omega (arith, h.turns);
+    marks_kept = omega (arith, h.marks);
+    touches_kept = h.touches;
+    few_turns = omega (arith, h.turns);
+    few_marks = omega (arith, h.marks);
+    few_touches = few;
+    told = told;
+  }
+
+-- ---- the calls
+
+module _ (old new : State) (command : Command) {before after : Counts} where
+  module _ (takes : (layer : Option Layer) → work_in command layer ≡ bounds_in layer) (adding : Bool) where
+    update_by : (o : Option Layer) → layer_named (name_of command) old ≡ o → (result : Result Spent UpdateFault) → UnlessRefused result (IsAccepted old command) → IsCostIn o result (lap_begun before) after
+        → IfOk result (λ spent. IsToldIn o adding spent (lap_begun before) after) → IsCounted (work_of old command) (update_cost result) before after
+    update_by None is (Ok spent) accepted cost told = absurd told
+    update_by None is (Err fault) accepted cost told = quiet (work_of old command) cost
+    update_by (Some layer) is (Ok spent) accepted cost told =
+        subst (λ w. IsCounted w (update_cost {F = UpdateFault} (Ok spent)) before after) (sym (accepted_work old new command (Some layer) is accepted ∙ takes (Some layer)))
+        (within layer (update_cost {F = UpdateFault} (Ok spent)) cost (told.turns, told.marks))
+    update_by (Some layer) is (Err NoLayer) accepted cost told = quiet (work_of old command) cost
+    update_by (Some layer) is (Err WrongKind) accepted cost told = quiet (work_of old command) cost
+    update_by (Some layer) is (Err (Duplicate id)) accepted cost told = quiet (work_of old command) cost
+    update_by (Some layer) is (Err (Unknown id)) accepted cost told = quiet (work_of old command) cost
+    update_by (Some layer) is (Err Full) accepted cost told = quiet (work_of old command) cost
+    update_by (Some layer) is (Err NoMemory) accepted cost told =
+        subst (λ w. IsCounted w Untold before after) (sym (accepted_work old new command (Some layer) is accepted ∙ takes (Some layer))) (within layer Untold cost tt)
+
+    pub update_counted : (result : Result Spent UpdateFault) → IsAnswered old command new (updated result) → IsCostIn (layer_named (name_of command) old) result (lap_begun before) after
+        → IfOk result (λ spent. IsToldIn (layer_named (name_of command) old) adding spent (lap_begun before) after) → IsCounted (work_of old command) (update_cost result) before after
+    update_counted result is cost told = update_by (layer_named (name_of command) old) refl result (update_accepted old new command result is) cost told
+
+  module _ {T : Type 0} (takes : (layer : Option Layer) → work_in command layer ≡ asking_in layer) (most : T × Asked → ℕ → ℕ → ℕ) (answer : T × Asked → Answer) where
+    question_by : (o : Option Layer) → layer_named (name_of command) old ≡ o → (result : Result (T × Asked) AskFault) → IsAnswered old command old (asked (λ given. Answered (answer given)) result)
+        → IsTouchingIn o question_touches result (lap_begun before) after → IsReading (lap_begun before) after
+        → IfOk result (λ given. IsAskingIn o (most given) given.1 (lap_begun before) after) → IsCounted (work_of old command) (question_cost result) before after
+    question_by None is (Ok given) answered touching reads told = absurd told
+    question_by None is (Err fault) answered touching reads told = quiet (work_of old command) touching
+    question_by (Some layer) is (Ok given) answered touching reads told =
+        subst (λ w. IsCounted w (question_cost {F = AskFault} (Ok given)) before after)
+        (sym (accepted_work old new command (Some layer) is (ap (λ (o : Outcome). is_refusal o.reply) answered) ∙ takes (Some layer)))
+        (reading layer (question_cost {F = AskFault} (Ok given)) touching reads (told.turns, told.marks, told.touches))
+    question_by (Some layer) is (Err ask.NoLayer) answered touching reads told = quiet (work_of old command) touching
+    question_by (Some layer) is (Err ask.WrongKind) answered touching reads told = quiet (work_of old command) touching
+    question_by (Some layer) is (Err ask.NoIndex) answered touching reads told = quiet (work_of old command) touching
+    question_by (Some layer) is (Err (ask.Unknown id)) answered touching reads told = quiet (work_of old command) touching
+    question_by (Some layer) is (Err ask.NoMemory) answered touching reads told =
+        subst (λ w. IsCounted w Untold before after)
+        (sym (accepted_work old new command (Some layer) is (unrefused (takes_memory command) (is_refusal (step old command).reply) answered.0) ∙ takes (Some layer)))
+        (reading layer Untold touching reads tt)
+
+    pub question_counted : (result : Result (T × Asked) AskFault) → IsAnswered old command old (asked (λ given. Answered (answer given)) result)
+        → IsTouchingIn (layer_named (name_of command) old) question_touches result (lap_begun before) after → IsReading (lap_begun before) after
+        → IfOk result (λ given. IsAskingIn (layer_named (name_of command) old) (most given) given.1 (lap_begun before) after) → IsCounted (work_of old command) (question_cost result) before after
+    question_counted result answered touching reads told = question_by (layer_named (name_of command) old) refl result answered touching reads told
