@@ -14,6 +14,3 @@ pub use bounds::Bounds;
 pub use faults::{AskFault, UpdateFault};
 pub use indexes::{First, Has, Indexes, LayerIndex, Next};
 pub use kind_layer::{KindLayer, ask_layer};
-
-#[cfg(test)]
-mod tests;

@@ -1,5 +1,5 @@
 use Rattle.std.proofs.Common.{sym, subst}
-use Rattle.layer_kinds.proofs.tests.turns_and_marks.Goals as goal
+use Rattle.map_tests.proofs.indexes.turns_and_marks.Goals as goal
 
 pub insert-requires-clause-last : goal.insert-requires-clause-last
 insert-requires-clause-last g c = (

@@ -1,9 +1,9 @@
 //! An add and a drop over one to three indexes of the flat kind.
 ghost use Rattle.std.specs.Prelude.{◌≡◌, []};
 
-use crate::{Indexes, LayerIndex};
 use builder_trait::flat::FlatBuilder;
 use id_chain::Chain;
+use layer_kinds::{Indexes, LayerIndex};
 use map_shapes::Point;
 use query_laws::NoMemory;
 use query_laws::step_ledger::{SHARES, Steps, blank};
