@@ -135,7 +135,7 @@ times_more n a b less = grind (arith, less)
 
 module _ {Item : Type 0} (stamp : Item → ℕ) (hits : Item → Bool) (touches : Contents Item → ℕ) (of_part : ℕ → PartTouches)
     (one : (g : ℕ) (p : Contents Item) → g < 64 → length p.items ≤ 2 ^ g
-        → touches p ≤ (of_part g).part + (of_part g).hit * length (filter hits (live_of p)) + (of_part g).item * length p.items)
+    → touches p ≤ (of_part g).part + (of_part g).hit * length (filter hits (live_of p)) + (of_part g).item * length p.items)
     (few_of : (g : ℕ) → g ≤ 17 → kinds.AreFew (of_part g))
     (i : Indexed (Contents Item) Item) (es : List (Entry Item)) {stamps : ℕ} (h : IsIndexOf (λ part. part) stamp i es stamps) (few : length es ≤ 2 ^ 16)
     (parts : AreFew (λ part. part) (2 * live_in (λ part. part) i.main + 9) i.main.levels) where
@@ -223,7 +223,7 @@ asked_every (Some i) parts there few all = (all, few.on_level)
 
 module _ {Item : Type 0} (stamp : Item → ℕ) (hits : Item → Bool) (touches : Contents Item → ℕ) (of_part : ℕ → PartTouches)
     (one : (g : ℕ) (p : Contents Item) → g < 64 → length p.items ≤ 2 ^ g
-        → touches p ≤ (of_part g).part + (of_part g).hit * length (filter hits (live_of p)) + (of_part g).item * length p.items)
+    → touches p ≤ (of_part g).part + (of_part g).hit * length (filter hits (live_of p)) + (of_part g).item * length p.items)
     (few_of : (g : ℕ) → g ≤ 17 → kinds.AreFew (of_part g))
     (es : List (Entry Item)) (stamps : ℕ) (few : length es ≤ 2 ^ 16) where
   -- asked or not, so many touches at most
@@ -248,7 +248,7 @@ module _ {Item : Type 0} (stamp : Item → ℕ) (hits : Item → Bool) (touches 
       → asked.part_bound ≡ (bounds_at (length es)).parts
       → AtLapStart old → asked.touches ≡ lap_of new.lap_start.touches new.touches
       → asked.parts * (of_part (greatest_level (length es))).part + (of_part (greatest_level (length es))).hit * length (filter hits (map (λ e. e.item) es))
-        + (of_part (greatest_level (length es))).item * (2 * length es + 9) ≤ most
+      + (of_part (greatest_level (length es))).item * (2 * length es + 9) ≤ most
       → IsAsking (length es) most asked old new
   asked_told None asked most of there parts spent all bound lap told within = absurd cc
   asked_told {old} {new} (Some i) asked most of there parts spent all bound lap told within =

@@ -9,10 +9,9 @@ ghost use Rattle.layer_kinds.specs.Shares.{Rates, AreLow, count_of, IsShared, pr
 ghost use Rattle.layer_kinds.specs.SharesLaws.{AreLow-one, AreLow-both};
 ghost use Rattle.layer_kinds.specs.Indexing.{rates_of, IsOf, IsReady};
 
-pub use has::{First, Has, Next};
-
 use builder_trait::{Builder, Part};
 use global_rebuild::Index;
+pub use has::{First, Has, Next};
 use id_chain::{Chain, Handle};
 use map_kinds::MapKind;
 use map_shapes::Shaped;

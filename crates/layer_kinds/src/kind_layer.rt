@@ -13,10 +13,9 @@ ghost use Rattle.layer_kinds.specs.Shares.{count_of};
 ghost use Rattle.layer_kinds.specs.Layered.{items_of, IsAdd, IsRemoval};
 ghost use Rattle.layer_kinds.specs.Costs.{turns_of, marks_of, IsCost, IsTold};
 
-pub use asking::ask_layer;
-
 use crate::bounds::{Bounds, spent};
 use crate::{Indexes, UpdateFault};
+pub use asking::ask_layer;
 use id_directory::Directory;
 use map_shapes::{Name, Shape, Shaped, Spent};
 use query_laws::Named;

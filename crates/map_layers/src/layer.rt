@@ -55,7 +55,10 @@ impl Layer {
     {
         match kind {
             Kind::Points => {
-                let last = (Flat::new(alloc, indexes.near), Flat::new(alloc, indexes.top));
+                let last = (
+                    Flat::new(alloc, indexes.near),
+                    Flat::new(alloc, indexes.top),
+                );
                 let all = (LayerIndex::new(alloc, indexes.range), last);
                 Layer::Points(KindLayer::new(alloc, name, all))
             }
@@ -115,10 +118,28 @@ impl Layer {
     {
         match (self, shape) {
             (Layer::Points(points), Shape::Point { x, y, w }) => {
-                points.add(Point { id, x, y, w, stamp: 0 }, steps)
+                points.add(
+                    Point {
+                        id,
+                        x,
+                        y,
+                        w,
+                        stamp: 0,
+                    },
+                    steps,
+                )
             }
             (Layer::Segments(segments), Shape::Segment { lo, hi, y }) => {
-                segments.add(Segment { id, lo, hi, y, stamp: 0 }, steps)
+                segments.add(
+                    Segment {
+                        id,
+                        lo,
+                        hi,
+                        y,
+                        stamp: 0,
+                    },
+                    steps,
+                )
             }
             _ => Err(UpdateFault::WrongKind),
         }

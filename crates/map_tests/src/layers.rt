@@ -138,7 +138,12 @@ fn kind_seen<L: Ledger>(
     let first = layers.add(name, 7, point, &mut steps);
     let second = layers.add(name, 7, segment, &mut steps);
     let shape = layers.get(name, 7)?;
-    let rect = Rect { x1: 0, y1: 0, x2: 9, y2: 9 };
+    let rect = Rect {
+        x1: 0,
+        y1: 0,
+        x2: 9,
+        y2: 9,
+    };
     let is_counted = layers.count(name, &rect, &mut steps).is_ok();
     Ok((
         [first, second, layers.remove(name, 7, &mut steps)],
@@ -171,8 +176,13 @@ fn kinds_are_kept_apart(rt: HostRuntime) -> Result<(), Fail> {
         top: true,
         stab: false,
     };
-    let (updates, shape, is_counted) =
-        kind_seen::<Brand>(rt.alloc(), &name, Kind::Points, points, blank())?;
+    let (updates, shape, is_counted) = kind_seen::<Brand>(
+        rt.alloc(),
+        &name,
+        Kind::Points,
+        points,
+        blank(),
+    )?;
     let three = |turns, marks| Spent {
         turns,
         turn_bound: 1_440,
@@ -195,8 +205,13 @@ fn kinds_are_kept_apart(rt: HostRuntime) -> Result<(), Fail> {
         top: false,
         stab: true,
     };
-    let (updates, shape, is_counted) =
-        kind_seen::<Brand>(rt.alloc(), &name, Kind::Segments, segments, blank())?;
+    let (updates, shape, is_counted) = kind_seen::<Brand>(
+        rt.alloc(),
+        &name,
+        Kind::Segments,
+        segments,
+        blank(),
+    )?;
     assert_eq!(rt;
         updates,
         [
@@ -205,10 +220,7 @@ fn kinds_are_kept_apart(rt: HostRuntime) -> Result<(), Fail> {
             Ok(spent(0, 1))
         ]
     );
-    assert_eq!(rt;
-        shape,
-        Shape::Segment { lo: 1, hi: 2, y: 3 }
-    );
+    assert_eq!(rt; shape, Shape::Segment { lo: 1, hi: 2, y: 3 });
     assert!(rt; !is_counted);
     Ok(())
 }

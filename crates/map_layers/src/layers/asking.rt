@@ -109,7 +109,9 @@ impl Layers {
         steps.start_lap();
         match layer_of(self.layers.as_slice(), name) {
             Some(Layer::Points(points)) => {
-                ask_layer::<RangeRows, First, PointIndexes, Q, L>(points, self.alloc, question, steps)
+                ask_layer::<RangeRows, First, PointIndexes, Q, L>(
+                    points, self.alloc, question, steps,
+                )
             }
             Some(Layer::Segments(_)) => Err(AskFault::WrongKind),
             None => Err(AskFault::NoLayer),

@@ -18,8 +18,7 @@ returns-then-is_some-clause-added g c =
     let item_of = g.X.Item.Shaped.item_of in
     let laws = g.met.X.Item.Shaped.same_id in
     let es = c.args.self.now.entries in
-    let found : is_some (handle_of id (id c.args.item) es) ≡ true = search rules in
-    (
+    let found : is_some (handle_of id (id c.args.item) es) ≡ true = search rules in (
       ap (λ k. is_live k (items_of item_of es)) (laws c.args.item) ∙ live_found id item_of laws (id c.args.item) es ∙ found,
       c.id-id.ensures ∙ sym (laws c.args.item),
       refl,
@@ -32,8 +31,7 @@ returns-then-len-ge-MOST_ITEMS-clause-added g c =
     let laws = g.met.X.Item.Shaped.same_id in
     let es = c.args.self.now.entries in
     let none : is_some (handle_of id (id c.args.item) es) ≡ false = search rules in
-    let long : c.len.result ≡ length es = search rules in
-    (
+    let long : c.len.result ≡ length es = search rules in (
       ap (λ k. is_live k (items_of item_of es)) (laws c.args.item) ∙ live_found id item_of laws (id c.args.item) es ∙ none,
       omega (arith, c.if-len-ge-MOST_ITEMS.true, long, as_many_items item_of es),
       refl,

@@ -87,7 +87,7 @@ returns-clause-cost g c =
     let most = subst (λ k. asked.parts * rate.part + rate.hit * hit_ones + rate.item * (2 * k + 9) ≤ g.Q.MapQuestion.most_touches level asked.parts k (g.Q.Question.value q points))
     many (g.met.Q.MapQuestion.all_touches q level asked.parts points) in
     subst (λ k. IsAsking (length k.entries) (g.Q.MapQuestion.most_touches (greatest_level (length k.entries)) asked.parts (length k.entries) c.in_ok-given.given.answer)
-        asked c.args.steps.now c.ask.new.steps) c.layer.view_is
+    asked c.args.steps.now c.ask.new.steps) c.layer.view_is
     (asked_told g.R.Item.Item.stamp (g.Q.MapQuestion.hits q) (g.R.AnsweringRows.ask_touches q) g.Q.MapQuestion.touches (g.met.Q.MapQuestion.part_touches q) g.Q.MapQuestion.few
     es l.directory.adds c.layer.invariant.2 c.index.result.now asked (g.Q.MapQuestion.most_touches level asked.parts n c.in_ok-given.given.answer) here c.in_ok-given.ensures.refused
     c.in_ok-given.ensures.few c.in_ok-given.ensures.cost

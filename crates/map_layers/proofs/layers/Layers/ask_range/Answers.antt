@@ -43,9 +43,9 @@ returns-in-Some-Points-clause-cost g c =
     let all : length l.entries ≡ live_count layer = sym (as_many_items item_of l.entries) in
     IfOk-weaker c.ask_layer.result _ _
     (λ given asking. subst (λ s. IsAskingIn (layer_named name (map_of c.args.self.now)) (λ level n. g.Q.MapQuestion.most_touches level given.1.parts n given.0.answer) given.1 s c.ask_layer.new.steps)
-        c.start_lap.ensures
-        (IsAskingIn-of (layer_named name (map_of c.args.self.now)) layer here (length l.entries) all (λ level n. g.Q.MapQuestion.most_touches level given.1.parts n given.0.answer)
-        given.1 asking c.ask_layer.ensures.reads))
+    c.start_lap.ensures
+    (IsAskingIn-of (layer_named name (map_of c.args.self.now)) layer here (length l.entries) all (λ level n. g.Q.MapQuestion.most_touches level given.1.parts n given.0.answer)
+    given.1 asking c.ask_layer.ensures.reads))
     c.ask_layer.ensures.cost
 
 pub returns-in-Some-Points-clause-touches : goal.returns-in-Some-Points-clause-touches
