@@ -1,6 +1,5 @@
 // Taking in a script.
-ghost use Rattle.std.specs.Prelude.{◌≡◌, ◌≢◌, ◌<◌, ◌≤◌, ℕ, List, [], ◌++◌, length, IfOk, OnOk, OnErr, MatchResult, Ok, Some, ◌-◌, min, max};
-ghost use Rattle.std.specs.Io.KnownBytes.{Consumes};
+ghost use Rattle.std.specs.Prelude.{◌≡◌, ◌≢◌, ◌<◌, ◌≤◌, [], length, IfOk, OnErr, MatchResult, Ok, Some, ◌-◌, min, max};
 ghost use Rattle.map_io.specs.Faults.{Rose};
 ghost use Rattle.live_map.specs.Run.{script_limit, TakenIn, TakesWithin};
 ghost use Rattle.live_map.specs.Intake.{Takes};

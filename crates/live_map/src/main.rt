@@ -4,11 +4,11 @@
 mod intake;
 mod run;
 
-ghost use Rattle.std.specs.Prelude.{◌≡◌, ◌≢◌, drop, false};
+ghost use Rattle.std.specs.Prelude.{◌≡◌, ◌≢◌, IfOk, IfErr, OnErr, drop, false};
 ghost use Rattle.std.specs.Process.{exit_status};
 ghost use Rattle.std.specs.IoError.{error_kind};
 ghost use Rattle.query_laws.specs.StepLedger.{Counts, nothing_counted};
-ghost use Rattle.map_session.specs.Session.{new_session};
+ghost use Rattle.map_session.specs.Session.{SessionState, new_session};
 ghost use Rattle.map_session.specs.Answering.{moment};
 ghost use Rattle.live_map.specs.Run.{code_of, HasRun};
 
@@ -30,15 +30,38 @@ const NO_MEMORY: u8 = 6;
 const NO_ARGUMENTS: u8 = 7;
 
 fn main(rt: HostRuntime) -> ExitCode {
-    let arguments = match arguments(&rt) {
-        Ok(arguments) => arguments,
-        Err(error) => return exit_code_without_arguments(&error),
-    };
     let mut source = StdSource::new(rt.stdin());
     let mut sink = StdSink::new(rt.stdout());
-    let words = words_of(&arguments);
-    let ended = run_once::<_, _, Brand>(rt.alloc(), words, &mut source, &mut sink, blank());
-    exit_code(ended.status)
+    end::<_, _, Brand>(rt.alloc(), arguments(&rt), &mut source, &mut sink, blank())
+}
+
+/// What the program ends with: a run by the words after its name, or a cause why the arguments can't be had, where nothing is read or
+/// written.
+fn end<S: Source, K: Sink, L: Ledger>(
+    alloc: Global,
+    arguments: io::Result<Vec<String>>,
+    source: &mut S,
+    sink: &mut K,
+    blank: Blank,
+) -> ExitCode
+    requires name { blank.name ≡ L.name }
+    requires parts { blank.parts ≡ L.parts }
+    requires shares { blank.parts ≡ SHARES }
+    ensures run { IfOk arguments (λ all. (status : Status) × (session : SessionState) × (counts : Counts) × (exit_status result ≡ code_of status)
+        × HasRun (drop 1 all.items) (S.rest source.old) (S.rest source.new) (moment (new_session false) (K.told sink.old) nothing_counted)
+        status (moment session (K.told sink.new) counts)) }
+    ensures no_memory { IfErr arguments (λ error. error_kind error ≡ ErrorKind.OutOfMemory → exit_status result ≡ 6) }
+    ensures no_text { IfErr arguments (λ error. error_kind error ≢ ErrorKind.OutOfMemory → exit_status result ≡ 7) }
+    ensures nothing { OnErr arguments ((S.rest source.new ≡ S.rest source.old) × (K.told sink.new ≡ K.told sink.old)) }
+{
+    match arguments {
+        Ok(arguments) => {
+            let words = words_of(&arguments);
+            let ended = run_once::<S, K, L>(alloc, words, source, sink, blank);
+            exit_code(ended.status)
+        }
+        Err(error) => exit_code_without_arguments(&error),
+    }
 }
 
 /// A run whose steps are counted from nothing.
@@ -84,8 +107,8 @@ fn exit_code(status: Status) -> ExitCode
 
 /// What the program ends with where the arguments can't be had.
 fn exit_code_without_arguments(error: &io::Error) -> ExitCode
-    ensures no_memory { error_kind error.now ≡ ErrorKind.OutOfMemory → exit_status result ≡ NO_MEMORY }
-    ensures refused { error_kind error.now ≢ ErrorKind.OutOfMemory → exit_status result ≡ NO_ARGUMENTS }
+    ensures no_memory { error_kind error.now ≡ ErrorKind.OutOfMemory → exit_status result ≡ 6 }
+    ensures refused { error_kind error.now ≢ ErrorKind.OutOfMemory → exit_status result ≡ 7 }
 {
     match error.kind() {
         ErrorKind::OutOfMemory => ExitCode::from(NO_MEMORY),

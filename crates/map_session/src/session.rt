@@ -49,11 +49,11 @@ impl Session {
     ghost use Rattle.map_model.specs.Line.{IsCommand};
     ghost use Rattle.map_model.specs.Grammar.{parse};
     ghost use Rattle.map_model.specs.Reply.{is_refusal};
-    ghost use Rattle.map_model.specs.Output.{Given, AnswersTo, written_for, refusal_count};
+    ghost use Rattle.map_model.specs.Output.{Given, AnswersTo, written_for};
     ghost use Rattle.script_lang.specs.Command.{command_of};
     ghost use Rattle.answer_text.specs.Reply.{reply_of, cost_of};
     ghost use Rattle.answer_text.specs.Pieces.{DeliversLines, CutOffInPieces};
-    ghost use Rattle.map_session.specs.Built.{built, as_built};
+    ghost use Rattle.map_session.specs.Built.{built};
     ghost use Rattle.map_session.specs.Work.{work_said, is_update_said, IsCounted};
     ghost use Rattle.map_session.specs.Session.{new_session, map_in, given_by, Executes, ExecutesLine, done_of};
 

@@ -1,9 +1,8 @@
 //! Each call once, and each refusal that needs no full layer.
-ghost use Rattle.std.specs.Prelude.{◌≡◌, ◌<◌, ◌^◌, true, [], IfOk, OnOk};
+ghost use Rattle.std.specs.Prelude.{◌≡◌, ◌<◌, true, IfOk, OnOk};
 ghost use Rattle.map_model.specs.Index.{fits};
 ghost use Rattle.map_shapes.specs.IndexSet.{index_set_of};
 ghost use Rattle.map_shapes.specs.Kind.{kind_of};
-ghost use Rattle.map_layers.specs.Layers.{no_layers};
 
 use map_layers::{AskFault, CreateFault, Layers, UpdateFault};
 use map_shapes::{Asked, IndexSet, Kind, Name, Rect, Shape, Spent};

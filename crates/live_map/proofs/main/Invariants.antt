@@ -1,4 +1,4 @@
 use Rattle.live_map.proofs.main.Given as goal
 
-abbrev pub ghosts-run_once : goal.ghosts-run_once
-ghosts-run_once a = record { name = a.blank.name; parts = a.blank.parts }
+abbrev pub ghosts-end : goal.ghosts-end
+ghosts-end a = record { name = a.blank.name; parts = a.blank.parts }
