@@ -92,21 +92,27 @@ fn over_three(alloc: Global, name: Name, there: bool) -> KindLayer<Three>
     KindLayer::new(alloc, name, (Flat::new(alloc, there), rest))
 }
 
-/// The weight of a point, or 0 where none has the identifier.
-fn weight<X: Indexes<Item = Point>>(layer: &KindLayer<X>, id: u64) -> u32 {
-    match layer.get(id) {
-        Some(Shape::Point { w, .. }) => w,
-        _ => 0,
-    }
-}
+/// A move: the identifier, the weight of the point that is added, or 0 for a drop; whether it is refused; and how many points there are
+/// then, and the weight under the identifier, 0 where none is there.
+const MOVES: [(u64, u16, bool, usize, u32); 8] = [
+    (0, 0, true, 0, 0),
+    (0, 2, false, 1, 2),
+    (1, 3, false, 2, 3),
+    (0, 4, true, 2, 2),
+    (0, 0, false, 1, 0),
+    (0, 5, false, 2, 5),
+    (1, 0, false, 1, 0),
+    (1, 0, true, 1, 0),
+];
 
-/// Adds a point of a weight, or drops one where none is given. Why that was refused, how many points there are then, and the weights at 0 to 3.
-fn updated<X: Indexes<Item = Point>, L: Ledger>(
-    layer: &mut KindLayer<X>,
+/// Adds a point of a weight, or drops one where the weight is 0. Whether that was refused, how many points there are then, and the weight
+/// under the identifier.
+fn moved<L: Ledger>(
+    layer: &mut KindLayer<Three>,
     id: u64,
-    add: Option<u16>,
+    w: u16,
     blank: Blank,
-) -> Result<(Option<UpdateFault>, usize, [u32; 4]), UpdateFault>
+) -> Result<(bool, usize, u32), NoMemory>
     requires few { layer.old.adds < 2 ^ 62 }
     requires name { blank.name ≡ L.name }
     requires parts { blank.parts ≡ L.parts }
@@ -114,64 +120,38 @@ fn updated<X: Indexes<Item = Point>, L: Ledger>(
     ensures adds { layer.new.adds ≤ layer.old.adds + 1 }
 {
     let mut steps = Steps::<L>::new(blank);
-    let done = match add {
-        Some(w) => {
-            let (w, stamp) = (u32::from(w), 0);
-            layer.add(
-                Point {
-                    id,
-                    x: 1,
-                    y: 2,
-                    w,
-                    stamp,
-                },
-                &mut steps,
-            )
-        }
-        None => layer.remove(id, &mut steps),
+    let done = if w == 0 {
+        layer.remove(id, &mut steps)
+    } else {
+        let point = Point {
+            id,
+            x: 1,
+            y: 2,
+            w: u32::from(w),
+            stamp: 0,
+        };
+        layer.add(point, &mut steps)
     };
-    let fault = match done {
-        Ok(_) => None,
-        Err(UpdateFault::NoMemory) => return Err(UpdateFault::NoMemory),
-        Err(fault) => Some(fault),
+    if done == Err(UpdateFault::NoMemory) {
+        return Err(NoMemory);
+    }
+    let weight = match layer.get(id) {
+        Some(Shape::Point { w, .. }) => w,
+        _ => 0,
     };
-    let weights = [
-        weight(layer, 0),
-        weight(layer, 1),
-        weight(layer, 2),
-        weight(layer, 3),
-    ];
-    Ok((fault, layer.len(), weights))
+    Ok((done.is_err(), layer.len(), weight))
 }
 
-/// Each add has a weight of its own.
 #[test]
-fn updates_are_of_the_live_points(rt: HostRuntime) -> Result<(), Fail> {
+fn a_layer_has_its_live_points(rt: HostRuntime) -> Result<(), Fail> {
     let name = Name::read(b"shops").expect(&rt, "a name");
     for there in [true, false] {
         let mut layer = over_three(rt.alloc(), name, there);
-        for case in [
-            (0, None, Some(UpdateFault::Unknown(0)), 0, [0, 0, 0, 0]),
-            (0, Some(2), None, 1, [2, 0, 0, 0]),
-            (1, Some(3), None, 2, [2, 3, 0, 0]),
-            (0, Some(4), Some(UpdateFault::Duplicate(0)), 2, [2, 3, 0, 0]),
-            (2, Some(5), None, 3, [2, 3, 5, 0]),
-            (0, None, None, 2, [0, 3, 5, 0]),
-            (0, None, Some(UpdateFault::Unknown(0)), 2, [0, 3, 5, 0]),
-            (3, Some(8), None, 3, [0, 3, 5, 8]),
-            (0, Some(9), None, 4, [9, 3, 5, 8]),
-            (2, None, None, 3, [9, 3, 0, 8]),
-            (3, Some(1), Some(UpdateFault::Duplicate(3)), 3, [9, 3, 0, 8]),
-            (3, None, None, 2, [9, 3, 0, 0]),
-            (1, None, None, 1, [9, 0, 0, 0]),
-            (0, None, None, 0, [0, 0, 0, 0]),
-            (1, Some(15), None, 1, [0, 15, 0, 0]),
-        ] {
-            let (id, add, fault, len, weights) = case;
+        for (id, w, is_refused, len, weight) in MOVES {
             assert_eq!(rt;
-                updated::<Three, Brand>(&mut layer, id, add, blank())?,
-                (fault, len, weights),
-                "{id} {add:?} {there}"
+                moved::<Brand>(&mut layer, id, w, blank())?,
+                (is_refused, len, weight),
+                "{id} {w}"
             );
         }
     }

@@ -158,79 +158,67 @@ fn updates_are_answered(rt: HostRuntime) -> Result<(), Fail> {
     let other = Name::read(b"streets").expect(&rt, "a name");
     let seen = updates_seen::<Brand>(rt.alloc(), &name, &other, blank())?;
     assert_eq!(rt; seen[0], Err(UpdateFault::NoLayer));
-    assert_eq!(rt; seen[1], Ok(spent(3, 0)));
+    assert_eq!(rt; seen[1], Ok(spent_in(1, 3, 0)));
     assert_eq!(rt; seen[2], Err(UpdateFault::Duplicate(7)));
     assert_eq!(rt; seen[3], Err(UpdateFault::Unknown(8)));
-    assert_eq!(rt; seen[4], Ok(spent(0, 1)));
+    assert_eq!(rt; seen[4], Ok(spent_in(1, 0, 1)));
     Ok(())
 }
 
-/// Each of three indexes takes its share of the first add and of its drop, and one of segments the same.
+/// Each of three indexes takes its share of the first add and of its drop.
 #[test]
-fn kinds_are_kept_apart(rt: HostRuntime) -> Result<(), Fail> {
+fn points_have_three_indexes(rt: HostRuntime) -> Result<(), Fail> {
     let name = Name::read(b"shops").expect(&rt, "a name");
-    let points = IndexSet {
-        range: true,
+    let indexes = IndexSet {
         near: true,
         top: true,
-        stab: false,
+        ..RANGE
     };
     let (updates, shape, is_counted) = kind_seen::<Brand>(
         rt.alloc(),
         &name,
         Kind::Points,
-        points,
+        indexes,
         blank(),
     )?;
-    let three = |turns, marks| Spent {
-        turns,
-        turn_bound: 1_440,
-        marks,
-        mark_bound: 180,
-    };
-    assert_eq!(rt;
-        updates,
-        [
-            Ok(three(9, 0)),
-            Err(UpdateFault::WrongKind),
-            Ok(three(0, 3))
-        ]
-    );
+    assert_eq!(rt; updates[0], Ok(spent_in(3, 9, 0)));
+    assert_eq!(rt; updates[1], Err(UpdateFault::WrongKind));
+    assert_eq!(rt; updates[2], Ok(spent_in(3, 0, 3)));
     assert_eq!(rt; shape, Shape::Point { x: 1, y: 2, w: 3 });
     assert!(rt; is_counted);
-    let segments = IndexSet {
+    Ok(())
+}
+
+#[test]
+fn segments_have_one(rt: HostRuntime) -> Result<(), Fail> {
+    let name = Name::read(b"streets").expect(&rt, "a name");
+    let indexes = IndexSet {
         range: false,
-        near: false,
-        top: false,
         stab: true,
+        ..RANGE
     };
     let (updates, shape, is_counted) = kind_seen::<Brand>(
         rt.alloc(),
         &name,
         Kind::Segments,
-        segments,
+        indexes,
         blank(),
     )?;
-    assert_eq!(rt;
-        updates,
-        [
-            Err(UpdateFault::WrongKind),
-            Ok(spent(3, 0)),
-            Ok(spent(0, 1))
-        ]
-    );
+    assert_eq!(rt; updates[0], Err(UpdateFault::WrongKind));
+    assert_eq!(rt; updates[1], Ok(spent_in(1, 3, 0)));
+    assert_eq!(rt; updates[2], Ok(spent_in(1, 0, 1)));
     assert_eq!(rt; shape, Shape::Segment { lo: 1, hi: 2, y: 3 });
     assert!(rt; !is_counted);
     Ok(())
 }
 
-/// Turns and marks, beside the bounds of a layer with one index and at most two points.
-fn spent(turns: u64, marks: u64) -> Spent {
+/// Turns and marks, beside the bounds of a layer with so many indexes and at most two items.
+fn spent_in(indexes: u8, turns: u64, marks: u64) -> Spent {
     Spent {
         turns,
-        turn_bound: 480,
+        turn_bound: 480 * u64::from(indexes),
         marks,
-        mark_bound: 60,
+        mark_bound: 60 * u64::from(indexes),
     }
 }
 
