@@ -7,7 +7,7 @@ ghost use Rattle.live_map.specs.Run.{script_limit, code_of, HasRun, AnswersText,
 
 use crate::intake::{Ending, take_in};
 use map_io::{Sink, Source, WriteFault, write_all};
-use map_session::{Session, answer_lines, answer_whole_lines};
+use map_session::{MapSession, answer_lines, answer_whole_lines};
 use query_laws::step_ledger::Steps;
 use std::alloc::{AllocError, Global};
 use std::sync::ledger::Ledger;
@@ -54,7 +54,7 @@ impl Status {
 #[derive(Drop)]
 pub struct Ended {
     pub status: Status,
-    pub session: Session,
+    pub session: MapSession,
 }
 
 /// Answers a script: takes it in whole, and then writes the answer to each of its lines.
@@ -91,7 +91,7 @@ pub fn run<S: Source, K: Sink, L: Ledger>(
         (Rose (S.faults source.old) (S.faults source.new) → ⊥) → (Rose (K.told sink.old).faults (K.told sink.new).faults → ⊥) →
         (result.status ≡ Status.TooLong) ⊎ (result.status ≡ Status.NoMemory) }
 {
-    let mut session = Session::new(alloc, false);
+    let mut session = MapSession::new(alloc, false);
     if !words.is_empty() {
         let status = refuse_words(sink);
         return Ended { status, session };
@@ -124,7 +124,7 @@ fn refuse_words<K: Sink>(sink: &mut K) -> Status
 /// Answers a text that was taken in, as far as its ending allows.
 #[tactic(auto, using(crate::proofs::Endings::answered_kept, crate::proofs::Endings::stopped_fault))]
 fn answer<K: Sink, L: Ledger>(
-    session: &mut Session,
+    session: &mut MapSession,
     text: &[u8],
     ending: Ending,
     sink: &mut K,

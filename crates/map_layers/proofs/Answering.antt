@@ -16,8 +16,9 @@ use Rattle.layer_kinds.specs.declared.faults.UpdateFault.{UpdateFault}
 use Rattle.layer_kinds.specs.declared.faults.UpdateFault.TheVariants.{NoLayer, WrongKind, Duplicate, Unknown, Full, NoMemory}
 use Rattle.layer_kinds.specs.declared.faults.AskFault.{AskFault}
 use Rattle.layer_kinds.specs.declared.faults.AskFault.TheVariants as ask
-use Rattle.layer_kinds.specs.Layered.{IsRemoval, IsAskRefusal}
+use Rattle.layer_kinds.specs.Layered.{IsRemoval}
 use Rattle.map_layers.specs.Layer.{IsAddTo}
+use Rattle.map_layers.specs.Questions.{IsOfKind, IsThere, IsRefusal}
 use Rattle.map_layers.specs.Replies.{updated, asked, IsAnswered}
 
 -- From one map to another, the items of the layer of a name are others.
@@ -109,26 +110,19 @@ module _ (old : State) (name : List ℕ) (question : Question) where
         else (if not there then refused old refusals.Index
         else replied old (Answered (answer_over layer.items question)))
 
-    step-ask : (of_kind there : Bool) → is_same_kind layer.kind (kind_asked question) ≡ of_kind → has layer.indexes (index_of question) ≡ there
-        → step old (Ask name question) ≡ asking of_kind there
+    step-ask : (of_kind there : Bool) → IsOfKind layer question of_kind → IsThere layer question there → step old (Ask name question) ≡ asking of_kind there
     step-ask of_kind there is_kind is_there = rw found (rw is_kind (rw is_there refl))
 
-    -- the layer is of the other kind
-    pub wrong-ask : is_same_kind layer.kind (kind_asked question) ≡ false → IsAnswered old (Ask name question) old (Refused refusals.Kind)
-    wrong-ask other = step-ask false (has layer.indexes (index_of question)) other refl
-
-    -- one of its indexes was asked
-    pub IsAnswered-ask : {T I : Type 0} (index : Option I) → is_same_kind layer.kind (kind_asked question) ≡ true → has layer.indexes (index_of question) ≡ is_some index
-        → (answer : T → Answer) (result : Result T AskFault) → IsAskRefusal index (lists_ids question) result
+    pub IsAnswered-ask : {T : Type 0} (answer : T → Answer) (result : Result T AskFault) → IsRefusal layer question result
         → IfOk result (λ t. answer t ≡ answer_over layer.items question) → IsAnswered old (Ask name question) old (asked (λ t. Answered (answer t)) result)
-    IsAnswered-ask index kind is_there answer (Ok t) refused same = step-ask true true kind (is_there ∙ refused) ∙ ap (λ a. replied old (Answered a)) (sym same)
-    IsAnswered-ask index kind is_there answer (Err ask.NoLayer) refused same = absurd refused
-    IsAnswered-ask index kind is_there answer (Err ask.WrongKind) refused same = absurd refused
-    IsAnswered-ask index kind is_there answer (Err ask.NoIndex) refused same = step-ask true false kind (is_there ∙ refused)
-    IsAnswered-ask index kind is_there answer (Err (ask.Unknown id)) refused same = absurd refused
-    IsAnswered-ask index kind is_there answer (Err ask.NoMemory) refused same = (
-      ap (λ b. b && not (is_refusal (step old (Ask name question)).reply)) refused.1
-          ∙ ap (λ (o : Outcome). not (is_refusal o.reply)) (step-ask true true kind (is_there ∙ refused.0)),
+    IsAnswered-ask answer (Ok t) refused same = step-ask true true refused.0 refused.1 ∙ ap (λ a. replied old (Answered a)) (sym same)
+    IsAnswered-ask answer (Err ask.NoLayer) refused same = absurd refused
+    IsAnswered-ask answer (Err ask.WrongKind) refused same = step-ask false (has layer.indexes (index_of question)) refused refl
+    IsAnswered-ask answer (Err ask.NoIndex) refused same = step-ask true false refused.0 refused.1
+    IsAnswered-ask answer (Err (ask.Unknown id)) refused same = absurd refused
+    IsAnswered-ask answer (Err ask.NoMemory) refused same = (
+      ap (λ b. b && not (is_refusal (step old (Ask name question)).reply)) refused.2
+          ∙ ap (λ (o : Outcome). not (is_refusal o.reply)) (step-ask true true refused.0 refused.1),
       refl,
     )
 

@@ -1,5 +1,5 @@
 -- Layers by their names.
-use Rattle.std.proofs.Common.{◌≡◌, ℕ, zero, suc, ◌+◌, ◌<◌, ◌≤◌, ◌∙◌, true, false, List, [], ◌∷◌, ◌++◌, Some, None, length, map, bytes_eq, get_or, set, refl, sym, ap, subst, arith}
+use Rattle.std.proofs.Common.{◌≡◌, ℕ, zero, suc, ◌+◌, ◌<◌, ◌≤◌, ◌∙◌, Bool, true, false, List, [], ◌∷◌, ◌++◌, Option, Some, None, length, map, bytes_eq, get_or, set, refl, sym, ap, subst, arith}
 use Rattle.std.specs.List.{list_any, position_from, refill}
 use Rattle.std.specs.Option.{is_some, option_map}
 use Rattle.std.proofs.lemmas.Grind.{common_steps}
@@ -11,32 +11,35 @@ use Rattle.std.proofs.lemmas.Slice.Eq.{bytes_eq-Decides}
 use Rattle.stack_levels.proofs.Held.{written}
 use Rattle.map_model.specs.State.{Item, layer_named, changed, with_items}
 use Rattle.map_model.specs.Machine.{is_taken}
-use Rattle.map_layers.specs.declared.layer.Layer.{Layer}
-use Rattle.map_layers.specs.Layer.{name_in, adds_in, items_in, layer_of}
+use Rattle.map_layers.specs.Layer.{LayerState, name_in, adds_in, items_in, layer_of}
 use Rattle.map_layers.specs.Layers.{has_name, named, place_named, names_of, adds_of, AllDiffer}
 use Rattle.map_layers.proofs.Answering.{IsRenewed}
 
 -- the layer of a name is that of the definitions
-layer_named-named : (name : List ℕ) (ls : List Layer) → layer_named name (map layer_of ls) ≡ option_map layer_of (named name ls)
+layer_named-named : (name : List ℕ) (ls : List LayerState) → layer_named name (map layer_of ls) ≡ option_map layer_of (named name ls)
 layer_named-named name [] = refl
 layer_named-named name (l ∷ ls) = grind (arith, common_steps, layer_named-named name ls)
 
-pub layer_named-Some : (name : List ℕ) (ls : List Layer) {l : Layer} → named name ls ≡ Some l → layer_named name (map layer_of ls) ≡ Some (layer_of l)
+pub layer_named-Some : (name : List ℕ) (ls : List LayerState) {l : LayerState} → named name ls ≡ Some l → layer_named name (map layer_of ls) ≡ Some (layer_of l)
 layer_named-Some name ls found = layer_named-named name ls ∙ ap (option_map layer_of) found
 
-pub layer_named-None : (name : List ℕ) (ls : List Layer) → named name ls ≡ None → layer_named name (map layer_of ls) ≡ None
+pub layer_named-None : (name : List ℕ) (ls : List LayerState) → named name ls ≡ None → layer_named name (map layer_of ls) ≡ None
 layer_named-None name ls none = layer_named-named name ls ∙ ap (option_map layer_of) none
 
-pub named-none : (name : List ℕ) (i : ℕ) (ls : List Layer) → position_from (has_name name) i ls ≡ None → named name ls ≡ None
+pub is_some-seen : {A B : Type 0} (f : A → B) (o : Option A) {b : Bool} → is_some o ≡ b → is_some (option_map f o) ≡ b
+is_some-seen f None is = is
+is_some-seen f (Some a) is = is
+
+pub named-none : (name : List ℕ) (i : ℕ) (ls : List LayerState) → position_from (has_name name) i ls ≡ None → named name ls ≡ None
 named-none name i [] none = refl
 named-none name i (l ∷ ls) none = grind (arith, common_steps, named-none name (i + 1) ls)
 
-pub is_among-named : (name : List ℕ) (ls : List Layer) → is_some (named name ls) ≡ list_any (λ other. bytes_eq other name) (names_of ls)
+pub is_among-named : (name : List ℕ) (ls : List LayerState) → is_some (named name ls) ≡ list_any (λ other. bytes_eq other name) (names_of ls)
 is_among-named name [] = refl
 is_among-named name (l ∷ ls) = grind (arith, common_steps, is_among-named name ls)
 
 -- no layer of the name is there
-unnamed : (name : List ℕ) (f : List Item → List Item) (ls : List Layer) → named name ls ≡ None → with_items name f (map layer_of ls) ≡ map layer_of ls
+unnamed : (name : List ℕ) (f : List Item → List Item) (ls : List LayerState) → named name ls ≡ None → with_items name f (map layer_of ls) ≡ map layer_of ls
 unnamed name f [] none = refl
 unnamed name f (l ∷ ls) none = grind (arith, common_steps, unnamed name f ls)
 
@@ -53,35 +56,35 @@ AllDiffer-push (n ∷ ns) name differ new =
     list_any-append (λ other. bytes_eq other n) ns (name ∷ []) ∙ grind (arith, common_steps, differ.0, swapped n name other) in
     (more, AllDiffer-push ns name differ.1 rest)
 
-pub is_taken-named : (name : List ℕ) (ls : List Layer) → is_taken name (map layer_of ls) ≡ is_some (named name ls)
+pub is_taken-named : (name : List ℕ) (ls : List LayerState) → is_taken name (map layer_of ls) ≡ is_some (named name ls)
 is_taken-named name [] = refl
 is_taken-named name (l ∷ ls) = grind (arith, common_steps, is_taken-named name ls)
 
 -- a slice of all layers was written
-refilled : (items written_to : List Layer) (k : ℕ) (l' : Layer) → written_to ≡ items → refill (length items) items (set written_to k l') ≡ set written_to k l'
+refilled : (items written_to : List LayerState) (k : ℕ) (l' : LayerState) → written_to ≡ items → refill (length items) items (set written_to k l') ≡ set written_to k l'
 refilled items written_to k l' same = written (length items) items (set written_to k l') refl (length-set written_to k l' ∙ ap length same)
 
 -- ---- a layer in place of another one of the same name
 
 -- the search doesn't come to a place before that where it begins
-place_from : (name : List ℕ) (i k : ℕ) (ls : List Layer) → position_from (has_name name) i ls ≡ Some k → i ≤ k
+place_from : (name : List ℕ) (i k : ℕ) (ls : List LayerState) → position_from (has_name name) i ls ≡ Some k → i ≤ k
 place_from name i k [] found = absurd cc
 place_from name i k (l ∷ ls) found = grind (arith, common_steps, place_from name (i + 1) k ls)
 
-named-place : (name : List ℕ) (i k : ℕ) (ls : List Layer) (d : Layer) → position_from (has_name name) i ls ≡ Some (i + k) → named name ls ≡ Some (get_or ls k d)
+named-place : (name : List ℕ) (i k : ℕ) (ls : List LayerState) (d : LayerState) → position_from (has_name name) i ls ≡ Some (i + k) → named name ls ≡ Some (get_or ls k d)
 named-place name i k [] d found = absurd cc
 named-place name i zero (l ∷ ls) d found = grind (arith, common_steps, place_from name (i + 1) i ls)
 named-place name i (suc k) (l ∷ ls) d found = grind (arith, common_steps, named-place name (i + 1) k ls d)
 
 -- the names after a layer are others than its own
-none-after : (name : List ℕ) (l : Layer) (ls : List Layer) → AllDiffer (names_of (l ∷ ls)) → bytes_eq (name_in l) name ≡ true → named name ls ≡ None
+none-after : (name : List ℕ) (l : LayerState) (ls : List LayerState) → AllDiffer (names_of (l ∷ ls)) → bytes_eq (name_in l) name ≡ true → named name ls ≡ None
 none-after name l ls differ has =
     let same : name_in l ≡ name = grind (arith, bytes_eq-Decides (name_in l) name) in
     let none : is_some (named (name_in l) ls) ≡ false = is_among-named (name_in l) ls ∙ differ.0 in
     subst (λ n. named n ls ≡ None) same (grind (arith, common_steps))
 
-module _ (name : List ℕ) (change : List Item → List Item) (d l' : Layer) where
-  renewed : (i k : ℕ) (ls : List Layer) → position_from (has_name name) i ls ≡ Some (i + k) → AllDiffer (names_of ls)
+module _ (name : List ℕ) (change : List Item → List Item) (d l' : LayerState) where
+  renewed : (i k : ℕ) (ls : List LayerState) → position_from (has_name name) i ls ≡ Some (i + k) → AllDiffer (names_of ls)
       → layer_of l' ≡ changed change (layer_of (get_or ls k d)) → map layer_of (set ls k l') ≡ with_items name change (map layer_of ls)
   renewed i k [] found differ is = absurd cc
   renewed i zero (l ∷ ls) found differ is =
@@ -93,12 +96,12 @@ module _ (name : List ℕ) (change : List Item → List Item) (d l' : Layer) whe
       let after = renewed (i + 1) k ls (grind (arith, common_steps)) differ.1 is in
       grind (arith, common_steps)
 
-module _ (name : List ℕ) (k : ℕ) (items ls : List Layer) (d l' : Layer) (written_to : ls ≡ items) (found : place_named name ls ≡ Some k) (within : k < length ls)
+module _ (name : List ℕ) (k : ℕ) (items ls : List LayerState) (d l' : LayerState) (written_to : ls ≡ items) (found : place_named name ls ≡ Some k) (within : k < length ls)
     (kept : layer_of l' ≡ record (layer_of (get_or ls k d)) { items = items_in l' }) where
-  abbrev l : Layer
+  abbrev l : LayerState
   l = get_or ls k d
 
-  abbrev ls' : List Layer
+  abbrev ls' : List LayerState
   ls' = refill (length items) items (set ls k l')
 
   is_set : ls' ≡ set ls k l'

@@ -4,7 +4,7 @@ use Rattle.query_laws.specs.StepLedger.{Counts}
 use Rattle.map_kinds.specs.Touches.{PartTouches}
 use Rattle.map_model.specs.State as state
 use Rattle.map_model.specs.State.{live_count}
-use Rattle.map_model.specs.Index.{index_count}
+use Rattle.map_model.specs.Index.{Index, index_count}
 use Rattle.map_model.specs.Cost.{bounds_at, IsSpent, IsAsked}
 use Rattle.map_shapes.specs.Cost.{spent_of, asked_of}
 use Rattle.map_shapes.specs.declared.asked.Asked.{Asked}
@@ -12,9 +12,8 @@ use Rattle.map_shapes.specs.declared.spent.Spent.{Spent}
 use Rattle.layer_kinds.specs.declared.faults.AskFault.{AskFault}
 use Rattle.layer_kinds.specs.declared.faults.UpdateFault.{UpdateFault}
 use Rattle.layer_kinds.specs.Costs as kinds
-use Rattle.layer_kinds.specs.Asking.{IsEveryPart, IsTouching, most_of}
-use Rattle.map_layers.specs.declared.layer.Layer.{Layer}
-use Rattle.map_layers.specs.Layer.{items_in, range_in}
+use Rattle.layer_kinds.specs.Asking.{IsTouching, most_of}
+use Rattle.map_layers.specs.Layer.{LayerState, items_in, held_by, IsEveryPart}
 
 -- An update that is done or that memory refused is within the bounds, and any other that is refused costs nothing.
 abbrev pub IsCost : {T : Type 0} → state.Layer → Result T UpdateFault → Counts → Counts → Type 0
@@ -58,7 +57,7 @@ abbrev pub IsTouchingIn : {T : Type 0} → Option state.Layer → (ℕ → PartT
 IsTouchingIn None touches result old new = new ≡ old
 IsTouchingIn (Some layer) touches result old new = IsTouching (most_in layer (λ level n. most_of (touches level) n)) result old new
 
--- every complete part of the index for rectangles, with as many live items as the layer has
-abbrev pub IsEveryPartIn : Option Layer → ℕ → ℕ → Type 0
-IsEveryPartIn None parts live = ⊥
-IsEveryPartIn (Some layer) parts live = IsEveryPart (range_in layer) parts × (live ≡ length (items_in layer))
+-- every complete part of an index, with as many live items as the layer has
+abbrev pub IsEveryPartIn : Option LayerState → Index → ℕ → ℕ → Type 0
+IsEveryPartIn None index parts live = ⊥
+IsEveryPartIn (Some layer) index parts live = IsEveryPart (held_by layer.held index) parts × (live ≡ length (items_in layer))

@@ -1,51 +1,87 @@
 -- What contracts see of a layer of either kind, and what an add does to its items.
-use Rattle.std.specs.Prelude.{◌≡◌, ℕ, true, false, List, Option, None, Result, Err}
-use Rattle.std.specs.Option.{is_some}
-use Rattle.builder_trait.specs.Parts.{Contents}
+use Rattle.std.specs.Prelude.{◌≡◌, ℕ, ◌≤◌, true, false, All, List, Option, None, Some, Result, Err, length, map, sum_by}
+use Rattle.std.specs.Option.{is_some, option_map}
 use Rattle.global_rebuild.specs.Index.{Indexed}
 use Rattle.layer_kinds.specs.declared.faults.UpdateFault.{UpdateFault}
 use Rattle.layer_kinds.specs.declared.faults.UpdateFault.TheVariants.{WrongKind}
-use Rattle.layer_kinds.specs.Layered.{items_of, IsAdd}
+use Rattle.layer_kinds.specs.Layered.{Layered, items_of, IsAdd}
 use Rattle.map_model.specs.Shape as model
-use Rattle.map_model.specs.Index.{IndexSet, no_indexes}
+use Rattle.map_model.specs.Index.{Index, Range, Near, Top, Stab, IndexSet}
 use Rattle.map_model.specs.Machine.{is_same_kind}
 use Rattle.map_model.specs.State as state
 use Rattle.map_model.specs.State.{Item}
-use Rattle.map_shapes.specs.declared.point.Point.{Point}
-use Rattle.map_shapes.specs.Point.{item_of}
-use Rattle.map_shapes.specs.Segment.{item_of_segment}
-use Rattle.map_layers.specs.declared.layer.Layer.{Layer}
-use Rattle.map_layers.specs.declared.layer.Layer.TheVariants.{Points, Segments}
+use Rattle.map_layers.specs.declared.layer.Sort.{Sort}
+use Rattle.map_layers.specs.declared.layer.Sort.TheVariants.{Points, Segments}
 
-abbrev pub name_in : Layer → List ℕ
-name_in (Points l) = l.name
-name_in (Segments l) = l.name
+-- of an index that is there, how many complete parts each level has
+abbrev pub parts_held : {P I : Type 0} → Option (Indexed P I) → Option (List ℕ)
+parts_held index = option_map (λ i. map (λ l. length l.parts) i.main.levels) index
 
--- how many adds there ever were
-abbrev pub adds_in : Layer → ℕ
-adds_in (Points l) = l.adds
-adds_in (Segments l) = l.adds
+-- of each index
+pub record Held : Type 0 where
+  pub range : Option (List ℕ)
+  pub near : Option (List ℕ)
+  pub top : Option (List ℕ)
+  pub stab : Option (List ℕ)
 
-abbrev pub kind_in : Layer → model.Kind
-kind_in (Points l) = model.Points
-kind_in (Segments l) = model.Segments
+abbrev pub held_by : Held → Index → Option (List ℕ)
+held_by held Range = held.range
+held_by held Near = held.near
+held_by held Top = held.top
+held_by held Stab = held.stab
 
-abbrev pub indexes_in : Layer → IndexSet
-indexes_in (Points l) = record no_indexes { range = is_some l.indexes.0; near = is_some l.indexes.1.0; top = is_some l.indexes.1.1 }
-indexes_in (Segments l) = record no_indexes { stab = is_some l.indexes }
+-- which are there
+abbrev pub set_of : Held → IndexSet
+set_of held = record { range = is_some held.range; near = is_some held.near; top = is_some held.top; stab = is_some held.stab }
 
-abbrev pub items_in : Layer → List Item
-items_in (Points l) = items_of item_of l.entries
-items_in (Segments l) = items_of item_of_segment l.entries
+-- those of points, and that of segments
+module _ {P Q R I J K : Type 0} where
+  abbrev pub points_held : Option (Indexed P I) → Option (Indexed Q J) → Option (Indexed R K) → Held
+  points_held range near top = record { range = parts_held range; near = parts_held near; top = parts_held top; stab = None }
 
--- a layer as the definitions have it
-abbrev pub layer_of : Layer → state.Layer
-layer_of l = record { name = name_in l; kind = kind_in l; indexes = indexes_in l; items = items_in l }
+abbrev pub segments_held : {P I : Type 0} → Option (Indexed P I) → Held
+segments_held stab = record { range = None; near = None; top = None; stab = parts_held stab }
 
--- the index for rectangles, where the layer is one that may have it, and has it
-abbrev pub range_in : Layer → Option (Indexed (Contents Point) Point)
-range_in (Points l) = l.indexes.0
-range_in (Segments l) = None
+-- a layer as the definitions have it, how many adds there ever were, and what its indexes hold
+pub record LayerState : Type 0 where
+  pub layer : state.Layer
+  pub adds : ℕ
+  pub held : Held
+
+abbrev pub layer_of : LayerState → state.Layer
+layer_of l = l.layer
+
+abbrev pub name_in : LayerState → List ℕ
+name_in l = l.layer.name
+
+abbrev pub adds_in : LayerState → ℕ
+adds_in l = l.adds
+
+abbrev pub items_in : LayerState → List Item
+items_in l = l.layer.items
+
+module _ {X I : Type 0} (kind : model.Kind) (item_of : I → Item) (held : X → Held) where
+  -- a layer of items of one kind, over such indexes
+  abbrev pub layer_seen : Layered X I → state.Layer
+  layer_seen l = record { name = l.name; kind = kind; indexes = set_of (held l.indexes); items = items_of item_of l.entries }
+
+  abbrev pub seen : Layered X I → LayerState
+  seen l = record { layer = layer_seen l; adds = l.adds; held = held l.indexes }
+
+  -- nothing of it is another, but for items and what indexes hold
+  abbrev pub IsKept : Layered X I → Layered X I → Type 0
+  IsKept old new = layer_seen new ≡ record (layer_seen old) { items = items_of item_of new.entries }
+
+module _ {P S I J : Type 0} (points : Layered P I → LayerState) (segments : Layered S J → LayerState) where
+  -- a layer of either kind
+  abbrev pub seen_of : Sort P S I J → LayerState
+  seen_of (Points l) = points l
+  seen_of (Segments l) = segments l
+
+-- so many as an index has complete parts, of which no level has more than three
+abbrev pub IsEveryPart : Option (List ℕ) → ℕ → Type 0
+IsEveryPart None parts = ⊥
+IsEveryPart (Some counts) parts = (parts ≡ sum_by (λ n. n) counts) × All (λ n. n ≤ 3) counts
 
 -- An item of the other kind is refused, and then as in a layer of its kind.
 abbrev pub IsAddTo : {T : Type 0} → state.Layer → Item → List Item → Result T UpdateFault → Type 0

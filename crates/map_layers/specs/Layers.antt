@@ -2,12 +2,11 @@
 use Rattle.std.specs.Prelude.{◌≡◌, ℕ, Bool, false, List, [], ◌∷◌, Option, bytes_eq, map, sum_by}
 use Rattle.std.specs.List.{find, list_any, position_from}
 use Rattle.map_model.specs.State.{State}
-use Rattle.map_layers.specs.declared.layer.Layer.{Layer}
-use Rattle.map_layers.specs.Layer.{name_in, adds_in, layer_of}
+use Rattle.map_layers.specs.Layer.{LayerState, name_in, adds_in, layer_of}
 
 -- the layers in order of creation, and how many calls of updates there were, refused ones included
 pub record LayersState : Type 0 where
-  pub layers : List Layer
+  pub layers : List LayerState
   pub updates : ℕ
 
 abbrev pub no_layers : LayersState
@@ -17,21 +16,21 @@ no_layers = record { layers = []; updates = 0 }
 abbrev pub map_of : LayersState → State
 map_of l = map layer_of l.layers
 
-abbrev pub has_name : List ℕ → Layer → Bool
+abbrev pub has_name : List ℕ → LayerState → Bool
 has_name name l = bytes_eq (name_in l) name
 
 -- the layer of a name, and its place
-abbrev pub named : List ℕ → List Layer → Option Layer
+abbrev pub named : List ℕ → List LayerState → Option LayerState
 named name layers = find (has_name name) layers
 
-abbrev pub place_named : List ℕ → List Layer → Option ℕ
+abbrev pub place_named : List ℕ → List LayerState → Option ℕ
 place_named name layers = position_from (has_name name) 0 layers
 
-abbrev pub names_of : List Layer → List (List ℕ)
+abbrev pub names_of : List LayerState → List (List ℕ)
 names_of layers = map name_in layers
 
 -- how many adds there ever were in all of them
-abbrev pub adds_of : List Layer → ℕ
+abbrev pub adds_of : List LayerState → ℕ
 adds_of layers = sum_by adds_in layers
 
 -- no two names are the same

@@ -9,73 +9,78 @@ ghost use Rattle.map_model.specs.State as state;
 ghost use Rattle.map_shapes.specs.IndexSet.{index_set_of};
 ghost use Rattle.map_shapes.specs.Kind as kinds;
 ghost use Rattle.map_shapes.specs.Shape.{model_shape};
-ghost use Rattle.map_layers.specs.Layer.{name_in, adds_in, items_in, layer_of, IsAddTo};
-ghost use Rattle.layer_kinds.specs.Layered.{IsRemoval};
+ghost use Rattle.map_layers.specs.Layer.{name_in, items_in, layer_seen, IsKept, IsAddTo};
+ghost use Rattle.map_layers.specs.Questions.{question_of, Asks};
+ghost use Rattle.layer_kinds.specs.Layered.{items_of, IsRemoval};
 ghost use Rattle.map_layers.specs.Costs.{IsCost, IsTold};
 
-use crate::UpdateFault;
-use builder_trait::flat::FlatBuilder;
-use layer_kinds::{KindLayer, LayerIndex};
-use map_shapes::{IndexSet, Kind, Name, Point, Segment, Shape, Spent};
+use crate::{Answered, AnyQuestion, AskFault, NamedIndexes, OverPoints, OverSegments, UpdateFault};
+use layer_kinds::KindLayer;
+use map_shapes::{Asked, IndexSet, Kind, Name, Shape, Spent};
 use query_laws::step_ledger::Steps;
-use range_tree::RangeBuilder;
 use std::alloc::Global;
 use std::default::MadeWith;
+use std::marker::Model;
 use std::sync::ledger::Ledger;
 
-/// The indexes of points: that for rectangles, those nearest to a place and the highest. The flat kind holds the places of the last two,
-/// and answers nothing.
-pub type PointIndexes = (LayerIndex<RangeBuilder>, (Flat<Point>, Flat<Point>));
-
-/// The index of segments, of which the flat kind holds the place too.
-pub type SegmentIndexes = Flat<Segment>;
-
-type Flat<I> = LayerIndex<FlatBuilder<I>>;
-
-/// A layer of points, or of segments.
+/// A layer of points, or of segments. Contracts see it as the definitions do, beside what its indexes hold.
 #[derive(Drop)]
-pub enum Layer {
-    Points(KindLayer<PointIndexes>),
-    Segments(KindLayer<SegmentIndexes>),
+pub struct Layer<P: OverPoints, S: OverSegments> {
+    sort: Sort<P, S>,
+}
+
+/// The layer, by its kind.
+#[derive(Drop)]
+enum Sort<P: OverPoints, S: OverSegments> {
+    Points(KindLayer<P>),
+    Segments(KindLayer<S>),
+}
+
+impl<P: OverPoints, S: OverSegments> Model for Layer<P, S> {
+    ghost use Rattle.map_layers.specs.Layer.{LayerState, seen, seen_of};
+
+    ghost Value = { LayerState };
+
+    ghost view = { λ l. seen_of (seen P.Item.kind P.Item.item_of P.held) (seen S.Item.kind S.Item.item_of S.held) l.sort };
 }
 
 /// What fills a place that no layer has yet.
-impl MadeWith<Global> for Layer {
-    fn made_with(alloc: Global) -> Layer {
-        Layer::Segments(KindLayer::new(alloc, no_name(), Flat::new(alloc, false)))
+impl<P: OverPoints, S: OverSegments> MadeWith<Global> for Layer<P, S> {
+    fn made_with(alloc: Global) -> Layer<P, S> {
+        let none = IndexSet {
+            range: false,
+            near: false,
+            top: false,
+            stab: false,
+        };
+        let sort = Sort::Points(KindLayer::new(alloc, no_name(), P::of_set(alloc, none)));
+        Layer { sort }
     }
 }
 
-impl Layer {
+impl<P: OverPoints, S: OverSegments> Layer<P, S> {
     /// A layer without items. It takes no memory.
-    pub(crate) fn new(alloc: Global, name: Name, kind: Kind, indexes: IndexSet) -> Layer
+    pub(crate) fn new(alloc: Global, name: Name, kind: Kind, indexes: IndexSet) -> Layer<P, S>
         requires fits { fits (kinds.kind_of kind) (index_set_of indexes) ≡ true }
-        ensures made { layer_of result ≡ record { name = name; kind = kinds.kind_of kind; indexes = index_set_of indexes; items = [] } }
-        ensures adds { adds_in result ≡ 0 }
+        ensures made { result.layer ≡ record { name = name; kind = kinds.kind_of kind; indexes = index_set_of indexes; items = [] } }
+        ensures adds { result.adds ≡ 0 }
     {
-        match kind {
-            Kind::Points => {
-                let last = (
-                    Flat::new(alloc, indexes.near),
-                    Flat::new(alloc, indexes.top),
-                );
-                let all = (LayerIndex::new(alloc, indexes.range), last);
-                Layer::Points(KindLayer::new(alloc, name, all))
-            }
+        let sort = match kind {
+            Kind::Points => { Sort::Points(KindLayer::new(alloc, name, P::of_set(alloc, indexes))) }
             Kind::Segments => {
-                let stab = Flat::new(alloc, indexes.stab);
-                Layer::Segments(KindLayer::new(alloc, name, stab))
+                Sort::Segments(KindLayer::new(alloc, name, S::of_set(alloc, indexes)))
             }
-        }
+        };
+        Layer { sort }
     }
 
     /// Whether it has this name.
     pub(crate) fn has_name(&self, name: &Name) -> bool
         ensures { result ≡ bytes_eq (name_in self.now) name.now }
     {
-        match self {
-            Layer::Points(points) => points.has_name(name),
-            Layer::Segments(segments) => segments.has_name(name),
+        match &self.sort {
+            Sort::Points(points) => points.has_name(name),
+            Sort::Segments(segments) => segments.has_name(name),
         }
     }
 
@@ -84,9 +89,9 @@ impl Layer {
         ensures count { result ≡ length (items_in self.now) }
         ensures few { result ≤ 2 ^ 16 }
     {
-        match self {
-            Layer::Points(points) => points.len(),
-            Layer::Segments(segments) => segments.len(),
+        match &self.sort {
+            Sort::Points(points) => points.len(),
+            Sort::Segments(segments) => segments.len(),
         }
     }
 
@@ -94,9 +99,26 @@ impl Layer {
     pub(crate) fn get(&self, id: u64) -> Option<Shape>
         ensures { option_map model_shape result ≡ state.shape_of id (items_in self.now) }
     {
-        match self {
-            Layer::Points(points) => points.get(id),
-            Layer::Segments(segments) => segments.get(id),
+        match &self.sort {
+            Sort::Points(points) => points.get(id),
+            Sort::Segments(segments) => segments.get(id),
+        }
+    }
+
+    /// Puts a question to the items: `WrongKind` where it is about the other kind.
+    pub(crate) fn ask<L: Ledger>(
+        &self,
+        alloc: Global,
+        question: &AnyQuestion,
+        steps: &mut Steps<L>,
+    ) -> Result<(Answered, Asked), AskFault>
+        requires lap { AtLapStart steps.old }
+        ensures { Asks self.now (question_of question.now) result steps.old steps.new }
+    {
+        match (&self.sort, question.kind()) {
+            (Sort::Points(points), Kind::Points) => P::ask(points, alloc, question, steps),
+            (Sort::Segments(segments), Kind::Segments) => S::ask(segments, alloc, question, steps),
+            _ => Err(AskFault::WrongKind),
         }
     }
 
@@ -108,40 +130,17 @@ impl Layer {
         steps: &mut Steps<L>,
     ) -> Result<Spent, UpdateFault>
         requires lawful { IsShape (model_shape shape) }
-        requires few { adds_in self.old < 2 ^ 62 }
+        requires few { self.old.adds < 2 ^ 62 }
         requires lap { AtLapStart steps.old }
-        ensures added { IsAddTo (layer_of self.old) (record { id = id; shape = model_shape shape }) (items_in self.new) result }
-        ensures same { layer_of self.new ≡ record (layer_of self.old) { items = items_in self.new } }
-        ensures adds { adds_in self.new ≡ adds_in self.old + one_if (is_ok result) }
-        ensures cost { IsCost (layer_of self.old) result steps.old steps.new }
-        ensures told { IfOk result (λ spent. IsTold (layer_of self.old) true spent steps.old steps.new) }
+        ensures added { IsAddTo self.old.layer (record { id = id; shape = model_shape shape }) (items_in self.new) result }
+        ensures same { self.new.layer ≡ record self.old.layer { items = items_in self.new } }
+        ensures adds { self.new.adds ≡ self.old.adds + one_if (is_ok result) }
+        ensures cost { IsCost self.old.layer result steps.old steps.new }
+        ensures told { IfOk result (λ spent. IsTold self.old.layer true spent steps.old steps.new) }
     {
-        match (self, shape) {
-            (Layer::Points(points), Shape::Point { x, y, w }) => {
-                points.add(
-                    Point {
-                        id,
-                        x,
-                        y,
-                        w,
-                        stamp: 0,
-                    },
-                    steps,
-                )
-            }
-            (Layer::Segments(segments), Shape::Segment { lo, hi, y }) => {
-                segments.add(
-                    Segment {
-                        id,
-                        lo,
-                        hi,
-                        y,
-                        stamp: 0,
-                    },
-                    steps,
-                )
-            }
-            _ => Err(UpdateFault::WrongKind),
+        match &mut self.sort {
+            Sort::Points(points) => add_to(points, id, shape, steps),
+            Sort::Segments(segments) => add_to(segments, id, shape, steps),
         }
     }
 
@@ -153,16 +152,55 @@ impl Layer {
     ) -> Result<Spent, UpdateFault>
         requires lap { AtLapStart steps.old }
         ensures removed { IsRemoval (items_in self.old) id (items_in self.new) result }
-        ensures same { layer_of self.new ≡ record (layer_of self.old) { items = items_in self.new } }
-        ensures adds { adds_in self.new ≡ adds_in self.old }
-        ensures cost { IsCost (layer_of self.old) result steps.old steps.new }
-        ensures told { IfOk result (λ spent. IsTold (layer_of self.old) false spent steps.old steps.new) }
+        ensures same { self.new.layer ≡ record self.old.layer { items = items_in self.new } }
+        ensures adds { self.new.adds ≡ self.old.adds }
+        ensures cost { IsCost self.old.layer result steps.old steps.new }
+        ensures told { IfOk result (λ spent. IsTold self.old.layer false spent steps.old steps.new) }
     {
-        match self {
-            Layer::Points(points) => points.remove(id, steps),
-            Layer::Segments(segments) => segments.remove(id, steps),
+        match &mut self.sort {
+            Sort::Points(points) => remove_from(points, id, steps),
+            Sort::Segments(segments) => remove_from(segments, id, steps),
         }
     }
+}
+
+/// Adds an item of a shape at the end of a layer of one kind, where the shape is of the kind.
+fn add_to<X: NamedIndexes, L: Ledger>(
+    layer: &mut KindLayer<X>,
+    id: u64,
+    shape: Shape,
+    steps: &mut Steps<L>,
+) -> Result<Spent, UpdateFault>
+    requires lawful { IsShape (model_shape shape) }
+    requires few { layer.old.adds < 2 ^ 62 }
+    requires lap { AtLapStart steps.old }
+    ensures added { IsAddTo (layer_seen X.Item.kind X.Item.item_of X.held layer.old) (record { id = id; shape = model_shape shape })
+        (items_of X.Item.item_of layer.new.entries) result }
+    ensures same { IsKept X.Item.kind X.Item.item_of X.held layer.old layer.new }
+    ensures adds { layer.new.adds ≡ layer.old.adds + one_if (is_ok result) }
+    ensures cost { IsCost (layer_seen X.Item.kind X.Item.item_of X.held layer.old) result steps.old steps.new }
+    ensures told { IfOk result (λ spent. IsTold (layer_seen X.Item.kind X.Item.item_of X.held layer.old) true spent steps.old steps.new) }
+{
+    match X::item(id, shape) {
+        Some(item) => layer.add(item, steps),
+        None => Err(UpdateFault::WrongKind),
+    }
+}
+
+/// Takes the item with an identifier out of a layer of one kind.
+fn remove_from<X: NamedIndexes, L: Ledger>(
+    layer: &mut KindLayer<X>,
+    id: u64,
+    steps: &mut Steps<L>,
+) -> Result<Spent, UpdateFault>
+    requires lap { AtLapStart steps.old }
+    ensures removed { IsRemoval (items_of X.Item.item_of layer.old.entries) id (items_of X.Item.item_of layer.new.entries) result }
+    ensures same { IsKept X.Item.kind X.Item.item_of X.held layer.old layer.new }
+    ensures adds { layer.new.adds ≡ layer.old.adds }
+    ensures cost { IsCost (layer_seen X.Item.kind X.Item.item_of X.held layer.old) result steps.old steps.new }
+    ensures told { IfOk result (λ spent. IsTold (layer_seen X.Item.kind X.Item.item_of X.held layer.old) false spent steps.old steps.new) }
+{
+    layer.remove(id, steps)
 }
 
 /// A name for a place that no layer has.

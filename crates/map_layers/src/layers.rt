@@ -18,7 +18,7 @@ ghost use Rattle.map_layers.specs.Costs.{IsCostIn, IsToldIn};
 ghost use Rattle.map_layers.specs.Replies.{created, updated, asked, IsAnswered};
 
 use crate::layers::updating::{add_in, remove_in};
-use crate::{AskFault, CreateFault, Layer, UpdateFault};
+use crate::{AskFault, CreateFault, Layer, OverPoints, OverSegments, UpdateFault};
 use arrayvec::ArrayVec;
 use map_shapes::{IndexSet, Kind, Name, Shape, Spent};
 use query_laws::step_ledger::Steps;
@@ -29,18 +29,18 @@ use std::sync::ledger::Ledger;
 /// The most layers of a map.
 const MOST_LAYERS: usize = 8;
 
-/// A map of at most eight layers, which lie in place. Contracts see the map of the definitions, and what an update may cost there.
+/// A map of at most eight layers, which lie in place, over these indexes of points and of segments. Contracts see the map of the definitions, and what an update may cost there.
 ///
 /// An update takes all memory before it changes anything, and spends a bounded number of turns, marks and touches, whatever came before
 /// it. A question is put to the complete parts of one index. Each call that is handed steps begins a lap.
 #[derive(Drop)]
-pub struct Layers {
-    layers: ArrayVec<Layer, MOST_LAYERS, Global>,
+pub struct Layers<P: OverPoints, S: OverSegments> {
+    layers: ArrayVec<Layer<P, S>, MOST_LAYERS, Global>,
     alloc: Global,
     updates: u64,
 }
 
-impl Model for Layers {
+impl<P: OverPoints, S: OverSegments> Model for Layers<P, S> {
     ghost use Rattle.std.specs.Prelude.{◌≤◌};
     ghost use Rattle.map_layers.specs.Layers.{LayersState, names_of, adds_of, AllDiffer};
 
@@ -51,9 +51,9 @@ impl Model for Layers {
     ghost invariant = { λ l. AllDiffer (names_of l.layers.items) × (adds_of l.layers.items ≤ l.updates) };
 }
 
-impl Layers {
+impl<P: OverPoints, S: OverSegments> Layers<P, S> {
     /// A map without layers. It takes no memory; updates take theirs from `alloc`.
-    pub fn new(alloc: Global) -> Layers
+    pub fn new(alloc: Global) -> Layers<P, S>
         ensures { result ≡ no_layers }
     {
         Layers {
@@ -69,7 +69,7 @@ impl Layers {
         ensures answered { IsAnswered (map_of self.old) (commands.MakeLayer name.now (kind_of kind) (index_set_of indexes)) (map_of self.new) (created result) }
         ensures updates { self.new.updates ≡ self.old.updates }
     {
-        if layer_of(self.layers.as_slice(), name).is_some() {
+        if self.layer(name).is_some() {
             return Err(CreateFault::Taken);
         }
         if self.layers.len() >= MOST_LAYERS {
@@ -126,7 +126,7 @@ impl Layers {
     pub fn size(&self, name: &Name) -> Result<u64, AskFault>
         ensures answered { IsAnswered (map_of self.now) (commands.Size name.now) (map_of self.now) (asked replies.Sized result) }
     {
-        match layer_of(self.layers.as_slice(), name) {
+        match self.layer(name) {
             Some(layer) => Ok(layer.len() as u64),
             None => Err(AskFault::NoLayer),
         }
@@ -137,7 +137,7 @@ impl Layers {
         ensures answered { IsAnswered (map_of self.now) (commands.Get name.now id) (map_of self.now)
             (asked (λ shape. replies.Got (model_shape shape)) result) }
     {
-        let Some(layer) = layer_of(self.layers.as_slice(), name) else {
+        let Some(layer) = self.layer(name) else {
             return Err(AskFault::NoLayer);
         };
         match layer.get(id) {
@@ -152,11 +152,14 @@ impl Layers {
     {
         self.updates
     }
-}
 
-/// The layer of a name.
-fn layer_of<'a>(layers: &'a [Layer], name: &Name) -> Option<&'a Layer>
-    ensures { option_map (λ l. l.now) result ≡ named name.now layers.now }
-{
-    layers.iter().find(|layer| layer.has_name(name))
+    /// The layer of a name.
+    fn layer(&self, name: &Name) -> Option<&Layer<P, S>>
+        ensures { option_map (λ l. l.now) result ≡ named name.now self.now.layers }
+    {
+        self.layers
+            .as_slice()
+            .iter()
+            .find(|layer| layer.has_name(name))
+    }
 }

@@ -3,10 +3,16 @@
 #![tactic(auto)]
 
 mod faults;
+mod indexes;
 mod layer;
 mod layers;
+mod named;
+mod questions;
 
 pub use faults::CreateFault;
-pub use layer::{Layer, PointIndexes, SegmentIndexes};
+pub use indexes::{MapLayers, PointIndexes, SegmentIndexes};
+pub use layer::Layer;
 pub use layer_kinds::{AskFault, UpdateFault};
 pub use layers::Layers;
+pub use named::{AnsweringIndexes, NamedIndexes, OverPoints, OverSegments};
+pub use questions::{Answered, AnyAnswer, AnyQuestion, OneQuestion};

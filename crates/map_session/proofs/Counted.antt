@@ -9,7 +9,7 @@ use Rattle.layer_kinds.specs.declared.faults.UpdateFault.{UpdateFault}
 use Rattle.layer_kinds.specs.declared.faults.UpdateFault.TheVariants.{NoLayer, WrongKind, Duplicate, Unknown, Full, NoMemory}
 use Rattle.layer_kinds.specs.Asking.{IsReading}
 use Rattle.layer_kinds.specs.Costs.{IsInBounds}
-use Rattle.map_model.specs.Answer.{Answer}
+use Rattle.map_model.specs.Answer.{Question, Answer}
 use Rattle.map_model.specs.Command.{Command, name_of, takes_memory}
 use Rattle.map_model.specs.Cost.{Cost, Untold, bounds_at, mark_bound}
 use Rattle.map_model.specs.Index.{index_count}
@@ -20,7 +20,7 @@ use Rattle.map_shapes.specs.declared.asked.Asked.{Asked}
 use Rattle.map_shapes.specs.declared.spent.Spent.{Spent}
 use Rattle.map_layers.specs.Costs.{IsCostIn, IsToldIn, IsAskingIn, IsTouchingIn}
 use Rattle.map_layers.specs.Replies.{updated, asked, IsAnswered}
-use Rattle.range_tree.specs.Costs.{question_touches}
+use Rattle.map_layers.specs.Questions.{touches_for}
 use Rattle.map_session.specs.Replies.{update_cost, question_cost}
 use Rattle.map_session.specs.Work.{Work, no_work, bounds_in, asking_in, work_in, work_of, IsTold, IsCounted}
 
@@ -92,9 +92,9 @@ module _ {before after : Counts} where
       }
 
   -- a question that touches so much
-  reading : (layer : Layer) (cost : Cost) → after.touches ≤ before.touches + (asking_in (Some layer)).touches → IsReading (lap_begun before) after
-      → IsTold cost before after → IsCounted (asking_in (Some layer)) cost before after
-  reading layer cost few h told = record {
+  reading : (question : Question) (layer : Layer) (cost : Cost) → after.touches ≤ before.touches + (asking_in question (Some layer)).touches → IsReading (lap_begun before) after
+      → IsTold cost before after → IsCounted (asking_in question (Some layer)) cost before after
+  reading question layer cost few h told = record {
     turns_kept = omega (arith, h.turns);
     marks_kept = omega (arith, h.marks);
     touches_kept = h.touches;
@@ -127,16 +127,16 @@ module _ (old new : State) (command : Command) {before after : Counts} where
         → IfOk result (λ spent. IsToldIn (layer_named (name_of command) old) adding spent (lap_begun before) after) → IsCounted (work_of old command) (update_cost result) before after
     update_counted result is cost told = update_by (layer_named (name_of command) old) refl result (update_accepted old new command result is) cost told
 
-  module _ {T : Type 0} (takes : (layer : Option Layer) → work_in command layer ≡ asking_in layer) (most : T × Asked → ℕ → ℕ → ℕ) (answer : T × Asked → Answer) where
+  module _ {T : Type 0} (question : Question) (takes : (layer : Option Layer) → work_in command layer ≡ asking_in question layer) (most : T × Asked → ℕ → ℕ → ℕ) (answer : T × Asked → Answer) where
     question_by : (o : Option Layer) → layer_named (name_of command) old ≡ o → (result : Result (T × Asked) AskFault) → IsAnswered old command old (asked (λ given. Answered (answer given)) result)
-        → IsTouchingIn o question_touches result (lap_begun before) after → IsReading (lap_begun before) after
+        → IsTouchingIn o (touches_for question) result (lap_begun before) after → IsReading (lap_begun before) after
         → IfOk result (λ given. IsAskingIn o (most given) given.1 (lap_begun before) after) → IsCounted (work_of old command) (question_cost result) before after
     question_by None is (Ok given) answered touching reads told = absurd told
     question_by None is (Err fault) answered touching reads told = quiet (work_of old command) touching
     question_by (Some layer) is (Ok given) answered touching reads told =
         subst (λ w. IsCounted w (question_cost {F = AskFault} (Ok given)) before after)
         (sym (accepted_work old new command (Some layer) is (ap (λ (o : Outcome). is_refusal o.reply) answered) ∙ takes (Some layer)))
-        (reading layer (question_cost {F = AskFault} (Ok given)) touching reads (told.turns, told.marks, told.touches))
+        (reading question layer (question_cost {F = AskFault} (Ok given)) touching reads (told.turns, told.marks, told.touches))
     question_by (Some layer) is (Err ask.NoLayer) answered touching reads told = quiet (work_of old command) touching
     question_by (Some layer) is (Err ask.WrongKind) answered touching reads told = quiet (work_of old command) touching
     question_by (Some layer) is (Err ask.NoIndex) answered touching reads told = quiet (work_of old command) touching
@@ -144,9 +144,9 @@ module _ (old new : State) (command : Command) {before after : Counts} where
     question_by (Some layer) is (Err ask.NoMemory) answered touching reads told =
         subst (λ w. IsCounted w Untold before after)
         (sym (accepted_work old new command (Some layer) is (unrefused (takes_memory command) (is_refusal (step old command).reply) answered.0) ∙ takes (Some layer)))
-        (reading layer Untold touching reads tt)
+        (reading question layer Untold touching reads tt)
 
     pub question_counted : (result : Result (T × Asked) AskFault) → IsAnswered old command old (asked (λ given. Answered (answer given)) result)
-        → IsTouchingIn (layer_named (name_of command) old) question_touches result (lap_begun before) after → IsReading (lap_begun before) after
+        → IsTouchingIn (layer_named (name_of command) old) (touches_for question) result (lap_begun before) after → IsReading (lap_begun before) after
         → IfOk result (λ given. IsAskingIn (layer_named (name_of command) old) (most given) given.1 (lap_begun before) after) → IsCounted (work_of old command) (question_cost result) before after
     question_counted result answered touching reads told = question_by (layer_named (name_of command) old) refl result answered touching reads told

@@ -119,6 +119,11 @@ whole_answered start now text rest p unended =
     subst (λ (ls : List (List ℕ)). IsAnswered start ls now)
     (sym (p.whole ∙ ap (λ (ls : List (List ℕ)). p.answered ++ ls) (whole_lines-rest rest unended) ∙ append-nil p.answered)) p.answers
 
+-- nothing is left
+pub all_answered : (start now : Moment) (text rest : List ℕ) → Progress start text rest now → length rest ≡ 0 → IsAnswered start (lines text) now
+all_answered start now text [] p none = subst (λ (ls : List (List ℕ)). IsAnswered start ls now) (sym (p.all ∙ append-nil p.answered)) p.answers
+all_answered start now text (byte ∷ rest) p none = absurd (omega (arith, none))
+
 -- a text with no line feed that isn't empty is one line
 pub one_last : (rest : List ℕ) → one_line rest ≡ true → 0 < length rest → lines rest ≡ rest ∷ []
 one_last [] unended some = absurd (omega arith)

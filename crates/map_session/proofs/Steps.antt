@@ -6,7 +6,7 @@ use Rattle.map_model.specs.State.{Layer, State, layer_named}
 use Rattle.map_model.specs.Answer.{Answer}
 use Rattle.map_model.specs.Command.{Command, name_of}
 use Rattle.map_model.specs.Refusal.{NoMemory}
-use Rattle.map_model.specs.Cost.{Cost}
+use Rattle.map_model.specs.Cost.{Cost, Untold}
 use Rattle.map_model.specs.Reply.{Reply, Answered, Refused}
 use Rattle.map_model.specs.Machine.{Outcome, step}
 use Rattle.map_model.specs.Output.{Told, AnswersTo, IsCost, adds}
@@ -16,8 +16,9 @@ use Rattle.answer_text.specs.declared.reply.Reply as replies
 use Rattle.answer_text.specs.Reply.{reply_of, cost_of}
 use Rattle.layer_kinds.specs.declared.faults.AskFault.{AskFault}
 use Rattle.layer_kinds.specs.declared.faults.UpdateFault.{UpdateFault}
+use Rattle.map_layers.specs.declared.faults.CreateFault.{CreateFault}
 use Rattle.map_layers.specs.Costs.{IsToldIn, IsAskingIn}
-use Rattle.map_layers.specs.Replies.{updated, asked, IsAnswered}
+use Rattle.map_layers.specs.Replies.{created, updated, asked, IsAnswered}
 use Rattle.map_session.specs.Replies.{update_cost, question_cost}
 use Rattle.map_session.specs.Session.{given_by}
 
@@ -61,3 +62,14 @@ module _ {T : Type 0} (layer : Option Layer) (most : T × Asked → ℕ → ℕ 
     ] asking
     | Err fault ↦ λ asking. refl
   ] cost
+
+-- ---- other commands
+
+pub made_allowed : {T : Type 0} (layer : Option Layer) (outcome : Result T CreateFault) → IsCost layer false (created outcome) Untold
+made_allowed layer (Ok done) = refl
+made_allowed layer (Err fault) = refl
+
+pub reading_allowed : {T : Type 0} (layer : Option Layer) (reply : T → Reply) → ((t : T) → IsCost layer false (reply t) Untold) → (outcome : Result T AskFault)
+    → IsCost layer false (asked reply outcome) Untold
+reading_allowed layer reply each (Ok t) = each t
+reading_allowed layer reply each (Err fault) = refl

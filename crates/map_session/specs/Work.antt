@@ -4,7 +4,8 @@ use Rattle.query_laws.specs.StepLedger.{Counts}
 use Rattle.map_kinds.specs.Touches.{touches_at}
 use Rattle.layer_kinds.specs.Asking.{most_of}
 use Rattle.map_layers.specs.Costs.{most_in}
-use Rattle.range_tree.specs.Costs.{question_touches}
+use Rattle.map_layers.specs.Questions.{touches_for}
+use Rattle.map_model.specs.Answer.{Question}
 use Rattle.map_model.specs.State.{Layer, State, layer_named, live_count}
 use Rattle.map_model.specs.Command.{Command, MakeLayer, Add, Drop, Ask, Get, Size, Recent, name_of}
 use Rattle.map_model.specs.Cost.{Cost, Untold, Updating, Asking, bounds_at, turn_bound, mark_bound}
@@ -47,15 +48,15 @@ bounds_in (Some layer) = record {
 }
 
 -- the same of a question
-abbrev pub asking_in : Option Layer → Work
-asking_in None = no_work
-asking_in (Some layer) = record no_work { touches = most_in layer (λ level n. most_of (question_touches level) n) }
+abbrev pub asking_in : Question → Option Layer → Work
+asking_in question None = no_work
+asking_in question (Some layer) = record no_work { touches = most_in layer (λ level n. most_of (touches_for question level) n) }
 
 abbrev pub work_in : Command → Option Layer → Work
 work_in (MakeLayer name kind indexes) layer = no_work
 work_in (Add name id shape) layer = bounds_in layer
 work_in (Drop name id) layer = bounds_in layer
-work_in (Ask name question) layer = asking_in layer
+work_in (Ask name question) layer = asking_in question layer
 work_in (Get name id) layer = no_work
 work_in (Size name) layer = no_work
 work_in (Recent name k) layer = no_work

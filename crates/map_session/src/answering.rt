@@ -5,13 +5,14 @@ ghost use Rattle.map_session.specs.Answering.{moment, Progress, IsAnswered, IsSt
 
 use crate::Session;
 use map_io::{Sink, WriteFault};
+use map_layers::{OverPoints, OverSegments};
 use memchr::memchr;
 use query_laws::step_ledger::Steps;
 use std::sync::ledger::Ledger;
 
 /// Answers every line of a text, a last one without a line feed too.
-pub fn answer_lines<K: Sink, L: Ledger>(
-    session: &mut Session,
+pub fn answer_lines<P: OverPoints, S: OverSegments, K: Sink, L: Ledger>(
+    session: &mut Session<P, S>,
     text: &[u8],
     sink: &mut K,
     steps: &mut Steps<L>,
@@ -28,8 +29,8 @@ pub fn answer_lines<K: Sink, L: Ledger>(
 }
 
 /// Answers the lines of a text that a line feed ended.
-pub fn answer_whole_lines<K: Sink, L: Ledger>(
-    session: &mut Session,
+pub fn answer_whole_lines<P: OverPoints, S: OverSegments, K: Sink, L: Ledger>(
+    session: &mut Session<P, S>,
     text: &[u8],
     sink: &mut K,
     steps: &mut Steps<L>,
@@ -43,8 +44,8 @@ pub fn answer_whole_lines<K: Sink, L: Ledger>(
 }
 
 /// Answers the lines of a text that a line feed ended, and gives what comes after the last of them.
-fn answer_ended_lines<'a, K: Sink, L: Ledger>(
-    session: &mut Session,
+fn answer_ended_lines<'a, P: OverPoints, S: OverSegments, K: Sink, L: Ledger>(
+    session: &mut Session<P, S>,
     text: &'a [u8],
     sink: &mut K,
     steps: &mut Steps<L>,

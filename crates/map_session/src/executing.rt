@@ -12,16 +12,20 @@ ghost use Rattle.map_session.specs.Built.{built, is_built_layer};
 ghost use Rattle.map_session.specs.Work.{work_said, is_update_said, IsCounted};
 ghost use Rattle.map_session.specs.Session.{given_by};
 
-use crate::replying::{counted, got, listed, made, refused, sized, summed, updated};
+use crate::replying::{answered, got, made, refused, sized, updated};
 use answer_text::{Refusal, Reply};
-use map_layers::Layers;
-use map_shapes::{IndexSet, Kind, Shape};
+use map_layers::{AnyQuestion, Layers, OverPoints, OverSegments};
+use map_shapes::{CountIn, IndexSet, Kind, ListIn, Shape, SumIn};
 use query_laws::step_ledger::Steps;
 use script_lang::Command;
 use std::sync::ledger::Ledger;
 
 /// Executes a command that a line can say.
-pub fn execute<L: Ledger>(layers: &mut Layers, command: &Command, steps: &mut Steps<L>) -> Reply
+pub fn execute<P: OverPoints, S: OverSegments, L: Ledger>(
+    layers: &mut Layers<P, S>,
+    command: &Command,
+    steps: &mut Steps<L>,
+) -> Reply
     requires few { layers.old.updates < 2 ^ 40 }
     requires lawful { IsCommand (command_of command.now) }
     ensures answered { AnswersTo (map_of layers.old) (built (Ok (Some (command_of command.now)))) (given_by (Some result) (map_of layers.new)) }
@@ -33,25 +37,42 @@ pub fn execute<L: Ledger>(layers: &mut Layers, command: &Command, steps: &mut St
             name,
             kind,
             indexes,
-        } if is_built(kind, indexes) => made(layers.create(&name, kind, indexes)),
+        } => {
+            if is_built(kind, indexes) {
+                made(layers.create(&name, kind, indexes))
+            } else {
+                refused(Refusal::Command)
+            }
+        }
         Command::Add { name, id, x, y, w } => {
             updated(layers.add(&name, id, Shape::Point { x, y, w }, steps))
         }
         Command::Drop { name, id } => updated(layers.remove(&name, id, steps)),
-        Command::Count { name, rect } => counted(layers.count(&name, &rect, steps)),
-        Command::Sum { name, rect } => summed(layers.sum(&name, &rect, steps)),
-        Command::List { name, rect } => listed(layers.list(&name, &rect, steps)),
+        Command::Count { name, rect } => answered(layers.ask(
+            &name,
+            &AnyQuestion::CountIn(CountIn(rect)),
+            steps,
+        )),
+        Command::Sum { name, rect } => answered(layers.ask(
+            &name,
+            &AnyQuestion::SumIn(SumIn(rect)),
+            steps,
+        )),
+        Command::List { name, rect } => answered(layers.ask(
+            &name,
+            &AnyQuestion::ListIn(ListIn(rect)),
+            steps,
+        )),
         Command::Get { name, id } => got(layers.get(&name, id)),
         Command::Size { name } => sized(layers.size(&name)),
-        Command::Layer { .. }
-        | Command::Seg { .. }
-        | Command::Near { .. }
-        | Command::Nearest { .. }
-        | Command::Above { .. }
-        | Command::Top { .. }
-        | Command::Stab { .. }
-        | Command::StabCount { .. }
-        | Command::Recent { .. } => refused(Refusal::Command),
+        Command::Seg { .. } => refused(Refusal::Command),
+        Command::Near { .. } => refused(Refusal::Command),
+        Command::Nearest { .. } => refused(Refusal::Command),
+        Command::Above { .. } => refused(Refusal::Command),
+        Command::Top { .. } => refused(Refusal::Command),
+        Command::Stab { .. } => refused(Refusal::Command),
+        Command::StabCount { .. } => refused(Refusal::Command),
+        Command::Recent { .. } => refused(Refusal::Command),
     }
 }
 

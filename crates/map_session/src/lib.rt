@@ -18,7 +18,11 @@ mod replying;
 mod session;
 
 pub use answering::{answer_lines, answer_whole_lines, split_line};
+pub use map_layers::{OverPoints, OverSegments, PointIndexes, SegmentIndexes};
 pub use session::{Done, Session};
+
+/// A session over all kinds of index.
+pub type MapSession = Session<PointIndexes, SegmentIndexes>;
 
 /// What a session answers is an output of the definitions, and where writing stopped a part of one. A line whose command isn't
 /// built says as little as one without a command word.

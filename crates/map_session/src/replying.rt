@@ -1,24 +1,20 @@
 //! What lines and the calls of layers are replied.
 ghost use Rattle.std.specs.Prelude.{◌≡◌};
-ghost use Rattle.map_model.specs.Answer as answers;
-ghost use Rattle.map_model.specs.Cost.{Untold};
+ghost use Rattle.map_model.specs.Cost.{Asking, Untold};
 ghost use Rattle.map_model.specs.Refusal as refusals;
 ghost use Rattle.map_model.specs.Reply as replies;
+ghost use Rattle.map_shapes.specs.Cost.{asked_of};
 ghost use Rattle.map_shapes.specs.Shape.{model_shape};
 ghost use Rattle.script_lang.specs.LineFault.{fault_of};
+ghost use Rattle.map_layers.specs.Questions.{answer_of};
 ghost use Rattle.map_layers.specs.Replies as layers;
 ghost use Rattle.answer_text.specs.Reply.{refusal_of, reply_of, cost_of};
 ghost use Rattle.map_session.specs.Replies.{update_cost, question_cost};
 
 use answer_text::{Refusal, Reply};
-use builder_trait::Given;
-use map_layers::{AskFault, CreateFault, UpdateFault};
-use map_shapes::{Asked, CountIn, ListIn, Shape, Spent, SumIn};
-use range_tree::RangePart;
+use map_layers::{Answered, AnyAnswer, AskFault, CreateFault, UpdateFault};
+use map_shapes::{Asked, Shape, Spent};
 use script_lang::LineFault;
-
-/// An answer from the index for rectangles, or why there is none.
-type InRange<Q> = Result<(Given<RangePart, Q>, Asked), AskFault>;
 
 /// That a line has a fault.
 pub fn faulty(fault: LineFault) -> Reply
@@ -74,45 +70,26 @@ fn refusal_of_update(fault: UpdateFault) -> Refusal
     }
 }
 
-/// How many points there are, or why that isn't told.
-pub fn counted(outcome: InRange<CountIn>) -> Reply
-    ensures reply { reply_of result ≡ layers.asked (λ given. replies.Answered (answers.Counted given.0.answer)) outcome }
+/// What a question is answered, or why it isn't.
+pub fn answered(outcome: Result<(Answered, Asked), AskFault>) -> Reply
+    ensures reply { reply_of result ≡ layers.asked (λ given. replies.Answered given.0.answer) outcome }
     ensures cost { cost_of result ≡ question_cost outcome }
 {
     match outcome {
-        Ok((given, asked)) => Reply::Count {
-            n: given.into_answer(),
-            asked,
-        },
+        Ok((given, asked)) => with_cost(given.into_answer(), asked),
         Err(fault) => refused(refusal_of_question(fault)),
     }
 }
 
-/// What points weigh, or why that isn't told.
-pub fn summed(outcome: InRange<SumIn>) -> Reply
-    ensures reply { reply_of result ≡ layers.asked (λ given. replies.Answered (answers.Summed given.0.answer)) outcome }
-    ensures cost { cost_of result ≡ question_cost outcome }
+/// An answer, beside what it cost.
+fn with_cost(answer: AnyAnswer, asked: Asked) -> Reply
+    ensures reply { reply_of result ≡ replies.Answered (answer_of answer) }
+    ensures cost { cost_of result ≡ Asking (asked_of asked) }
 {
-    match outcome {
-        Ok((given, asked)) => Reply::Sum {
-            n: given.into_answer(),
-            asked,
-        },
-        Err(fault) => refused(refusal_of_question(fault)),
-    }
-}
-
-/// Which points there are, or why that isn't told.
-pub fn listed(outcome: InRange<ListIn>) -> Reply
-    ensures reply { reply_of result ≡ layers.asked (λ given. replies.Answered (answers.Listed given.0.answer)) outcome }
-    ensures cost { cost_of result ≡ question_cost outcome }
-{
-    match outcome {
-        Ok((given, asked)) => Reply::List {
-            ids: given.into_answer(),
-            asked,
-        },
-        Err(fault) => refused(refusal_of_question(fault)),
+    match answer {
+        AnyAnswer::Counted(n) => Reply::Count { n, asked },
+        AnyAnswer::Summed(n) => Reply::Sum { n, asked },
+        AnyAnswer::Listed(ids) => Reply::List { ids, asked },
     }
 }
 

@@ -3,7 +3,7 @@ use crate::executing::execute;
 use crate::replying::faulty;
 use answer_text::{Reply, write_reply};
 use map_io::{Sink, WriteFault};
-use map_layers::Layers;
+use map_layers::{Layers, OverPoints, OverSegments};
 use query_laws::step_ledger::Steps;
 use script_lang::{Command, parse};
 use std::alloc::Global;
@@ -21,18 +21,18 @@ pub enum Done {
     Refused,
 }
 
-/// The layers of a map, and how many commands and lines made them.
+/// The layers of a map over these indexes, and how many commands and lines made them.
 ///
 /// It holds no other copy of the shapes.
 #[derive(Drop)]
-pub struct Session {
-    layers: Layers,
+pub struct Session<P: OverPoints, S: OverSegments> {
+    layers: Layers<P, S>,
     ledger: bool,
     lines: u64,
     refused: u64,
 }
 
-impl Model for Session {
+impl<P: OverPoints, S: OverSegments> Model for Session<P, S> {
     ghost use Rattle.std.specs.Prelude.{◌≤◌};
     ghost use Rattle.map_session.specs.Session.{SessionState};
 
@@ -43,7 +43,7 @@ impl Model for Session {
     ghost invariant = { λ s. (s.refused ≤ s.lines) × (s.layers.updates ≤ s.lines) };
 }
 
-impl Session {
+impl<P: OverPoints, S: OverSegments> Session<P, S> {
     ghost use Rattle.std.specs.Prelude.{◌≡◌, ◌↔◌, ◌+◌, ◌<◌, ◌^◌, IfOk, OnErr, Ok, None, Some};
     ghost use Rattle.map_model.specs.Index.{one_if};
     ghost use Rattle.map_model.specs.Line.{IsCommand};
@@ -59,7 +59,7 @@ impl Session {
 
     /// A session without layers, whose written replies tell what they cost, or don't. It takes no memory; updates take theirs
     /// from `alloc`.
-    pub fn new(alloc: Global, ledger: bool) -> Session
+    pub fn new(alloc: Global, ledger: bool) -> Session<P, S>
         ensures { result ≡ new_session ledger }
     {
         Session {
@@ -85,7 +85,7 @@ impl Session {
     }
 
     /// The layers.
-    pub fn layers(&self) -> &Layers
+    pub fn layers(&self) -> &Layers<P, S>
         ensures { result.now ≡ self.now.layers }
     {
         &self.layers

@@ -4,8 +4,11 @@ ghost use Rattle.map_model.specs.Index.{fits};
 ghost use Rattle.map_shapes.specs.IndexSet.{index_set_of};
 ghost use Rattle.map_shapes.specs.Kind.{kind_of};
 
-use map_layers::{AskFault, CreateFault, Layers, UpdateFault};
-use map_shapes::{Asked, IndexSet, Kind, Name, Rect, Shape, Spent};
+use map_layers::{
+    AnyAnswer, AnyQuestion, AskFault, CreateFault, Layers, MapLayers, OverPoints, OverSegments,
+    UpdateFault,
+};
+use map_shapes::{Asked, CountIn, IndexSet, Kind, ListIn, Name, Rect, Shape, Spent, SumIn};
 use query_laws::step_ledger::{SHARES, Steps, blank};
 use std::alloc::Global;
 use std::marker::Brand;
@@ -20,10 +23,10 @@ const RANGE: IndexSet = IndexSet {
 };
 
 /// A map with one layer, and no updates yet.
-fn with_layer(alloc: Global, name: &Name) -> Result<Layers, CreateFault>
+fn with_layer(alloc: Global, name: &Name) -> Result<MapLayers, CreateFault>
     ensures { IfOk result (λ layers. layers.updates ≡ 0) }
 {
-    let mut layers = Layers::new(alloc);
+    let mut layers = MapLayers::new(alloc);
     layers.create(name, Kind::Points, RANGE)?;
     Ok(layers)
 }
@@ -52,7 +55,7 @@ fn updates_seen<L: Ledger>(
 
 /// Three points, one of them outside the rectangle that is asked for below.
 fn three_points<L: Ledger>(
-    layers: &mut Layers,
+    layers: &mut MapLayers,
     name: &Name,
     steps: &mut Steps<L>,
 ) -> Result<(), UpdateFault>
@@ -65,12 +68,23 @@ fn three_points<L: Ledger>(
     Ok(())
 }
 
-/// How many points of three are in a rectangle, what they weigh, which they are, and what the count cost.
+/// What a question is answered, and what that cost.
+fn answer_to<P: OverPoints, S: OverSegments, L: Ledger>(
+    layers: &Layers<P, S>,
+    name: &Name,
+    question: &AnyQuestion,
+    steps: &mut Steps<L>,
+) -> Result<(AnyAnswer, Asked), AskFault> {
+    let (given, asked) = layers.ask(name, question, steps)?;
+    Ok((given.into_answer(), asked))
+}
+
+/// How many points of three are in a rectangle, what they weigh, which they are, and what each answer cost.
 fn questions_seen<L: Ledger>(
     alloc: Global,
     name: &Name,
     blank: Blank,
-) -> Result<(u64, u64, Vec<u64>, Asked), Fail>
+) -> Result<[(AnyAnswer, Asked); 3], Fail>
     requires name { blank.name ≡ L.name }
     requires parts { blank.parts ≡ L.parts }
     requires shares { blank.parts ≡ SHARES }
@@ -84,15 +98,14 @@ fn questions_seen<L: Ledger>(
         x2: 4,
         y2: 2,
     };
-    let (counted, asked) = layers.count(name, &rect, &mut steps)?;
-    let (summed, _) = layers.sum(name, &rect, &mut steps)?;
-    let (listed, _) = layers.list(name, &rect, &mut steps)?;
-    Ok((
-        counted.into_answer(),
-        summed.into_answer(),
-        listed.into_answer().into_vec(),
-        asked,
-    ))
+    let count = AnyQuestion::CountIn(CountIn(rect));
+    let sum = AnyQuestion::SumIn(SumIn(rect));
+    let list = AnyQuestion::ListIn(ListIn(rect));
+    Ok([
+        answer_to(&layers, name, &count, &mut steps)?,
+        answer_to(&layers, name, &sum, &mut steps)?,
+        answer_to(&layers, name, &list, &mut steps)?,
+    ])
 }
 
 /// The size of the layer, the shape of a point, that of one which isn't there, and how many updates there were.
@@ -130,7 +143,7 @@ fn kind_seen<L: Ledger>(
     requires shares { blank.parts ≡ SHARES }
 {
     let mut steps = Steps::<L>::new(blank);
-    let mut layers = Layers::new(alloc);
+    let mut layers = MapLayers::new(alloc);
     layers.create(name, kind, indexes)?;
     let point = Shape::Point { x: 1, y: 2, w: 3 };
     let segment = Shape::Segment { lo: 1, hi: 2, y: 3 };
@@ -143,7 +156,8 @@ fn kind_seen<L: Ledger>(
         x2: 9,
         y2: 9,
     };
-    let is_counted = layers.count(name, &rect, &mut steps).is_ok();
+    let count = AnyQuestion::CountIn(CountIn(rect));
+    let is_counted = layers.ask(name, &count, &mut steps).is_ok();
     Ok((
         [first, second, layers.remove(name, 7, &mut steps)],
         shape,
@@ -181,7 +195,7 @@ fn points_have_three_indexes(rt: HostRuntime) -> Result<(), Fail> {
         indexes,
         blank(),
     )?;
-    assert_eq!(rt; updates[0], Ok(spent_in(3, 9, 0)));
+    assert!(rt; takes(updates[0], 3, 9, 24));
     assert_eq!(rt; updates[1], Err(UpdateFault::WrongKind));
     assert_eq!(rt; updates[2], Ok(spent_in(3, 0, 3)));
     assert_eq!(rt; shape, Shape::Point { x: 1, y: 2, w: 3 });
@@ -205,11 +219,23 @@ fn segments_have_one(rt: HostRuntime) -> Result<(), Fail> {
         blank(),
     )?;
     assert_eq!(rt; updates[0], Err(UpdateFault::WrongKind));
-    assert_eq!(rt; updates[1], Ok(spent_in(1, 3, 0)));
+    assert!(rt; takes(updates[1], 1, 3, 8));
     assert_eq!(rt; updates[2], Ok(spent_in(1, 0, 1)));
     assert_eq!(rt; shape, Shape::Segment { lo: 1, hi: 2, y: 3 });
     assert!(rt; !is_counted);
     Ok(())
+}
+
+/// Whether an add to so many indexes took a number of turns between two, and no mark.
+fn takes(outcome: Result<Spent, UpdateFault>, indexes: u8, least: u64, most: u64) -> bool {
+    match outcome {
+        Ok(spent) => {
+            least <= spent.turns
+                && spent.turns <= most
+                && spent == spent_in(indexes, spent.turns, 0)
+        }
+        Err(_) => false,
+    }
 }
 
 /// Turns and marks, beside the bounds of a layer with so many indexes and at most two items.
@@ -222,14 +248,26 @@ fn spent_in(indexes: u8, turns: u64, marks: u64) -> Spent {
     }
 }
 
+/// Whether an answer lists these identifiers.
+fn is_list(answer: &AnyAnswer, ids: &[u64]) -> bool {
+    match answer {
+        AnyAnswer::Listed(found) => found.as_slice() == ids,
+        _ => false,
+    }
+}
+
 /// After three inserts there are two complete parts, and the level is at most 4.
 #[test]
 fn questions_are_answered(rt: HostRuntime) -> Result<(), Fail> {
     let name = Name::read(b"shops").expect(&rt, "a name");
-    let (counted, summed, listed, asked) = questions_seen::<Brand>(rt.alloc(), &name, blank())?;
-    assert_eq!(rt; counted, 2);
-    assert_eq!(rt; summed, 8);
-    assert_eq!(rt; listed.as_slice(), [3, 7].as_slice());
+    let [(counted, asked), (summed, _), (listed, _)] = questions_seen::<Brand>(
+        rt.alloc(),
+        &name,
+        blank(),
+    )?;
+    assert!(rt; matches!(counted, AnyAnswer::Counted(2)));
+    assert!(rt; matches!(summed, AnyAnswer::Summed(8)));
+    assert!(rt; is_list(&listed, &[3, 7]));
     assert_eq!(rt; (asked.parts, asked.part_bound), (2, 15));
     assert!(rt; asked.touches > 0);
     Ok(())
@@ -248,7 +286,7 @@ fn readings_are_answered(rt: HostRuntime) -> Result<(), Fail> {
 
 #[test]
 fn eight_layers_are_made(rt: HostRuntime) -> Result<(), Fail> {
-    let mut layers = Layers::new(rt.alloc());
+    let mut layers = MapLayers::new(rt.alloc());
     for word in [b"a", b"b", b"c", b"d", b"e", b"f", b"g", b"h"] {
         let name = Name::read(word).expect(&rt, "a name");
         assert_eq!(rt; layers.create(&name, Kind::Points, RANGE), Ok(()));

@@ -2,7 +2,7 @@
 ghost use Rattle.std.specs.Prelude.{◌≡◌, ◌<◌, ◌^◌, length};
 
 use map_io::{MemSink, WriteFault};
-use map_session::{Done, Session, answer_lines};
+use map_session::{Done, MapSession, answer_lines};
 use query_laws::step_ledger::{SHARES, Steps, blank};
 use std::alloc::Global;
 use std::marker::Brand;
@@ -17,7 +17,7 @@ fn answers<L: Ledger>(alloc: Global, script: &[u8], blank: Blank) -> Result<Stri
     requires short { length script.now < 2 ^ 40 }
 {
     let mut steps = Steps::<L>::new(blank);
-    let mut session = Session::new(alloc, true);
+    let mut session = MapSession::new(alloc, true);
     let mut sink = MemSink::new(vec![in alloc; 0u8; 4096]?, 4096, Vec::new(alloc));
     answer_lines(&mut session, script, &mut sink, &mut steps)?;
     Ok(String::from_str(alloc, str::from_utf8(sink.written())?)?)
@@ -87,7 +87,7 @@ fn outlives<L: Ledger>(alloc: Global, blank: Blank) -> Result<Seen, Fail>
     requires shares { blank.parts ≡ SHARES }
 {
     let mut steps = Steps::<L>::new(blank);
-    let mut session = Session::new(alloc, false);
+    let mut session = MapSession::new(alloc, false);
     let mut failing = MemSink::new(vec![in alloc; 0u8; 9]?, 9, vec![in alloc; 1u64]?);
     let first = session.line(b"layer a points range", &mut failing, &mut steps);
     let mut sink = MemSink::new(vec![in alloc; 0u8; 99]?, 99, Vec::new(alloc));

@@ -1,7 +1,7 @@
 //! Example scripts beside the answers that are expected.
 use crate::bench::Bench;
 use map_io::MemSink;
-use map_session::{Session, answer_lines};
+use map_session::{MapSession, answer_lines};
 use samples::{Failure, expect_same};
 use std::fs;
 use std::rt::Files;
@@ -42,7 +42,7 @@ fn check_example<R: Clock + Files + AllocGlobal, L: Ledger>(
     }
     let space = vec![in alloc; 0u8; wanted.len()]?;
     let mut sink = MemSink::new(space, usize::MAX, Vec::new(alloc));
-    let mut session = Session::new(alloc, false);
+    let mut session = MapSession::new(alloc, false);
     let done = answer_lines(&mut session, &script, &mut sink, &mut bench.steps);
     let is_same = done.is_ok() && sink.written() == wanted.as_slice();
     expect_same(alloc, name, &[u64::from(is_same)], &[1])

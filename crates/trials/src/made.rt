@@ -2,7 +2,7 @@
 use crate::bench::Bench;
 use crate::script::give_line;
 use map_io::MemSink;
-use map_session::Session;
+use map_session::MapSession;
 use map_shapes::{Point, Rect};
 use query_laws::step_ledger::Steps;
 use samples::{Failure, Generator, Order, expect_same, play};
@@ -24,7 +24,7 @@ pub fn check_made_script<R: Clock, L: Ledger>(
 ) -> Result<(), Failure> {
     let (alloc, steps) = (bench.alloc, &mut bench.steps);
     let size = lines as usize * ANSWER;
-    let mut session = Session::new(alloc, false);
+    let mut session = MapSession::new(alloc, false);
     let mut sink = MemSink::new(vec![in alloc; 0u8; size]?, usize::MAX, Vec::new(alloc));
     let mut answers = String::with_capacity(alloc, size)?;
     let mut generator = Generator::new(seed);

@@ -3,7 +3,7 @@ ghost use Rattle.map_io.specs.SinkTold.{told_by_faults};
 
 use crate::bench::Bench;
 use map_io::{Failed, Sink};
-use map_session::Session;
+use map_session::MapSession;
 use query_laws::step_ledger::Steps;
 use samples::{Costs, Failure};
 use script_lang::split_word;
@@ -41,7 +41,7 @@ pub fn measure_script<R: Clock + Files + AllocGlobal, L: Ledger>(
     for word in WORDS.split_ascii_whitespace() {
         table.push((word, Costs::new(bench.alloc)))?;
     }
-    let mut session = Session::new(bench.alloc, false);
+    let mut session = MapSession::new(bench.alloc, false);
     for line in script.split(|byte| *byte == b'\n') {
         run_line(bench, &mut session, line, &mut table)?;
     }
@@ -54,7 +54,7 @@ pub fn measure_script<R: Clock + Files + AllocGlobal, L: Ledger>(
 /// Gives a line to a session, and takes in what it cost where it is told of.
 fn run_line<R: Clock, L: Ledger>(
     bench: &mut Bench<R, L>,
-    session: &mut Session,
+    session: &mut MapSession,
     line: &[u8],
     table: &mut [(&str, Costs)],
 ) -> Result<(), Failure> {
@@ -74,7 +74,7 @@ fn run_line<R: Clock, L: Ledger>(
 
 /// Gives a line to a session. `Unfit` where it has had 2^40.
 pub fn give_line<K: Sink, L: Ledger>(
-    session: &mut Session,
+    session: &mut MapSession,
     line: &[u8],
     sink: &mut K,
     steps: &mut Steps<L>,

@@ -11,7 +11,7 @@ ghost use Rattle.map_layers.specs.Costs.{IsCostIn, IsToldIn};
 ghost use Rattle.map_layers.specs.Replies.{updated, IsAnswered};
 
 use super::MOST_LAYERS;
-use crate::{Layer, UpdateFault};
+use crate::{Layer, OverPoints, OverSegments, UpdateFault};
 use arrayvec::ArrayVec;
 use map_shapes::{Name, Shape, Spent};
 use query_laws::step_ledger::Steps;
@@ -19,8 +19,8 @@ use std::alloc::Global;
 use std::sync::ledger::Ledger;
 
 /// Adds an item at the end of the layer of a name, where there is one.
-pub(super) fn add_in<L: Ledger>(
-    layers: &mut ArrayVec<Layer, MOST_LAYERS, Global>,
+pub(super) fn add_in<P: OverPoints, S: OverSegments, L: Ledger>(
+    layers: &mut ArrayVec<Layer<P, S>, MOST_LAYERS, Global>,
     name: &Name,
     id: u64,
     shape: Shape,
@@ -43,8 +43,8 @@ pub(super) fn add_in<L: Ledger>(
 }
 
 /// Takes the item with an identifier out of the layer of a name, where there is one.
-pub(super) fn remove_in<L: Ledger>(
-    layers: &mut ArrayVec<Layer, MOST_LAYERS, Global>,
+pub(super) fn remove_in<P: OverPoints, S: OverSegments, L: Ledger>(
+    layers: &mut ArrayVec<Layer<P, S>, MOST_LAYERS, Global>,
     name: &Name,
     id: u64,
     steps: &mut Steps<L>,
@@ -64,7 +64,7 @@ pub(super) fn remove_in<L: Ledger>(
 }
 
 /// Where the layer of a name is.
-fn place_of(layers: &[Layer], name: &Name) -> Option<usize>
+fn place_of<P: OverPoints, S: OverSegments>(layers: &[Layer<P, S>], name: &Name) -> Option<usize>
     ensures place { result ≡ place_named name.now layers.now }
     ensures within { IfSome result (λ k. k < length layers.now) }
 {

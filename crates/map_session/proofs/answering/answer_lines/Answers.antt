@@ -1,8 +1,8 @@
-use Rattle.std.proofs.Common.{◌<◌, length, sym, ◌∙◌, pos_of_ne-zero}
-use Rattle.std.proofs.lemmas.Bool.{eqb-false}
+use Rattle.std.proofs.Common.{rules, ◌≡◌, ◌<◌, length, sym, ◌∙◌, pos_of_ne-zero}
+use Rattle.std.proofs.lemmas.Bool.{eqb-false, eqb-true}
 use Rattle.std.proofs.lemmas.Result.{err_from_is_err_and}
 use Rattle.map_session.specs.Answering.{Moment, moment}
-use Rattle.map_session.proofs.Lines.{last_answered, stopped_last, stopped_in_text}
+use Rattle.map_session.proofs.Lines.{all_answered, last_answered, stopped_last, stopped_in_text}
 use Rattle.map_session.proofs.answering.answer_lines.Goals as goal
 
 pub returns-in_err-rest-clause-stopped : goal.returns-in_err-rest-clause-stopped
@@ -26,3 +26,9 @@ returns-in_ok-line-clause-answered g c =
     let done = c.in_ok-line.ensures.done in
     let new : Moment = moment c.line.new.self (g.K.Sink.told c.line.new.sink) c.line.new.steps in
     last_answered _ _ new c.args.text.now rest done.0 c.in_ok-rest.ensures.progress c.in_ok-rest.ensures.unended some done.1 done.3
+
+pub returns-else-not-is_empty-clause-answered : goal.returns-else-not-is_empty-clause-answered
+returns-else-not-is_empty-clause-answered g c =
+    let rest = c.in_ok-rest.rest.now in
+    let none : length rest ≡ 0 = eqb-true (length rest) 0 (search rules) in
+    all_answered _ _ c.args.text.now rest c.in_ok-rest.ensures.progress none

@@ -12,28 +12,33 @@ use Rattle.map_shapes.specs.Kind.{kind_of}
 use Rattle.map_shapes.specs.IndexSet.{index_set_of}
 use Rattle.map_layers.specs.Layer.{name_in, adds_in, layer_of}
 use Rattle.map_layers.specs.Layers.{map_of, named, names_of, adds_of, AllDiffer}
-use Rattle.map_layers.proofs.Names.{is_taken-named, is_among-named, AllDiffer-push}
+use Rattle.map_layers.proofs.Names.{is_some-seen, is_taken-named, is_among-named, AllDiffer-push}
 use Rattle.map_layers.proofs.Answering.{step-make}
 use Rattle.map_layers.proofs.layers.Layers.create.Goals as goal
 
 pub returns-then-is_some-clause-answered : goal.returns-then-is_some-clause-answered
-returns-then-is_some-clause-answered c =
-    let taken : is_some (named c.args.name.now c.args.self.now.layers) ≡ true = search rules in
+returns-then-is_some-clause-answered g c =
+    let there : is_some c.layer.result ≡ true = search rules in
+    let taken : is_some (named c.args.name.now c.args.self.now.layers) ≡ true = sym (ap is_some c.layer.ensures) ∙ is_some-seen _ c.layer.result there in
     step-make (map_of c.args.self.now) c.args.name.now (kind_of c.args.kind) (index_set_of c.args.indexes) true (nat_le most_layers (length (map_of c.args.self.now)))
     (is_taken-named c.args.name.now c.args.self.now.layers ∙ taken) refl
 
 pub returns-then-len-ge-MOST_LAYERS-clause-answered : goal.returns-then-len-ge-MOST_LAYERS-clause-answered
-returns-then-len-ge-MOST_LAYERS-clause-answered c =
-    let free : is_some (named c.args.name.now c.args.self.now.layers) ≡ false = search rules in
+returns-then-len-ge-MOST_LAYERS-clause-answered g c =
+    let there : is_some c.layer.result ≡ false = search rules in
+    let free : is_some (named c.args.name.now c.args.self.now.layers) ≡ false = sym (ap is_some c.layer.ensures) ∙ is_some-seen _ c.layer.result there in
     let held : c.len.result ≡ length c.args.self.now.layers = search rules in
     step-make (map_of c.args.self.now) c.args.name.now (kind_of c.args.kind) (index_set_of c.args.indexes) false true
     (is_taken-named c.args.name.now c.args.self.now.layers ∙ free)
     (le-leb most_layers (length (map_of c.args.self.now)) (omega (arith, c.if-len-ge-MOST_LAYERS.true, held, length-map c.args.self.now.layers layer_of)))
 
 pub invariant_of-self : goal.invariant_of-self
-invariant_of-self c =
+invariant_of-self g c =
     let ls = c.self.inside.layers.items in
-    let free : is_some (named c.args.name.now ls) ≡ false = search rules in
+    let there : is_some c.layer.result ≡ false = search rules in
+    let same : ls ≡ c.args.self.now.layers = search rules in
+    let free : is_some (named c.args.name.now ls) ≡ false =
+    ap (λ xs. is_some (named c.args.name.now xs)) same ∙ sym (ap is_some c.layer.ensures) ∙ is_some-seen _ c.layer.result there in
     let named_as : name_in c.new.result ≡ c.args.name.now = ap (λ m. m.name) c.new.ensures.made in
     let unused : list_any (λ other. bytes_eq other (name_in c.new.result)) (names_of ls) ≡ false =
     ap (λ n. list_any (λ other. bytes_eq other n) (names_of ls)) named_as ∙ sym (is_among-named c.args.name.now ls) ∙ free in
@@ -44,9 +49,10 @@ invariant_of-self c =
     )
 
 pub returns-clause-answered : goal.returns-clause-answered
-returns-clause-answered c =
+returns-clause-answered g c =
     let ls = c.args.self.now.layers in
-    let free : is_some (named c.args.name.now ls) ≡ false = search rules in
+    let there : is_some c.layer.result ≡ false = search rules in
+    let free : is_some (named c.args.name.now ls) ≡ false = sym (ap is_some c.layer.ensures) ∙ is_some-seen _ c.layer.result there in
     let held : c.len.result ≡ length ls = search rules in
     let items : c.push.new.self.items ≡ ls ++ c.new.result ∷ [] = search rules in
     step-make (map_of c.args.self.now) c.args.name.now (kind_of c.args.kind) (index_set_of c.args.indexes) false false

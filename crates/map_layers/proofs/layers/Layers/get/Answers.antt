@@ -10,12 +10,12 @@ use Rattle.map_layers.proofs.Names.{layer_named-Some, layer_named-None}
 use Rattle.map_layers.proofs.layers.Layers.get.Goals as goal
 
 pub returns-in_default : goal.returns-in_default
-returns-in_default c =
+returns-in_default g c =
     let none : named c.args.name.now c.args.self.now.layers ≡ None = search rules in
     record { answered = ap (get_from (map_of c.args.self.now) c.args.id) (layer_named-None c.args.name.now c.args.self.now.layers none) }
 
 pub returns-in-Some-get : goal.returns-in-Some-get
-returns-in-Some-get c =
+returns-in-Some-get g c =
     let l = c.in-Some.layer.now in
     let found : named c.args.name.now c.args.self.now.layers ≡ Some l = search rules in
     let here = layer_named-Some c.args.name.now c.args.self.now.layers found in
@@ -24,7 +24,7 @@ returns-in-Some-get c =
     record { answered = ap (get_from (map_of c.args.self.now) c.args.id) here ∙ ap (got (map_of c.args.self.now) c.args.id) shape }
 
 pub returns-in-None : goal.returns-in-None
-returns-in-None c =
+returns-in-None g c =
     let l = c.in-Some.layer.now in
     let found : named c.args.name.now c.args.self.now.layers ≡ Some l = search rules in
     let here = layer_named-Some c.args.name.now c.args.self.now.layers found in

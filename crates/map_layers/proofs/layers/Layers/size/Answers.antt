@@ -6,7 +6,7 @@ use Rattle.map_layers.proofs.Names.{layer_named-Some, layer_named-None}
 use Rattle.map_layers.proofs.layers.Layers.size.Goals as goal
 
 pub returns-in-Some : goal.returns-in-Some
-returns-in-Some c =
+returns-in-Some g c =
     let l = c.in-Some.layer.now in
     let found : named c.args.name.now c.args.self.now.layers ≡ Some l = search rules in
     let here = layer_named-Some c.args.name.now c.args.self.now.layers found in
@@ -16,6 +16,6 @@ returns-in-Some c =
     }
 
 pub returns-in-None : goal.returns-in-None
-returns-in-None c =
+returns-in-None g c =
     let none : named c.args.name.now c.args.self.now.layers ≡ None = search rules in
     record { answered = ap (size_of (map_of c.args.self.now)) (layer_named-None c.args.name.now c.args.self.now.layers none) }

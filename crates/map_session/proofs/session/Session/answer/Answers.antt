@@ -1,4 +1,4 @@
-use Rattle.std.proofs.Common.{sym, ap, ◌∙◌, subst, refl, ◌≡◌, Ok, Some, option_map}
+use Rattle.std.proofs.Common.{rules, arith, sym, ap, ◌∙◌, subst, refl, ◌≡◌, Ok, Some, option_map}
 use Rattle.map_model.specs.Grammar.{Parsed, parse}
 use Rattle.map_model.proofs.LawfulCommands.{IsCommand-parsed}
 use Rattle.script_lang.specs.Command.{command_of}
@@ -7,10 +7,10 @@ use Rattle.map_session.specs.Session.{map_in, given_by, Executes}
 use Rattle.map_session.proofs.Built.{parse_as_built}
 use Rattle.map_session.proofs.session.Session.answer.Goals as goal
 
-pub command-requires-clause-lawful : goal.command-requires-clause-lawful
-command-requires-clause-lawful g c =
+pub command-requires : goal.command-requires
+command-requires g c =
     let says : parse c.args.line.now ≡ Ok (Some (command_of c.in-Ok-Some.command)) = sym c.in-Ok-Some.ensures ∙ ap (λ f. Ok (option_map command_of f)) c.in-Ok-Some.field-0-is in
-    IsCommand-parsed c.args.line.now (command_of c.in-Ok-Some.command) says
+    (search rules, (c.requires, IsCommand-parsed c.args.line.now (command_of c.in-Ok-Some.command) says))
 
 pub returns-in-Ok-Some-clause-executed : goal.returns-in-Ok-Some-clause-executed
 returns-in-Ok-Some-clause-executed g c =

@@ -1,0 +1,9 @@
+pub mod Placings
+pub mod LeafLemmas
+pub mod NodeLemmas
+pub mod Growths
+pub mod Puttings
+pub mod Killings
+pub mod LivePoints
+pub mod Takings
+pub mod Stacks

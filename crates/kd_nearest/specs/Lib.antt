@@ -1,0 +1,11 @@
+pub mod Areas
+pub mod Placings
+pub mod Heights
+pub mod HeightLaws
+pub mod Sorting
+pub mod Blocks
+pub mod Leaves
+pub mod Growing
+pub mod GrowingLaws
+pub mod Walks
+pub mod Costs

@@ -1,0 +1,26 @@
+//! The points nearest to a place: a k-d tree (Bentley 1975).
+//!
+//! The places of a part's points stand in a row, in an order of their own, each once: blocks of that row, cut at a coordinate and then
+//! at the other in turn, hold points that lie near one another. Eight of them are a leaf. Above the leaves stand nodes, each with the
+//! boxes of its four blocks: no live point of a block lies outside its box, and so none is nearer to a place than the box. A question walks the nearest
+//! block first, and leaves a block out whose box is farther than the worst of the points that it keeps.
+//!
+//! A part keeps its points by the flat kind, and these rows, those of the kind, beside them.
+#![tactic(auto)]
+
+mod area;
+mod block;
+mod clearing;
+mod growing;
+mod height;
+mod kept;
+mod leaves;
+mod node;
+mod placing;
+mod questions;
+mod rows;
+mod sorting;
+mod spot;
+mod walk;
+
+pub use rows::{KdBuilder, KdPart, KdRows};

@@ -1,0 +1,83 @@
+-- The questions to a layer, their answers, and what they touch.
+use Rattle.std.specs.Prelude.{◌≡◌, ℕ, Bool, true, false, length, Result, Ok, Err, IfOk}
+use Rattle.query_laws.specs.StepLedger.{Counts}
+use Rattle.map_kinds.specs.Touches.{PartTouches}
+use Rattle.map_model.specs.Answer as answers
+use Rattle.map_model.specs.Answer.{Question, Answer, answer_over, index_of, kind_asked}
+use Rattle.map_model.specs.Command.{lists_ids}
+use Rattle.map_model.specs.Cost.{bounds_at}
+use Rattle.map_model.specs.Index.{has}
+use Rattle.map_model.specs.Machine.{is_same_kind}
+use Rattle.map_model.specs.State as state
+use Rattle.map_shapes.specs.Rect.{rect_of}
+use Rattle.map_shapes.specs.declared.asked.Asked.{Asked}
+use Rattle.layer_kinds.specs.declared.faults.AskFault.{AskFault}
+use Rattle.layer_kinds.specs.declared.faults.AskFault.TheVariants.{NoLayer, WrongKind, NoIndex, Unknown, NoMemory}
+use Rattle.layer_kinds.specs.Asking.{IsAsking, IsReading, IsTouching, most_of}
+use Rattle.range_tree.specs.Costs.{question_touches}
+use Rattle.range_tree.specs.QuestionLaws.{most_touches}
+use Rattle.map_layers.specs.Layer.{LayerState, items_in, held_by, IsEveryPart}
+use Rattle.map_layers.specs.declared.questions.AnyAnswer.{AnyAnswer}
+use Rattle.map_layers.specs.declared.questions.AnyAnswer.TheVariants.{Counted, Summed, Listed}
+use Rattle.map_layers.specs.declared.questions.AnyQuestion.{AnyQuestion}
+use Rattle.map_layers.specs.declared.questions.AnyQuestion.TheVariants.{CountIn, SumIn, ListIn}
+
+abbrev pub question_of : AnyQuestion → Question
+question_of (CountIn q) = answers.CountIn (rect_of q.0)
+question_of (SumIn q) = answers.SumIn (rect_of q.0)
+question_of (ListIn q) = answers.ListIn (rect_of q.0)
+
+abbrev pub answer_of : AnyAnswer → Answer
+answer_of (Counted n) = answers.Counted n
+answer_of (Summed n) = answers.Summed n
+answer_of (Listed ids) = answers.Listed ids
+
+-- a question, its answer, how many parts were consulted, and how many live items they have
+pub record AnsweredState : Type 0 where
+  pub question : Question
+  pub answer : Answer
+  pub parts : ℕ
+  pub live : ℕ
+
+-- what a question touches in a part of at most 2 ^ level items
+abbrev pub touches_for : Question → ℕ → PartTouches
+touches_for question level = question_touches level
+
+-- the most touches in so many parts of at most 2 ^ level items each, of a layer of n items, with such an answer
+abbrev pub most_for : (level parts n : ℕ) → Answer → ℕ
+most_for level parts n (answers.Counted count) = most_touches level parts 0
+most_for level parts n (answers.Summed sum) = most_touches level parts 0
+most_for level parts n (answers.Listed ids) = most_touches level parts (length ids)
+most_for level parts n (answers.NearestOne found) = most_touches level parts 0
+most_for level parts n (answers.NearestOnes found) = most_touches level parts 0
+most_for level parts n (answers.ListedAbove ids) = most_touches level parts (length ids)
+most_for level parts n (answers.Highest peak) = most_touches level parts 0
+most_for level parts n (answers.Stabbed ids) = most_touches level parts (length ids)
+most_for level parts n (answers.StabCounted count) = most_touches level parts 0
+
+-- whether a layer is of the kind that is asked, and whether it has the index
+abbrev pub IsOfKind : state.Layer → Question → Bool → Type 0
+IsOfKind layer question b = is_same_kind layer.kind (kind_asked question) ≡ b
+
+abbrev pub IsThere : state.Layer → Question → Bool → Type 0
+IsThere layer question b = has layer.indexes (index_of question) ≡ b
+
+-- A question about the other kind is refused, then one whose index isn't there, and else memory alone may refuse one that lists identifiers.
+abbrev pub IsRefusal : {T : Type 0} → state.Layer → Question → Result T AskFault → Type 0
+IsRefusal layer question (Ok given) = IsOfKind layer question true × IsThere layer question true
+IsRefusal layer question (Err NoLayer) = ⊥
+IsRefusal layer question (Err WrongKind) = IsOfKind layer question false
+IsRefusal layer question (Err NoIndex) = IsOfKind layer question true × IsThere layer question false
+IsRefusal layer question (Err (Unknown id)) = ⊥
+IsRefusal layer question (Err NoMemory) = IsOfKind layer question true × IsThere layer question true × (lists_ids question ≡ true)
+
+-- A question to a layer is answered over all its items by every complete part of one index, or refused, and so much is touched.
+pub record Asks (layer : LayerState) (question : Question) (result : Result (AnsweredState × Asked) AskFault) (old new : Counts) : Type 0 where
+  pub refused : IsRefusal layer.layer question result
+  pub answer : IfOk result (λ given. (given.0.question ≡ question) × (given.0.answer ≡ answer_over (items_in layer) question))
+  pub every_part : IfOk result (λ given. IsEveryPart (held_by layer.held (index_of question)) given.1.parts
+      × (given.1.parts ≡ given.0.parts) × (given.0.live ≡ length (items_in layer)))
+  pub cost : IfOk result (λ given. let n = length (items_in layer) in
+      IsAsking n (most_for (bounds_at n).level given.1.parts n given.0.answer) given.1 old new)
+  pub touches : let n = length (items_in layer) in IsTouching (most_of (touches_for question (bounds_at n).level) n) result old new
+  pub reads : IsReading old new

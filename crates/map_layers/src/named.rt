@@ -1,0 +1,91 @@
+//! The indexes of a map's layers, by the names that the definitions give them.
+ghost use Rattle.std.specs.Prelude.{◌≡◌, ℕ, ◌≤◌, true, false, [], List, MatchOption, length};
+ghost use Rattle.query_laws.specs.StepLedger.{AtLapStart};
+ghost use Rattle.map_model.specs.Answer.{index_of, kind_asked};
+ghost use Rattle.map_model.specs.Index.{fits, index_count};
+ghost use Rattle.map_model.specs.Line.{IsShape};
+ghost use Rattle.map_model.specs.Machine.{is_same_kind};
+ghost use Rattle.map_model.specs.Shape as model;
+ghost use Rattle.map_shapes.specs.IndexSet.{index_set_of};
+ghost use Rattle.map_shapes.specs.Shape.{model_shape};
+ghost use Rattle.layer_kinds.specs.Shares.{count_of};
+ghost use Rattle.map_layers.specs.Layer.{Held, held_by, parts_held, seen, set_of};
+ghost use Rattle.map_layers.specs.Questions.{question_of, touches_for, most_for, Asks};
+
+use crate::{Answered, AnyQuestion, OneQuestion};
+use builder_trait::{AnsweringRows, Rows};
+use layer_kinds::{AskFault, Has, Indexes, KindLayer, ask_layer};
+use map_kinds::MapRows;
+use map_shapes::{Asked, IndexSet, Shape, Shaped};
+use query_laws::step_ledger::Steps;
+use std::alloc::Global;
+use std::sync::ledger::Ledger;
+
+/// Indexes over items of one kind, each of which has a name.
+pub trait NamedIndexes: Indexes {
+    /// What each holds.
+    ghost held: { Self → Held };
+
+    /// Those that a set names, without items. It takes no memory.
+    fn of_set(alloc: Global, indexes: IndexSet) -> Self
+        ensures named { fits Self.Item.kind (index_set_of indexes) ≡ true → set_of (held result) ≡ index_set_of indexes }
+        ensures of { Self.are_of result [] 0 };
+
+    /// An item of an identifier and a shape: `None` where the shape is of the other kind.
+    fn item(id: u64, shape: Shape) -> Option<Self::Item>
+        requires lawful { IsShape (model_shape shape) }
+        ensures { MatchOption result (is_same_kind Self.Item.kind (model.kind_of (model_shape shape)) ≡ false)
+            (λ item. (is_same_kind Self.Item.kind (model.kind_of (model_shape shape)) ≡ true)
+            × (Self.Item.item_of item ≡ record { id = id; shape = model_shape shape })) };
+
+    /// The rates say which are there.
+    ghost by_rates: { (s t : Self) → Self.rates s ≡ Self.rates t → set_of (held s) ≡ set_of (held t) };
+
+    ghost counted: { (s : Self) → count_of (Self.rates s) ≡ index_count (set_of (held s)) };
+
+    ghost few: { (s : Self) → length (Self.rates s) ≤ 4 };
+}
+
+/// Those of points.
+pub trait OverPoints: AnsweringIndexes {
+    ghost points: { Self.Item.kind ≡ model.Points };
+}
+
+/// Those of segments.
+pub trait OverSegments: AnsweringIndexes {
+    ghost segments: { Self.Item.kind ≡ model.Segments };
+}
+
+/// Those of which one answers each question about their kind of item.
+pub trait AnsweringIndexes: NamedIndexes {
+    /// Puts a question about the kind to the items of a layer.
+    fn ask<L: Ledger>(
+        layer: &KindLayer<Self>,
+        alloc: Global,
+        question: &AnyQuestion,
+        steps: &mut Steps<L>,
+    ) -> Result<(Answered, Asked), AskFault>
+        requires of_kind { kind_asked (question_of question.now) ≡ Self.Item.kind }
+        requires lap { AtLapStart steps.old }
+        ensures { Asks (seen Self.Item.kind Self.Item.item_of Self.held layer.now) (question_of question.now) result steps.old steps.new };
+}
+
+/// Puts a question to the items of a layer, by the index at a place.
+pub fn ask_of<R: MapRows, At, X: NamedIndexes + Has<R, At>, Q: OneQuestion<R>, L: Ledger>(
+    layer: &KindLayer<X>,
+    alloc: Global,
+    question: &Q,
+    steps: &mut Steps<L>,
+) -> Result<(Answered, Asked), AskFault>
+where
+    R: AnsweringRows<Q>,
+    R::Item: Shaped,
+    requires there { held_by (X.held layer.now.indexes) (index_of (Q.asks question.now)) ≡ parts_held (X.index layer.now.indexes) }
+    requires touches { (level : ℕ) → Q.touches level ≡ touches_for (Q.asks question.now) level }
+    requires most { (level parts n : ℕ) (answer : Q.Answer) → Q.most_touches level parts n answer ≡ most_for level parts n (Q.tells answer) }
+    requires lap { AtLapStart steps.old }
+    ensures { Asks (seen R.Item.kind R.Item.item_of X.held layer.now) (Q.asks question.now) result steps.old steps.new }
+{
+    let (given, asked) = ask_layer::<R, At, X, Q, L>(layer, alloc, question, steps)?;
+    Ok((Answered::new::<R, Q>(given), asked))
+}

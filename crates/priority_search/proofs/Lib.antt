@@ -1,0 +1,15 @@
+pub mod EntryLemmas
+pub mod LeafLemmas
+pub mod TreeLemmas
+pub mod PullLemmas
+pub mod AtHeights
+pub mod Best
+pub mod StripLemmas
+pub mod Listed
+pub mod Searching
+pub mod LiveLemmas
+pub mod GrowthLemmas
+pub mod Filling
+pub mod Beginnings
+pub mod Marking
+pub mod Answering

@@ -1,0 +1,9 @@
+pub mod Entries
+pub mod Tree
+pub mod Pulls
+pub mod Strips
+pub mod Live
+pub mod Growing
+pub mod Costs
+pub mod GrowingLaws
+pub mod QuestionLaws
