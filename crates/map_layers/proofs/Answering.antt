@@ -1,14 +1,13 @@
 -- The machine's step where the layer of a name is found.
 use Rattle.std.proofs.Common.{◌≡◌, ℕ, ◌∙◌, Bool, true, false, not, ◌&&◌, if◌then◌else◌, List, [], ◌∷◌, ◌++◌, Some, None, Result, Ok, Err, length, refl, sym, ap}
-use Rattle.std.specs.Prelude.{nat_le, IfOk, Option}
-use Rattle.std.specs.Option.{is_some}
+use Rattle.std.specs.Prelude.{nat_le, IfOk}
 use Rattle.std.proofs.lemmas.Bool.{le-leb, lt-leb}
 use Rattle.map_model.specs.Shape as shapes
 use Rattle.map_model.specs.Index as indexes
 use Rattle.map_model.specs.Index.{has}
 use Rattle.map_model.specs.State.{Item, Layer, State, most_items, most_layers, live_count, is_live, layer_named, with_items, with_item, without_item}
-use Rattle.map_model.specs.Answer.{Question, Answer, answer_over, index_of, kind_asked}
-use Rattle.map_model.specs.Command.{MakeLayer, Add, Drop, Ask, lists_ids}
+use Rattle.map_model.specs.Answer.{Question, Answer, answer_over, index_of}
+use Rattle.map_model.specs.Command.{MakeLayer, Add, Drop, Ask}
 use Rattle.map_model.specs.Refusal as refusals
 use Rattle.map_model.specs.Reply.{Made, Updated, Answered, Refused, is_refusal}
 use Rattle.map_model.specs.Machine.{Outcome, step, is_same_kind, is_taken, replied, refused}

@@ -1,11 +1,10 @@
 -- What a question to the layer of a name costs.
-use Rattle.std.proofs.Common.{◌≡◌, ℕ, ◌+◌, ◌∙◌, ◌≤◌, true, false, List, [], ◌∷◌, Option, Some, None, Result, Ok, Err, length, map, refl, sym, ap, subst}
+use Rattle.std.proofs.Common.{◌≡◌, ℕ, ◌+◌, ◌∙◌, ◌≤◌, true, List, [], ◌∷◌, Option, Some, None, Result, Ok, Err, length, map, refl, sym, ap, subst}
 use Rattle.std.specs.Prelude.{sum_by}
 use Rattle.std.specs.Option.{is_some}
 use Rattle.std.proofs.lemmas.List.Elements.{All-map}
 use Rattle.std.proofs.lemmas.List.Sums.{sum_by-cons}
 use Rattle.query_laws.specs.StepLedger.{Counts}
-use Rattle.map_kinds.specs.Touches.{PartTouches}
 use Rattle.map_model.specs.Cost.{bounds_at}
 use Rattle.map_model.specs.Machine.{is_same_kind}
 use Rattle.map_model.specs.Shape.{Kind, Points, Segments}
@@ -15,15 +14,15 @@ use Rattle.layer_kinds.specs.declared.faults.AskFault.{AskFault}
 use Rattle.layer_kinds.specs.declared.faults.AskFault.TheVariants as ask
 use Rattle.layer_kinds.specs.Asking as kinds
 use Rattle.layer_kinds.specs.Layered.{IsAskRefusal}
-use Rattle.map_model.specs.Answer.{Question, kind_asked, index_of}
+use Rattle.map_model.specs.Answer.{Question, index_of}
 use Rattle.map_model.specs.Command.{lists_ids}
 use Rattle.stack_levels.specs.Levels.{parts_of}
 use Rattle.stack_levels.specs.Slots.{Slots}
 use Rattle.global_rebuild.specs.Index.{Indexed}
 use Rattle.map_model.specs.Index.{Index, Range, Near, Top, Stab, has}
-use Rattle.map_layers.specs.Costs.{IsAskingIn, IsTouchingIn}
+use Rattle.map_layers.specs.Costs.{IsAskingIn}
 use Rattle.map_layers.specs.Questions.{IsOfKind, IsRefusal}
-use Rattle.map_layers.specs.Layer.{LayerState, Held, held_by, parts_held, set_of, IsEveryPart}
+use Rattle.map_layers.specs.Layer.{Held, held_by, parts_held, set_of, IsEveryPart}
 
 pub IsAskingIn-of : (o : Option Layer) (layer : Layer) (found : o ≡ Some layer) {old new : Counts} (most : ℕ → ℕ → ℕ) (asked : Asked)
     → kinds.IsAsking (live_count layer) (most (bounds_at (live_count layer)).level (live_count layer)) asked old new → kinds.IsReading old new → IsAskingIn o most asked old new

@@ -115,10 +115,9 @@ impl<P: OverPoints, S: OverSegments> Layer<P, S> {
         requires lap { AtLapStart steps.old }
         ensures { Asks self.now (question_of question.now) result steps.old steps.new }
     {
-        match (&self.sort, question.kind()) {
-            (Sort::Points(points), Kind::Points) => P::ask(points, alloc, question, steps),
-            (Sort::Segments(segments), Kind::Segments) => S::ask(segments, alloc, question, steps),
-            _ => Err(AskFault::WrongKind),
+        match &self.sort {
+            Sort::Points(points) => P::ask(points, alloc, question, steps),
+            Sort::Segments(segments) => S::ask(segments, alloc, question, steps),
         }
     }
 

@@ -1,7 +1,7 @@
 //! The indexes of a map's layers, by the names that the definitions give them.
 ghost use Rattle.std.specs.Prelude.{◌≡◌, ℕ, ◌≤◌, true, false, [], List, MatchOption, length};
 ghost use Rattle.query_laws.specs.StepLedger.{AtLapStart};
-ghost use Rattle.map_model.specs.Answer.{index_of, kind_asked};
+ghost use Rattle.map_model.specs.Answer.{index_of};
 ghost use Rattle.map_model.specs.Index.{fits, index_count};
 ghost use Rattle.map_model.specs.Line.{IsShape};
 ghost use Rattle.map_model.specs.Machine.{is_same_kind};
@@ -58,14 +58,13 @@ pub trait OverSegments: AnsweringIndexes {
 
 /// Those of which one answers each question about their kind of item.
 pub trait AnsweringIndexes: NamedIndexes {
-    /// Puts a question about the kind to the items of a layer.
+    /// Puts a question to the items of a layer: `WrongKind` where it is about the other kind.
     fn ask<L: Ledger>(
         layer: &KindLayer<Self>,
         alloc: Global,
         question: &AnyQuestion,
         steps: &mut Steps<L>,
     ) -> Result<(Answered, Asked), AskFault>
-        requires of_kind { kind_asked (question_of question.now) ≡ Self.Item.kind }
         requires lap { AtLapStart steps.old }
         ensures { Asks (seen Self.Item.kind Self.Item.item_of Self.held layer.now) (question_of question.now) result steps.old steps.new };
 }

@@ -1,12 +1,10 @@
 //! Every question that a layer answers, and what it is answered.
 ghost use Rattle.std.specs.Prelude.{◌≡◌};
-ghost use Rattle.map_model.specs.Answer.{kind_asked};
-ghost use Rattle.map_shapes.specs.Kind.{kind_of};
 ghost use Rattle.map_layers.specs.Questions.{question_of, answer_of};
 
 use builder_trait::{AnsweringRows, Given, Rows, RowsPart};
 use map_kinds::{MapQuestion, MapRows};
-use map_shapes::{CountIn, IdList, Kind, ListIn, Shaped, SumIn};
+use map_shapes::{CountIn, IdList, ListIn, Shaped, SumIn};
 use range_tree::RangeRows;
 use std::marker::Model;
 
@@ -25,19 +23,6 @@ pub enum AnyAnswer {
     Summed(u64),
     /// Identifiers in ascending order.
     Listed(IdList),
-}
-
-impl AnyQuestion {
-    /// The kind of layer that it asks.
-    pub fn kind(&self) -> Kind
-        ensures { kind_of result ≡ kind_asked (question_of self.now) }
-    {
-        match self {
-            AnyQuestion::CountIn(_) | AnyQuestion::SumIn(_) | AnyQuestion::ListIn(_) => {
-                Kind::Points
-            }
-        }
-    }
 }
 
 /// One of these questions, which rows of a kind answer.

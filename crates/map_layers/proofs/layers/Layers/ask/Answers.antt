@@ -1,8 +1,8 @@
-use Rattle.std.proofs.Common.{rules, ◌≡◌, None, Some, ap, sym, subst}
+use Rattle.std.proofs.Common.{rules, ◌≡◌, None, Some, sym, subst}
 use Rattle.std.proofs.lemmas.Result.{IfOk-weaker}
-use Rattle.map_model.specs.State.{live_count, layer_named}
+use Rattle.map_model.specs.State.{layer_named}
 use Rattle.map_layers.specs.Costs.{IsAskingIn, IsTouchingIn}
-use Rattle.map_layers.specs.Layer.{layer_of, items_in}
+use Rattle.map_layers.specs.Layer.{layer_of}
 use Rattle.map_layers.specs.Layers.{map_of, named}
 use Rattle.map_layers.specs.Questions.{question_of, touches_for, most_for}
 use Rattle.map_layers.proofs.Answering.{IsAnswered-ask, unfound-ask}
