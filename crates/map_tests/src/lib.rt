@@ -1,9 +1,5 @@
-//! Tests of the indexes of a layer, of layers and of sessions.
+//! Tests of the indexes of a layer.
 #![tactic(auto)]
 
 #[cfg(test)]
 mod indexes;
-#[cfg(test)]
-mod layers;
-#[cfg(test)]
-mod sessions;

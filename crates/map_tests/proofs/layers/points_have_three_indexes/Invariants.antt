@@ -1,4 +1,0 @@
-use Rattle.map_tests.proofs.layers.points_have_three_indexes.Given as goal
-
-abbrev pub ghosts-kind_seen : goal.ghosts-kind_seen
-ghosts-kind_seen g a = record { name = a.blank.name; parts = a.blank.parts }

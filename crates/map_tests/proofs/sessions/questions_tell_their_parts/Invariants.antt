@@ -1,4 +1,0 @@
-use Rattle.map_tests.proofs.sessions.questions_tell_their_parts.Given as goal
-
-abbrev pub ghosts-answers : goal.ghosts-answers
-ghosts-answers g a = record { name = a.blank.name; parts = a.blank.parts }
