@@ -5,3 +5,4 @@ pub mod Questions
 pub mod QuestionLaws
 pub mod Scans
 pub mod NearestSoFar
+pub mod Any

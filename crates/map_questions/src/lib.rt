@@ -1,10 +1,12 @@
-//! The questions for near points, for high points, and for segments over a place.
+//! The questions for near points, for high points, and for segments over a place; and those for rectangles beside them, as one type.
 //!
 //! `specs/Questions.antt` says what each one asks, in the definitions' words, and `specs/Scans.antt` that its answer is
 //! that of the definitions' scan.
 #![tactic(auto)]
 
 mod above;
+mod any_answer;
+mod any_question;
 mod near;
 mod near_k;
 mod near_k_tally;
@@ -15,6 +17,8 @@ mod top;
 mod top_tally;
 
 pub use above::Above;
+pub use any_answer::AnyAnswer;
+pub use any_question::AnyQuestion;
 pub use near::Near;
 pub use near_k::NearK;
 pub use near_k_tally::NearKTally;

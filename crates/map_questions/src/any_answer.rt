@@ -1,0 +1,25 @@
+//! Every answer of an index.
+use map_shapes::{Found, FoundList, IdList, Peak};
+
+/// The answer to a question about the items of a layer.
+#[derive(Drop)]
+pub enum AnyAnswer {
+    /// How many points are in a rectangle.
+    Counted(u64),
+    /// Their weights together.
+    Summed(u64),
+    /// Their identifiers, ascending.
+    Listed(IdList),
+    /// The point nearest to a place.
+    Nearest(Option<Found>),
+    /// The nearest points, the nearest first.
+    NearestFew(FoundList),
+    /// The identifiers of the points that are high enough, ascending.
+    ListedAbove(IdList),
+    /// The highest point.
+    Highest(Option<Peak>),
+    /// The identifiers of the segments over a place, ascending.
+    Stabbed(IdList),
+    /// How many segments are over a place.
+    StabCounted(u64),
+}
