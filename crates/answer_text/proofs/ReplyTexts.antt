@@ -2,20 +2,23 @@
 use Rattle.std.proofs.Common.{◌≡◌, ℕ, Bool, false, cond, nat_eq, List, [], ◌∷◌, ◌++◌, codes, length, Some, None, map, arith, refl, sym, ap, ◌∙◌, append-nil, append_assoc, subst}
 use Rattle.std.specs.List.{flat_map}
 use Rattle.map_io.specs.SinkTold.{SinkTold}
-use Rattle.map_model.specs.Reply.{spaced, numbers_or_none, shape_numbers, found_numbers, reply_text, reply_line}
+use Rattle.map_model.specs.Reply.{spaced, numbers_or_none, shape_numbers, found_numbers, answer_text, reply_text, reply_line}
 use Rattle.map_model.specs.Refusal.{refusal_text}
 use Rattle.std.proofs.lemmas.List.Concat.{flat_map-append}
 use Rattle.map_shapes.specs.declared.found.Found as shapes
 use Rattle.std.proofs.lemmas.Bool.Decides.{nat_tests}
 use Rattle.map_shapes.specs.Found.{found_of}
 use Rattle.map_shapes.specs.Shape.{model_shape}
+use Rattle.map_questions.specs.Any.{answer_of}
+use Rattle.map_questions.specs.declared.any_answer.AnyAnswer.{AnyAnswer}
+use Rattle.map_questions.specs.declared.any_answer.AnyAnswer.TheVariants as answers
 use Rattle.answer_text.specs.declared.refusal.Refusal.{Refusal}
 use Rattle.answer_text.specs.declared.refusal.Refusal.TheVariants as causes
 use Rattle.answer_text.specs.declared.reply.Reply.{Reply}
 use Rattle.answer_text.specs.declared.reply.Reply.TheVariants as variants
 use Rattle.answer_text.specs.Reply.{refusal_of, reply_of, cost_of}
 use Rattle.answer_text.specs.Pieces.{DeliversLines, CutOffInPieces}
-use Rattle.answer_text.specs.Texts.{refusal_word, reply_word, spaced_all, found_text, refusal_numbers, reply_numbers, listed_ids, none_text, tail_text}
+use Rattle.answer_text.specs.Texts.{refusal_word, answer_word, reply_word, spaced_all, found_text, refusal_numbers, answer_numbers, reply_numbers, answer_ids, listed_ids, answers_none, none_text, tail_text}
 
 -- one number
 one : (word : List ℕ) (n : ℕ) → word ++ spaced_all (n ∷ []) ≡ word ++ spaced n
@@ -70,22 +73,25 @@ behind reply = (reply_numbers reply ++ spaced_all (listed_ids reply)) ++ none_te
 no_list : (word numbers text : List ℕ) → word ++ numbers ≡ text → word ++ ((numbers ++ []) ++ []) ≡ text
 no_list word numbers text is = ap (λ (z : List ℕ). word ++ z) (append-nil (numbers ++ []) ∙ append-nil numbers) ∙ is
 
+answer_behind : (answer : AnyAnswer) → answer_word answer ++ ((answer_numbers answer ++ spaced_all (answer_ids answer)) ++ cond (answers_none answer) (codes " none") []) ≡ answer_text (answer_of answer)
+answer_behind (answers.Counted n) = no_list (codes "count") (spaced_all (n ∷ [])) _ (one (codes "count") n)
+answer_behind (answers.Summed n) = no_list (codes "sum") (spaced_all (n ∷ [])) _ (one (codes "sum") n)
+answer_behind (answers.Listed ids) = ap (λ (z : List ℕ). codes "list" ++ z) (ids_or_none ids)
+answer_behind (answers.Nearest None) = refl
+answer_behind (answers.Nearest (Some found)) = no_list (codes "near") (found_text found) _ refl
+answer_behind (answers.NearestFew found) =
+    ap (λ (z : List ℕ). codes "nearest" ++ (z ++ none_of found)) (append-nil (flat_map found_text found))
+    ∙ ap (λ (z : List ℕ). codes "nearest" ++ z) (founds_or_none found)
+answer_behind (answers.ListedAbove ids) = ap (λ (z : List ℕ). codes "above" ++ z) (ids_or_none ids)
+answer_behind (answers.Highest None) = refl
+answer_behind (answers.Highest (Some peak)) = no_list (codes "top") (spaced_all (peak.id ∷ peak.y ∷ [])) _ (ap (λ (z : List ℕ). codes "top" ++ z) (two peak.id peak.y))
+answer_behind (answers.Stabbed ids) = ap (λ (z : List ℕ). codes "stab" ++ z) (ids_or_none ids)
+answer_behind (answers.StabCounted n) = no_list (codes "stabcount") (spaced_all (n ∷ [])) _ (one (codes "stabcount") n)
+
 text_behind : (reply : Reply) → reply_word reply ++ behind reply ≡ reply_text (reply_of reply)
 text_behind variants.Made = refl
 text_behind (variants.Updated spent) = refl
-text_behind (variants.Count n asked) = no_list (codes "count") (spaced_all (n ∷ [])) _ (one (codes "count") n)
-text_behind (variants.Sum n asked) = no_list (codes "sum") (spaced_all (n ∷ [])) _ (one (codes "sum") n)
-text_behind (variants.List ids asked) = ap (λ (z : List ℕ). codes "list" ++ z) (ids_or_none ids)
-text_behind (variants.Near None asked) = refl
-text_behind (variants.Near (Some found) asked) = no_list (codes "near") (found_text found) _ refl
-text_behind (variants.Nearest found asked) =
-    ap (λ (z : List ℕ). codes "nearest" ++ (z ++ none_of found)) (append-nil (flat_map found_text found))
-    ∙ ap (λ (z : List ℕ). codes "nearest" ++ z) (founds_or_none found)
-text_behind (variants.Above ids asked) = ap (λ (z : List ℕ). codes "above" ++ z) (ids_or_none ids)
-text_behind (variants.Top None asked) = refl
-text_behind (variants.Top (Some peak) asked) = no_list (codes "top") (spaced_all (peak.id ∷ peak.y ∷ [])) _ (ap (λ (z : List ℕ). codes "top" ++ z) (two peak.id peak.y))
-text_behind (variants.Stab ids asked) = ap (λ (z : List ℕ). codes "stab" ++ z) (ids_or_none ids)
-text_behind (variants.StabCount n asked) = no_list (codes "stabcount") (spaced_all (n ∷ [])) _ (one (codes "stabcount") n)
+text_behind (variants.Answered answer asked) = answer_behind answer
 text_behind (variants.Got shape) = no_list (codes "get") (spaced_all (shape_numbers (model_shape shape))) _ refl
 text_behind (variants.Size n) = no_list (codes "size") (spaced_all (n ∷ [])) _ (one (codes "size") n)
 text_behind (variants.Recent ids) = ap (λ (z : List ℕ). codes "recent" ++ z) (ids_or_none ids)

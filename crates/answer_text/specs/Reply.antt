@@ -1,12 +1,10 @@
 -- A reply and what it cost as the definitions have them.
-use Rattle.std.specs.Prelude.{map, option_map}
-use Rattle.map_model.specs.Answer as answers
 use Rattle.map_model.specs.Refusal as refusals
 use Rattle.map_model.specs.Reply as replies
 use Rattle.map_model.specs.Cost as costs
 use Rattle.map_shapes.specs.Shape.{model_shape}
-use Rattle.map_shapes.specs.Found.{found_of, peak_of}
 use Rattle.map_shapes.specs.Cost.{spent_of, asked_of}
+use Rattle.map_questions.specs.Any.{answer_of}
 use Rattle.answer_text.specs.declared.refusal.Refusal.{Refusal}
 use Rattle.answer_text.specs.declared.refusal.Refusal.TheVariants as causes
 use Rattle.answer_text.specs.declared.reply.Reply.{Reply}
@@ -33,15 +31,7 @@ refusal_of causes.NoMemory = refusals.NoMemory
 abbrev pub reply_of : Reply → replies.Reply
 reply_of variants.Made = replies.Made
 reply_of (variants.Updated spent) = replies.Updated
-reply_of (variants.Count n asked) = replies.Answered (answers.Counted n)
-reply_of (variants.Sum n asked) = replies.Answered (answers.Summed n)
-reply_of (variants.List ids asked) = replies.Answered (answers.Listed ids)
-reply_of (variants.Near found asked) = replies.Answered (answers.NearestOne (option_map found_of found))
-reply_of (variants.Nearest found asked) = replies.Answered (answers.NearestOnes (map found_of found))
-reply_of (variants.Above ids asked) = replies.Answered (answers.ListedAbove ids)
-reply_of (variants.Top peak asked) = replies.Answered (answers.Highest (option_map peak_of peak))
-reply_of (variants.Stab ids asked) = replies.Answered (answers.Stabbed ids)
-reply_of (variants.StabCount n asked) = replies.Answered (answers.StabCounted n)
+reply_of (variants.Answered answer asked) = replies.Answered (answer_of answer)
 reply_of (variants.Got shape) = replies.Got (model_shape shape)
 reply_of (variants.Size n) = replies.Sized n
 reply_of (variants.Recent ids) = replies.Latest ids
@@ -50,15 +40,7 @@ reply_of (variants.Refused cause) = replies.Refused (refusal_of cause)
 abbrev pub cost_of : Reply → costs.Cost
 cost_of variants.Made = costs.Untold
 cost_of (variants.Updated spent) = costs.Updating (spent_of spent)
-cost_of (variants.Count n asked) = costs.Asking (asked_of asked)
-cost_of (variants.Sum n asked) = costs.Asking (asked_of asked)
-cost_of (variants.List ids asked) = costs.Asking (asked_of asked)
-cost_of (variants.Near found asked) = costs.Asking (asked_of asked)
-cost_of (variants.Nearest found asked) = costs.Asking (asked_of asked)
-cost_of (variants.Above ids asked) = costs.Asking (asked_of asked)
-cost_of (variants.Top peak asked) = costs.Asking (asked_of asked)
-cost_of (variants.Stab ids asked) = costs.Asking (asked_of asked)
-cost_of (variants.StabCount n asked) = costs.Asking (asked_of asked)
+cost_of (variants.Answered answer asked) = costs.Asking (asked_of asked)
 cost_of (variants.Got shape) = costs.Untold
 cost_of (variants.Size n) = costs.Untold
 cost_of (variants.Recent ids) = costs.Untold

@@ -4,6 +4,8 @@ use Rattle.map_model.specs.Reply.{spaced, shape_numbers}
 use Rattle.map_model.specs.Cost.{cost_text}
 use Rattle.map_shapes.specs.declared.found.Found as shapes
 use Rattle.map_shapes.specs.Shape.{model_shape}
+use Rattle.map_questions.specs.declared.any_answer.AnyAnswer.{AnyAnswer}
+use Rattle.map_questions.specs.declared.any_answer.AnyAnswer.TheVariants as answers
 use Rattle.answer_text.specs.declared.refusal.Refusal.{Refusal}
 use Rattle.answer_text.specs.declared.refusal.Refusal.TheVariants as causes
 use Rattle.answer_text.specs.declared.reply.Reply.{Reply}
@@ -28,18 +30,21 @@ refusal_word (causes.Unknown id) = codes "no unknown"
 refusal_word causes.Full = codes "no full"
 refusal_word causes.NoMemory = codes "no memory"
 
+abbrev pub answer_word : AnyAnswer → List ℕ
+answer_word (answers.Counted n) = codes "count"
+answer_word (answers.Summed n) = codes "sum"
+answer_word (answers.Listed ids) = codes "list"
+answer_word (answers.Nearest found) = codes "near"
+answer_word (answers.NearestFew found) = codes "nearest"
+answer_word (answers.ListedAbove ids) = codes "above"
+answer_word (answers.Highest peak) = codes "top"
+answer_word (answers.Stabbed ids) = codes "stab"
+answer_word (answers.StabCounted n) = codes "stabcount"
+
 abbrev pub reply_word : Reply → List ℕ
 reply_word variants.Made = codes "ok"
 reply_word (variants.Updated spent) = codes "ok"
-reply_word (variants.Count n asked) = codes "count"
-reply_word (variants.Sum n asked) = codes "sum"
-reply_word (variants.List ids asked) = codes "list"
-reply_word (variants.Near found asked) = codes "near"
-reply_word (variants.Nearest found asked) = codes "nearest"
-reply_word (variants.Above ids asked) = codes "above"
-reply_word (variants.Top peak asked) = codes "top"
-reply_word (variants.Stab ids asked) = codes "stab"
-reply_word (variants.StabCount n asked) = codes "stabcount"
+reply_word (variants.Answered answer asked) = answer_word answer
 reply_word (variants.Got shape) = codes "get"
 reply_word (variants.Size n) = codes "size"
 reply_word (variants.Recent ids) = codes "recent"
@@ -57,41 +62,52 @@ refusal_numbers (causes.Duplicate id) = spaced_all (id ∷ [])
 refusal_numbers (causes.Unknown id) = spaced_all (id ∷ [])
 refusal_numbers _ = []
 
--- the numbers of a reply but the identifiers that it lists
+-- the numbers of an answer but the identifiers that it lists
+abbrev pub answer_numbers : AnyAnswer → List ℕ
+answer_numbers (answers.Counted n) = spaced_all (n ∷ [])
+answer_numbers (answers.Summed n) = spaced_all (n ∷ [])
+answer_numbers (answers.Listed ids) = []
+answer_numbers (answers.Nearest None) = []
+answer_numbers (answers.Nearest (Some found)) = found_text found
+answer_numbers (answers.NearestFew found) = flat_map found_text found
+answer_numbers (answers.ListedAbove ids) = []
+answer_numbers (answers.Highest None) = []
+answer_numbers (answers.Highest (Some peak)) = spaced_all (peak.id ∷ peak.y ∷ [])
+answer_numbers (answers.Stabbed ids) = []
+answer_numbers (answers.StabCounted n) = spaced_all (n ∷ [])
+
 abbrev pub reply_numbers : Reply → List ℕ
 reply_numbers variants.Made = []
 reply_numbers (variants.Updated spent) = []
-reply_numbers (variants.Count n asked) = spaced_all (n ∷ [])
-reply_numbers (variants.Sum n asked) = spaced_all (n ∷ [])
-reply_numbers (variants.List ids asked) = []
-reply_numbers (variants.Near None asked) = []
-reply_numbers (variants.Near (Some found) asked) = found_text found
-reply_numbers (variants.Nearest found asked) = flat_map found_text found
-reply_numbers (variants.Above ids asked) = []
-reply_numbers (variants.Top None asked) = []
-reply_numbers (variants.Top (Some peak) asked) = spaced_all (peak.id ∷ peak.y ∷ [])
-reply_numbers (variants.Stab ids asked) = []
-reply_numbers (variants.StabCount n asked) = spaced_all (n ∷ [])
+reply_numbers (variants.Answered answer asked) = answer_numbers answer
 reply_numbers (variants.Got shape) = spaced_all (shape_numbers (model_shape shape))
 reply_numbers (variants.Size n) = spaced_all (n ∷ [])
 reply_numbers (variants.Recent ids) = []
 reply_numbers (variants.Refused cause) = refusal_numbers cause
 
+abbrev pub answer_ids : AnyAnswer → List ℕ
+answer_ids (answers.Listed ids) = ids
+answer_ids (answers.ListedAbove ids) = ids
+answer_ids (answers.Stabbed ids) = ids
+answer_ids _ = []
+
 abbrev pub listed_ids : Reply → List ℕ
-listed_ids (variants.List ids asked) = ids
-listed_ids (variants.Above ids asked) = ids
-listed_ids (variants.Stab ids asked) = ids
+listed_ids (variants.Answered answer asked) = answer_ids answer
 listed_ids (variants.Recent ids) = ids
 listed_ids _ = []
 
 -- whether it lists nothing or found nothing
+abbrev pub answers_none : AnyAnswer → Bool
+answers_none (answers.Listed ids) = length ids == 0
+answers_none (answers.Nearest found) = is_none found
+answers_none (answers.NearestFew found) = length found == 0
+answers_none (answers.ListedAbove ids) = length ids == 0
+answers_none (answers.Highest peak) = is_none peak
+answers_none (answers.Stabbed ids) = length ids == 0
+answers_none _ = false
+
 abbrev pub has_none : Reply → Bool
-has_none (variants.List ids asked) = length ids == 0
-has_none (variants.Near found asked) = is_none found
-has_none (variants.Nearest found asked) = length found == 0
-has_none (variants.Above ids asked) = length ids == 0
-has_none (variants.Top peak asked) = is_none peak
-has_none (variants.Stab ids asked) = length ids == 0
+has_none (variants.Answered answer asked) = answers_none answer
 has_none (variants.Recent ids) = length ids == 0
 has_none _ = false
 

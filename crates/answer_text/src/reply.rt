@@ -1,6 +1,7 @@
 // What a command is answered.
 use crate::Refusal;
-use map_shapes::{Asked, Found, FoundList, IdList, Peak, Recent, Shape, Spent};
+use map_questions::AnyAnswer;
+use map_shapes::{Asked, Recent, Shape, Spent};
 
 /// What a command is answered, with what it cost.
 #[derive(Drop)]
@@ -9,19 +10,8 @@ pub enum Reply {
     Made,
     /// An item was added or dropped.
     Updated { spent: Spent },
-    Count { n: u64, asked: Asked },
-    Sum { n: u64, asked: Asked },
-    /// Identifiers in ascending order.
-    List { ids: IdList, asked: Asked },
-    Near { found: Option<Found>, asked: Asked },
-    /// The nearest first.
-    Nearest { found: FoundList, asked: Asked },
-    /// Identifiers in ascending order.
-    Above { ids: IdList, asked: Asked },
-    Top { peak: Option<Peak>, asked: Asked },
-    /// Identifiers in ascending order.
-    Stab { ids: IdList, asked: Asked },
-    StabCount { n: u64, asked: Asked },
+    /// An index answered a question.
+    Answered { answer: AnyAnswer, asked: Asked },
     Got { shape: Shape },
     Size { n: u64 },
     /// The newest first.

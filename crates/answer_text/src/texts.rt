@@ -2,11 +2,12 @@
 ghost use Rattle.std.specs.Prelude.{◌≡◌, ◌+◌, ◌≤◌, ◌∷◌, ◌++◌, length, decimal};
 ghost use Rattle.map_model.specs.Cost.{out_of};
 ghost use Rattle.map_model.specs.Reply.{spaced};
-ghost use Rattle.answer_text.specs.Texts.{refusal_word, reply_word, listed_ids, has_none, none_text};
+ghost use Rattle.answer_text.specs.Texts.{refusal_word, answer_word, reply_word, answer_ids, listed_ids, answers_none, has_none, none_text};
 
 use crate::{Refusal, Reply};
 use arrayvec::ArrayVec;
 use itoa::Buffer;
+use map_questions::AnyAnswer;
 
 /// A short text in place.
 pub type Text = ArrayVec<u8, 64>;
@@ -18,19 +19,28 @@ pub fn reply_word(reply: &Reply) -> &'static [u8]
 {
     match reply {
         Reply::Made | Reply::Updated { .. } => b"ok",
-        Reply::Count { .. } => b"count",
-        Reply::Sum { .. } => b"sum",
-        Reply::List { .. } => b"list",
-        Reply::Near { .. } => b"near",
-        Reply::Nearest { .. } => b"nearest",
-        Reply::Above { .. } => b"above",
-        Reply::Top { .. } => b"top",
-        Reply::Stab { .. } => b"stab",
-        Reply::StabCount { .. } => b"stabcount",
+        Reply::Answered { answer, .. } => answer_word(answer),
         Reply::Got { .. } => b"get",
         Reply::Size { .. } => b"size",
         Reply::Recent { .. } => b"recent",
         Reply::Refused { cause } => refusal_word(*cause),
+    }
+}
+
+fn answer_word(answer: &AnyAnswer) -> &'static [u8]
+    ensures word { result.now ≡ answer_word answer.now }
+    ensures short { length result.now ≤ 64 }
+{
+    match answer {
+        AnyAnswer::Counted(_) => b"count",
+        AnyAnswer::Summed(_) => b"sum",
+        AnyAnswer::Listed(_) => b"list",
+        AnyAnswer::Nearest(_) => b"near",
+        AnyAnswer::NearestFew(_) => b"nearest",
+        AnyAnswer::ListedAbove(_) => b"above",
+        AnyAnswer::Highest(_) => b"top",
+        AnyAnswer::Stabbed(_) => b"stab",
+        AnyAnswer::StabCounted(_) => b"stabcount",
     }
 }
 
@@ -63,21 +73,29 @@ pub fn listed_ids(reply: &Reply) -> &[u64]
     ensures { result.now ≡ listed_ids reply.now }
 {
     match reply {
-        Reply::List { ids, .. } | Reply::Above { ids, .. } | Reply::Stab { ids, .. } => {
-            ids.as_slice()
-        }
+        Reply::Answered { answer, .. } => answer_ids(answer),
         Reply::Recent { ids } => ids.as_slice(),
         Reply::Made
         | Reply::Updated { .. }
-        | Reply::Count { .. }
-        | Reply::Sum { .. }
-        | Reply::Near { .. }
-        | Reply::Nearest { .. }
-        | Reply::Top { .. }
-        | Reply::StabCount { .. }
         | Reply::Got { .. }
         | Reply::Size { .. }
         | Reply::Refused { .. } => &[],
+    }
+}
+
+fn answer_ids(answer: &AnyAnswer) -> &[u64]
+    ensures { result.now ≡ answer_ids answer.now }
+{
+    match answer {
+        AnyAnswer::Listed(ids) | AnyAnswer::ListedAbove(ids) | AnyAnswer::Stabbed(ids) => {
+            ids.as_slice()
+        }
+        AnyAnswer::Counted(_)
+        | AnyAnswer::Summed(_)
+        | AnyAnswer::Nearest(_)
+        | AnyAnswer::NearestFew(_)
+        | AnyAnswer::Highest(_)
+        | AnyAnswer::StabCounted(_) => &[],
     }
 }
 
@@ -93,21 +111,27 @@ fn has_none(reply: &Reply) -> bool
     ensures { result ≡ has_none reply.now }
 {
     match reply {
-        Reply::List { ids, .. } | Reply::Above { ids, .. } | Reply::Stab { ids, .. } => {
-            ids.as_slice().is_empty()
-        }
+        Reply::Answered { answer, .. } => answers_none(answer),
         Reply::Recent { ids } => ids.as_slice().is_empty(),
-        Reply::Near { found, .. } => found.is_none(),
-        Reply::Nearest { found, .. } => found.as_slice().is_empty(),
-        Reply::Top { peak, .. } => peak.is_none(),
         Reply::Made
         | Reply::Updated { .. }
-        | Reply::Count { .. }
-        | Reply::Sum { .. }
-        | Reply::StabCount { .. }
         | Reply::Got { .. }
         | Reply::Size { .. }
         | Reply::Refused { .. } => false,
+    }
+}
+
+fn answers_none(answer: &AnyAnswer) -> bool
+    ensures { result ≡ answers_none answer.now }
+{
+    match answer {
+        AnyAnswer::Listed(ids) | AnyAnswer::ListedAbove(ids) | AnyAnswer::Stabbed(ids) => {
+            ids.as_slice().is_empty()
+        }
+        AnyAnswer::Nearest(found) => found.is_none(),
+        AnyAnswer::NearestFew(found) => found.as_slice().is_empty(),
+        AnyAnswer::Highest(peak) => peak.is_none(),
+        AnyAnswer::Counted(_) | AnyAnswer::Summed(_) | AnyAnswer::StabCounted(_) => false,
     }
 }
 

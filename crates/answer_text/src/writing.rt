@@ -6,12 +6,13 @@ ghost use Rattle.map_shapes.specs.Shape.{model_shape};
 ghost use Rattle.map_shapes.specs.Cost.{spent_of, asked_of};
 ghost use Rattle.answer_text.specs.Reply.{reply_of, cost_of};
 ghost use Rattle.answer_text.specs.Pieces.{DeliversLines, CutOffInPieces, Gathers};
-ghost use Rattle.answer_text.specs.Texts.{reply_numbers, refusal_numbers, spaced_all, found_text, tail_text};
+ghost use Rattle.answer_text.specs.Texts.{answer_numbers, reply_numbers, refusal_numbers, spaced_all, found_text, tail_text};
 
 use crate::piece::{Piece, finish, put};
 use crate::texts::{labelled, listed_ids, none_text, out_of, reply_word, spaced};
 use crate::{Refusal, Reply};
 use map_io::{Sink, WriteFault};
+use map_questions::AnyAnswer;
 use map_shapes::{Asked, Found, Shape, Spent};
 
 /// Writes a reply's line with its line feed; with the ledger, what it cost stands at its end.
@@ -44,29 +45,39 @@ fn put_reply_numbers<K: Sink>(
     ensures cut_off { OnErr result (CutOffInPieces (K.told sink.old) (K.told sink.new) (piece.old.items ++ reply_numbers reply.now)) }
 {
     match reply {
-        Reply::Count { n, .. }
-        | Reply::Sum { n, .. }
-        | Reply::StabCount { n, .. }
-        | Reply::Size { n } => put_numbers(piece, &[*n], sink),
-        Reply::Near {
-            found: Some(found),
-            ..
-        } => put_numbers(piece, &[found.id, found.dist], sink),
-        Reply::Nearest { found, .. } => put_pairs(piece, found.as_slice(), sink),
-        Reply::Top {
-            peak: Some(peak),
-            ..
-        } => put_numbers(piece, &[peak.id, u64::from(peak.y)], sink),
+        Reply::Answered { answer, .. } => put_answer_numbers(piece, answer, sink),
+        Reply::Size { n } => put_numbers(piece, &[*n], sink),
         Reply::Got { shape } => put_numbers(piece, &shape_numbers(*shape), sink),
         Reply::Refused { cause } => put_refusal_numbers(piece, *cause, sink),
-        Reply::Near { found: None, .. }
-        | Reply::Top { peak: None, .. }
-        | Reply::Made
-        | Reply::Updated { .. }
-        | Reply::List { .. }
-        | Reply::Above { .. }
-        | Reply::Stab { .. }
-        | Reply::Recent { .. } => Ok(()),
+        Reply::Made | Reply::Updated { .. } | Reply::Recent { .. } => Ok(()),
+    }
+}
+
+/// The numbers of an answer but the identifiers that it lists.
+#[tactic(auto, using(crate::proofs::Pieces::gathers_none))]
+fn put_answer_numbers<K: Sink>(
+    piece: &mut Piece,
+    answer: &AnyAnswer,
+    sink: &mut K,
+) -> Result<(), WriteFault>
+    requires { length piece.old.items < 64 }
+    ensures gathered { OnOk result (Gathers (K.told sink.old) (K.told sink.new) piece.old.items piece.new.items (answer_numbers answer.now)) }
+    ensures cut_off { OnErr result (CutOffInPieces (K.told sink.old) (K.told sink.new) (piece.old.items ++ answer_numbers answer.now)) }
+{
+    match answer {
+        AnyAnswer::Counted(n) | AnyAnswer::Summed(n) | AnyAnswer::StabCounted(n) => {
+            put_numbers(piece, &[*n], sink)
+        }
+        AnyAnswer::Nearest(Some(found)) => put_numbers(piece, &[found.id, found.dist], sink),
+        AnyAnswer::NearestFew(found) => put_pairs(piece, found.as_slice(), sink),
+        AnyAnswer::Highest(Some(peak)) => {
+            put_numbers(piece, &[peak.id, u64::from(peak.y)], sink)
+        }
+        AnyAnswer::Nearest(None)
+        | AnyAnswer::Highest(None)
+        | AnyAnswer::Listed(_)
+        | AnyAnswer::ListedAbove(_)
+        | AnyAnswer::Stabbed(_) => Ok(()),
     }
 }
 
@@ -136,15 +147,7 @@ fn put_tail<K: Sink>(
     }
     match reply {
         Reply::Updated { spent } => put_spent(piece, *spent, sink),
-        Reply::Count { asked, .. }
-        | Reply::Sum { asked, .. }
-        | Reply::List { asked, .. }
-        | Reply::Near { asked, .. }
-        | Reply::Nearest { asked, .. }
-        | Reply::Above { asked, .. }
-        | Reply::Top { asked, .. }
-        | Reply::Stab { asked, .. }
-        | Reply::StabCount { asked, .. } => put_asked(piece, *asked, sink),
+        Reply::Answered { asked, .. } => put_asked(piece, *asked, sink),
         Reply::Made
         | Reply::Got { .. }
         | Reply::Size { .. }

@@ -1,5 +1,5 @@
 -- Where as many indexes are read as there are words, they are the indexes of all of them.
-use Rattle.std.proofs.Common.{◌≡◌, ℕ, Bool, true, false, cond, not, ◌&&◌, ◌||◌, List, [], ◌∷◌, codes, Option, Some, None, bytes_eq, option_map, refl, sym, ap, ◌∙◌, subst, inl, inr, ◌⊎◌, ◌+◌, ◌<◌, ◌≤◌, length, ltb, nat_lt, arith, option_and_then}
+use Rattle.std.proofs.Common.{◌≡◌, ℕ, Bool, true, false, cond, not, ◌&&◌, ◌||◌, List, [], ◌∷◌, codes, Option, Some, None, bytes_eq, option_map, refl, sym, ap, ◌∙◌, subst, inl, inr, ◌⊎◌, ◌+◌, ◌≤◌, length, ltb, nat_lt, arith, option_and_then}
 use Rattle.std.specs.List.{list_all, list_any}
 use Rattle.std.proofs.Math.Bool.{or-false, or-true, and-false, and-true}
 use Rattle.std.proofs.lemmas.Bool.{cases_Bool, le-ltb, lt-ltb}

@@ -4,3 +4,5 @@ pub mod FieldWords
 pub mod IndexWords
 pub mod Walk
 pub mod SpacedWords
+pub mod Lawful
+pub mod Fronts

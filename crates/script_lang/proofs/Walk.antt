@@ -1,5 +1,5 @@
 -- One walk over the words of a form meets the first fault of its steps.
-use Rattle.std.proofs.Common.{◌≡◌, ℕ, ◌+◌, ◌-◌, ◌<◌, ◌≤◌, Bool, true, false, cond, not, ◌&&◌, ltb, nat_le, nat_lt, nat_eq, List, [], ◌∷◌, codes, length, drop, Option, Some, None, Result, Ok, Err, bytes_eq, count_by, arith, refl, sym, ap, ◌∙◌, inl, inr, length-drop, length-append, get_or}
+use Rattle.std.proofs.Common.{◌≡◌, ℕ, ◌+◌, ◌-◌, ◌<◌, ◌≤◌, Bool, true, false, cond, not, ◌&&◌, nat_le, nat_lt, nat_eq, List, [], ◌∷◌, codes, length, drop, Option, Some, None, Result, Ok, Err, bytes_eq, count_by, arith, refl, sym, ap, ◌∙◌, inl, inr, length-drop, length-append, get_or}
 use Rattle.std.proofs.Math.Bool.{and-false, and-true}
 use Rattle.std.proofs.lemmas.List.{length-map}
 use Rattle.std.proofs.lemmas.List.Sums.{count_by-le-length, sum_by-drop_more}
@@ -10,10 +10,10 @@ use Rattle.std.proofs.lemmas.Bool.Decides.{nat_tests}
 use Rattle.map_model.specs.Words.{is_name, name_field}
 use Rattle.map_model.specs.Words as grammar
 use Rattle.map_model.specs.Shape as shapes
-use Rattle.map_model.specs.Index.{IndexSet, no_indexes, index_count}
+use Rattle.map_model.specs.Index.{IndexSet, index_count}
 use Rattle.map_model.specs.LineFault as faults
 use Rattle.map_model.specs.Form as model
-use Rattle.map_model.specs.Grammar.{Values, Parsed, named, is_printable, without_return, is_digits, is_in_range, all_fields, has_words, with_value, with_values, command_of, takes_word, is_distinct, index_set, parse_indexes, parse_kind, parse_fields, parse_form, parse_verb, parse_words, parse_text, parse}
+use Rattle.map_model.specs.Grammar.{Values, Parsed, named, is_printable, is_digits, is_in_range, all_fields, has_words, with_value, with_values, command_of, takes_word, is_distinct, index_set, parse_indexes, parse_kind, parse_fields, parse_form, parse_verb, parse_words}
 use Rattle.map_shapes.specs.declared.kind.Kind.{Kind}
 use Rattle.map_shapes.specs.declared.kind.Kind.TheVariants.{Points, Segments}
 use Rattle.map_shapes.specs.Kind.{kind_of}
@@ -27,7 +27,7 @@ use Rattle.script_lang.specs.declared.line_fault.LineFault.TheVariants as errors
 use Rattle.script_lang.specs.Form.{field_of, fields_of, form_of, is_coordinate, limits_of_field, verb_of}
 use Rattle.script_lang.specs.Numbers.{no_numbers, with_number, number_in, with_read, with_word, with_words}
 use Rattle.script_lang.specs.Read.{has_end, values_in, layered, ended, finished, walked}
-use Rattle.script_lang.specs.Indexes.{kind_in, no_index, with_index_words, Layer, kind_layer, layer_in}
+use Rattle.script_lang.specs.Indexes.{kind_in, no_index, with_index_words, kind_layer, layer_in}
 use Rattle.script_lang.proofs.IndexWords.{set_if, indexes_by_count}
 
 -- ---- numbers

@@ -5,3 +5,4 @@ pub mod Numbers
 pub mod Indexes
 pub mod Command
 pub mod Read
+pub mod Front

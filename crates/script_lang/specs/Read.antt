@@ -1,8 +1,8 @@
 -- What is left to look at once the words of a line are read along their form.
 use Rattle.std.specs.Prelude.{ℕ, ◌+◌, ◌==◌, Bool, not, List, length, Option, Some, None, Result, Ok, Err, nat_le, nat_lt, if◌then◌else◌}
 use Rattle.map_model.specs.Words.{words, name_field}
-use Rattle.map_model.specs.Index.{IndexSet, no_indexes, index_count}
-use Rattle.map_model.specs.Shape.{Kind, Points}
+use Rattle.map_model.specs.Index.{no_indexes, index_count}
+use Rattle.map_model.specs.Shape.{Points}
 use Rattle.map_model.specs.LineFault as faults
 use Rattle.map_model.specs.Form as model
 use Rattle.map_model.specs.Grammar.{Values, Parsed, command_of}
@@ -10,7 +10,7 @@ use Rattle.script_lang.specs.declared.line_fault.LineFault.{LineFault}
 use Rattle.script_lang.specs.declared.numbers.Numbers.{Numbers}
 use Rattle.script_lang.specs.declared.reading.Read.{Read}
 use Rattle.script_lang.specs.LineFault.{fault_of}
-use Rattle.script_lang.specs.Form.{verb_of, form_of, IsRow}
+use Rattle.script_lang.specs.Form.{verb_of, form_of}
 use Rattle.script_lang.specs.Indexes.{Layer, layer_in}
 
 -- a kind and one or more indexes stand there, or nothing, where none follow

@@ -1,5 +1,6 @@
 // What a line asks for.
-use map_shapes::{IndexSet, Kind, Name, Rect};
+use map_questions::AnyQuestion;
+use map_shapes::{IndexSet, Kind, Name};
 
 /// What a line asks for. Coordinates and weights are at most 2,147,483,647; no lower end is past its upper end; `k` is
 /// from 1 to 64; and the indexes of a layer fit its kind.
@@ -32,56 +33,11 @@ pub enum Command {
         name: Name,
         id: u64,
     },
-    /// `count NAME X1 Y1 X2 Y2`
-    Count {
+    /// `count`, `sum` or `list NAME X1 Y1 X2 Y2`, `near NAME X Y`, `nearest NAME K X Y`, `above NAME X1 X2 Y`,
+    /// `top NAME X1 X2`, `stab` or `stabcount NAME X`
+    Ask {
         name: Name,
-        rect: Rect,
-    },
-    /// `sum NAME X1 Y1 X2 Y2`
-    Sum {
-        name: Name,
-        rect: Rect,
-    },
-    /// `list NAME X1 Y1 X2 Y2`
-    List {
-        name: Name,
-        rect: Rect,
-    },
-    /// `near NAME X Y`
-    Near {
-        name: Name,
-        x: u32,
-        y: u32,
-    },
-    /// `nearest NAME K X Y`
-    Nearest {
-        name: Name,
-        k: u32,
-        x: u32,
-        y: u32,
-    },
-    /// `above NAME X1 X2 Y`
-    Above {
-        name: Name,
-        x1: u32,
-        x2: u32,
-        y: u32,
-    },
-    /// `top NAME X1 X2`
-    Top {
-        name: Name,
-        x1: u32,
-        x2: u32,
-    },
-    /// `stab NAME X`
-    Stab {
-        name: Name,
-        x: u32,
-    },
-    /// `stabcount NAME X`
-    StabCount {
-        name: Name,
-        x: u32,
+        question: AnyQuestion,
     },
     /// `get NAME ID`
     Get {

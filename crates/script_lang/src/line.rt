@@ -1,7 +1,8 @@
 // The line that a command is written as.
 ghost use Rattle.std.specs.Prelude.{◌≡◌, [], ◌∷◌, ◌++◌, IfOk, OnOk, Ok, Some, map, codes, decimal, if◌then◌else◌};
 ghost use Rattle.map_model.specs.Grammar.{parse};
-ghost use Rattle.map_model.specs.Line.{IsCommand, spaced_words, command_line, kind_word, index_words, rect_words};
+ghost use Rattle.map_model.specs.Line.{IsCommand, spaced_words, command_line, kind_word, index_words, question_words, rect_words};
+ghost use Rattle.map_questions.specs.Any.{question_of};
 ghost use Rattle.map_shapes.specs.Kind.{kind_of};
 ghost use Rattle.map_shapes.specs.IndexSet.{index_set_of};
 ghost use Rattle.map_shapes.specs.Rect.{rect_of};
@@ -10,6 +11,7 @@ ghost use Rattle.script_lang.specs.Command.{command_of};
 use crate::Command;
 use crate::indexes::{NEAR, POINTS, RANGE, SEGMENTS, STAB, TOP};
 use itoa::Buffer;
+use map_questions::AnyQuestion;
 use map_shapes::{IndexSet, Kind, Name, Rect};
 use std::alloc::{AllocError, Global};
 
@@ -49,25 +51,33 @@ impl Command {
                 y,
             } => write_numbers(b"seg", name, &shape(id, lo, hi, y), line),
             Command::Drop { name, id } => write_numbers(b"drop", name, &[id], line),
-            Command::Count { name, rect } => write_numbers(b"count", name, &corners(rect), line),
-            Command::Sum { name, rect } => write_numbers(b"sum", name, &corners(rect), line),
-            Command::List { name, rect } => write_numbers(b"list", name, &corners(rect), line),
-            Command::Near { name, x, y } => write_numbers(b"near", name, &pair(x, y), line),
-            Command::Nearest { name, k, x, y } => {
-                write_numbers(b"nearest", name, &triple(k, x, y), line)
-            }
-            Command::Above { name, x1, x2, y } => {
-                write_numbers(b"above", name, &triple(x1, x2, y), line)
-            }
-            Command::Top { name, x1, x2 } => write_numbers(b"top", name, &pair(x1, x2), line),
-            Command::Stab { name, x } => write_numbers(b"stab", name, &[u64::from(x)], line),
-            Command::StabCount { name, x } => {
-                write_numbers(b"stabcount", name, &[u64::from(x)], line)
-            }
+            Command::Ask { name, question } => write_question(name, question, line),
             Command::Get { name, id } => write_numbers(b"get", name, &[id], line),
             Command::Size { name } => write_numbers(b"size", name, &[], line),
             Command::Recent { name, k } => write_numbers(b"recent", name, &[u64::from(k)], line),
         }
+    }
+}
+
+/// The line of a question.
+fn write_question(name: Name, question: AnyQuestion, line: &mut Vec<u8>) -> Result<(), AllocError>
+    requires { line.old.items ≡ [] }
+    ensures { OnOk result (line.new.items ≡ spaced_words (question_words name (question_of question))) }
+{
+    match question {
+        AnyQuestion::CountIn(q) => write_numbers(b"count", name, &corners(q.0), line),
+        AnyQuestion::SumIn(q) => write_numbers(b"sum", name, &corners(q.0), line),
+        AnyQuestion::ListIn(q) => write_numbers(b"list", name, &corners(q.0), line),
+        AnyQuestion::Near(q) => write_numbers(b"near", name, &pair(q.x, q.y), line),
+        AnyQuestion::NearK(q) => {
+            write_numbers(b"nearest", name, &triple(q.k as u64, q.x, q.y), line)
+        }
+        AnyQuestion::Above(q) => {
+            write_numbers(b"above", name, &triple(u64::from(q.x1), q.x2, q.y), line)
+        }
+        AnyQuestion::Top(q) => write_numbers(b"top", name, &pair(q.x1, q.x2), line),
+        AnyQuestion::Stab(q) => write_numbers(b"stab", name, &[u64::from(q.x)], line),
+        AnyQuestion::StabCount(q) => write_numbers(b"stabcount", name, &[u64::from(q.x)], line),
     }
 }
 
@@ -77,10 +87,10 @@ fn pair(a: u32, b: u32) -> [u64; 2]
     [u64::from(a), u64::from(b)]
 }
 
-fn triple(a: u32, b: u32, c: u32) -> [u64; 3]
+fn triple(a: u64, b: u32, c: u32) -> [u64; 3]
     ensures { result ≡ a ∷ b ∷ c ∷ [] }
 {
-    [u64::from(a), u64::from(b), u64::from(c)]
+    [a, u64::from(b), u64::from(c)]
 }
 
 /// An identifier and the numbers of a shape.

@@ -1,20 +1,21 @@
 // The command that the words of a line make.
-ghost use Rattle.std.specs.Prelude.{◌≡◌, ◌≤◌, true, slice_index};
+ghost use Rattle.std.specs.Prelude.{◌≡◌, ◌≤◌, slice_index};
 ghost use Rattle.map_model.specs.Command as commands;
 ghost use Rattle.map_model.specs.Form as model;
 ghost use Rattle.map_model.specs.Grammar as grammar;
+ghost use Rattle.map_model.specs.Line.{InLimits};
 ghost use Rattle.map_model.specs.Shape as shapes;
+ghost use Rattle.map_questions.specs.Any.{question_of};
 ghost use Rattle.map_shapes.specs.Rect.{rect_of};
 ghost use Rattle.script_lang.specs.Form.{verb_of, verb_of_question, order_of};
-ghost use Rattle.map_shapes.specs.declared.kind.Kind.{Kind};
-ghost use Rattle.map_shapes.specs.declared.index_set.IndexSet.{IndexSet};
 ghost use Rattle.script_lang.specs.Command.{command_of, values_of};
 
 use crate::Command;
 use crate::coordinates::Coordinates;
 use crate::form::{Order, Question, Verb};
 use crate::numbers::Numbers;
-use map_shapes::{IndexSet, Kind, Name, Rect};
+use map_questions::{Above, AnyQuestion, Near, NearK, Stab, StabCount, Top};
+use map_shapes::{CountIn, IndexSet, Kind, ListIn, Name, Rect, SumIn};
 
 impl Order {
     /// Whether the coordinates are in this order.
@@ -29,33 +30,42 @@ impl Order {
     }
 }
 
-/// The command of a verb, whose coordinates are in the order of its form.
-#[tactic(auto, unfolding(map_model::specs::Form::form, map_model::specs::Grammar::command_of))]
-pub fn make_command(
-    verb: Verb,
-    name: Name,
-    numbers: &Numbers,
-    kind: Kind,
-    indexes: IndexSet,
-) -> Command
-    requires { model.is_ordered (model.form (verb_of verb)).order numbers.now.places ≡ true }
-    ensures { command_of result ≡ grammar.command_of (verb_of verb) (values_of name numbers.now kind indexes) }
+/// What the words of a line say, but for its command word.
+#[derive(Drop)]
+pub struct Values<'a> {
+    pub name: Name,
+    pub numbers: &'a Numbers,
+    pub kind: Kind,
+    pub indexes: IndexSet,
+}
+
+/// The command of a verb.
+#[tactic(auto, unfolding(map_model::specs::Grammar::command_of))]
+pub fn make_command(verb: Verb, values: &Values) -> Command
+    requires { InLimits (grammar.command_of (verb_of verb) (values_of values.now)) }
+    ensures { command_of result ≡ grammar.command_of (verb_of verb) (values_of values.now) }
 {
-    let id = numbers.id;
-    let k = numbers.amount;
+    let name = values.name;
+    let id = values.numbers.id;
     match verb {
         Verb::Layer => Command::Layer {
             name,
-            kind,
-            indexes,
+            kind: values.kind,
+            indexes: values.indexes,
         },
-        Verb::Add => make_add(name, numbers),
-        Verb::Seg => make_seg(name, numbers),
+        Verb::Add => make_add(name, values.numbers),
+        Verb::Seg => make_seg(name, values.numbers),
         Verb::Drop => Command::Drop { name, id },
-        Verb::Ask(question) => make_question(question, name, numbers),
+        Verb::Ask(question) => Command::Ask {
+            name,
+            question: make_question(question, values),
+        },
         Verb::Get => Command::Get { name, id },
         Verb::Size => Command::Size { name },
-        Verb::Recent => Command::Recent { name, k },
+        Verb::Recent => Command::Recent {
+            name,
+            k: values.numbers.amount,
+        },
     }
 }
 
@@ -83,39 +93,25 @@ fn make_seg(name: Name, numbers: &Numbers) -> Command
     }
 }
 
-/// The command that asks a question.
-#[tactic(auto, unfolding(map_model::specs::Form::form, map_model::specs::Grammar::command_of))]
-fn make_question(question: Question, name: Name, numbers: &Numbers) -> Command
-    requires { model.is_ordered (model.form (verb_of_question question)).order numbers.now.places ≡ true }
-    ensures { (kind : Kind) (indexes : IndexSet) → command_of result ≡ grammar.command_of (verb_of_question question) (values_of name numbers.now kind indexes) }
+/// The question of a command that asks.
+#[tactic(auto, unfolding(map_model::specs::Grammar::command_of))]
+fn make_question(question: Question, values: &Values) -> AnyQuestion
+    requires { InLimits (grammar.command_of (verb_of_question question) (values_of values.now)) }
+    ensures { commands.Ask values.now.name (question_of result) ≡ grammar.command_of (verb_of_question question) (values_of values.now) }
 {
-    let places = &numbers.places;
-    let k = numbers.amount;
+    let places = &values.numbers.places;
+    let k = values.numbers.amount as usize;
     let (x, y, z) = first_three(places);
     match question {
-        Question::Count => Command::Count {
-            name,
-            rect: corners(places),
-        },
-        Question::Sum => Command::Sum {
-            name,
-            rect: corners(places),
-        },
-        Question::List => Command::List {
-            name,
-            rect: corners(places),
-        },
-        Question::Near => Command::Near { name, x, y },
-        Question::Nearest => Command::Nearest { name, k, x, y },
-        Question::Above => Command::Above {
-            name,
-            x1: x,
-            x2: y,
-            y: z,
-        },
-        Question::Top => Command::Top { name, x1: x, x2: y },
-        Question::Stab => Command::Stab { name, x },
-        Question::StabCount => Command::StabCount { name, x },
+        Question::Count => AnyQuestion::CountIn(CountIn(corners(places))),
+        Question::Sum => AnyQuestion::SumIn(SumIn(corners(places))),
+        Question::List => AnyQuestion::ListIn(ListIn(corners(places))),
+        Question::Near => AnyQuestion::Near(Near { x, y }),
+        Question::Nearest => AnyQuestion::NearK(NearK { k, x, y }),
+        Question::Above => AnyQuestion::Above(Above { x1: x, x2: y, y: z }),
+        Question::Top => AnyQuestion::Top(Top { x1: x, x2: y }),
+        Question::Stab => AnyQuestion::Stab(Stab { x }),
+        Question::StabCount => AnyQuestion::StabCount(StabCount { x }),
     }
 }
 
@@ -128,7 +124,8 @@ fn first_three(places: &Coordinates) -> (u32, u32, u32)
 
 /// The rectangle of four coordinates.
 fn corners(places: &Coordinates) -> Rect
-    requires { model.is_ordered model.Corners places.now ≡ true }
+    requires x_ordered { slice_index places.now 0 ≤ slice_index places.now 2 }
+    requires y_ordered { slice_index places.now 1 ≤ slice_index places.now 3 }
     ensures { rect_of result ≡ record {
       x1 = slice_index places.now 0;
       y1 = slice_index places.now 1;

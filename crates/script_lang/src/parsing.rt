@@ -5,7 +5,7 @@ ghost use Rattle.script_lang.specs.Command.{parsed};
 ghost use Rattle.script_lang.specs.Read.{has_end};
 
 use crate::indexes::{index_count, read_layer};
-use crate::making::make_command;
+use crate::making::{Values, make_command};
 use crate::reading::read_line;
 use crate::words::count_words;
 use crate::{Command, LineFault};
@@ -13,6 +13,9 @@ use map_shapes::Name;
 
 /// The longest line, in bytes.
 const LONGEST_LINE: usize = 256;
+
+/// So many bytes at the front of a line are enough: one more than the longest line with a carriage return.
+pub const LONGEST_FRONT: usize = LONGEST_LINE + 2;
 
 /// What a line says that comes without its line feed: `None` where it says nothing, and else a command or the first
 /// fault that holds.
@@ -48,8 +51,13 @@ pub fn parse(line: &[u8]) -> Result<Option<Command>, LineFault>
     if index_count(indexes) + 1 < left {
         return Err(LineFault::Index);
     }
-    let command = make_command(read.form.verb, name, &read.numbers, kind, indexes);
-    Ok(Some(command))
+    let values = Values {
+        name,
+        numbers: &read.numbers,
+        kind,
+        indexes,
+    };
+    Ok(Some(make_command(read.form.verb, &values)))
 }
 
 /// The line without one carriage return at its end.

@@ -1,5 +1,6 @@
 //! A line of each form, and lines that are wrong in each way.
-use map_shapes::Kind;
+use map_questions::{Above, AnyQuestion, Near, NearK, Stab, StabCount, Top};
+use map_shapes::{CountIn, Kind, ListIn, SumIn};
 use script_lang::{Command, Limits, LineFault, parse, parse_number};
 use std::alloc::Global;
 use std::test::Fail;
@@ -51,13 +52,13 @@ fn reads_updates(rt: HostRuntime) {
 #[test]
 fn reads_questions_of_rectangles(rt: HostRuntime) {
     assert!(rt;
-        matches!(parse(b"count a 1 2 3 4"), Ok(Some(Command::Count { rect, .. })) if rect.x1 == 1 && rect.y1 == 2 && rect.x2 == 3 && rect.y2 == 4)
+        matches!(parse(b"count a 1 2 3 4"), Ok(Some(Command::Ask { question: AnyQuestion::CountIn(CountIn(rect)), .. })) if rect.x1 == 1 && rect.y1 == 2 && rect.x2 == 3 && rect.y2 == 4)
     );
     assert!(rt;
-        matches!(parse(b"sum a 1 2 3 4"), Ok(Some(Command::Sum { rect, .. })) if rect.y2 == 4)
+        matches!(parse(b"sum a 1 2 3 4"), Ok(Some(Command::Ask { question: AnyQuestion::SumIn(SumIn(rect)), .. })) if rect.y2 == 4)
     );
     assert!(rt;
-        matches!(parse(b"list a 1 2 3 4"), Ok(Some(Command::List { rect, .. })) if rect.x2 == 3)
+        matches!(parse(b"list a 1 2 3 4"), Ok(Some(Command::Ask { question: AnyQuestion::ListIn(ListIn(rect)), .. })) if rect.x2 == 3)
     );
 }
 
@@ -66,16 +67,22 @@ fn reads_questions_of_places(rt: HostRuntime) {
     assert!(rt;
         matches!(
             parse(b"near a 1 2"),
-            Ok(Some(Command::Near { x: 1, y: 2, .. }))
+            Ok(Some(Command::Ask {
+                question: AnyQuestion::Near(Near { x: 1, y: 2, .. }),
+                ..
+            }))
         )
     );
     assert!(rt;
         matches!(
             parse(b"nearest a 64 1 2"),
-            Ok(Some(Command::Nearest {
-                k: 64,
-                x: 1,
-                y: 2,
+            Ok(Some(Command::Ask {
+                question: AnyQuestion::NearK(NearK {
+                    k: 64,
+                    x: 1,
+                    y: 2,
+                    ..
+                }),
                 ..
             }))
         )
@@ -83,10 +90,13 @@ fn reads_questions_of_places(rt: HostRuntime) {
     assert!(rt;
         matches!(
             parse(b"above a 1 2 3"),
-            Ok(Some(Command::Above {
-                x1: 1,
-                x2: 2,
-                y: 3,
+            Ok(Some(Command::Ask {
+                question: AnyQuestion::Above(Above {
+                    x1: 1,
+                    x2: 2,
+                    y: 3,
+                    ..
+                }),
                 ..
             }))
         )
@@ -94,18 +104,32 @@ fn reads_questions_of_places(rt: HostRuntime) {
     assert!(rt;
         matches!(
             parse(b"top a 1 2"),
-            Ok(Some(Command::Top { x1: 1, x2: 2, .. }))
+            Ok(Some(Command::Ask {
+                question: AnyQuestion::Top(Top { x1: 1, x2: 2, .. }),
+                ..
+            }))
         )
     );
 }
 
 #[test]
 fn reads_questions_of_segments(rt: HostRuntime) {
-    assert!(rt; matches!(parse(b"stab a 1"), Ok(Some(Command::Stab { x: 1, .. }))));
+    assert!(rt;
+        matches!(
+            parse(b"stab a 1"),
+            Ok(Some(Command::Ask {
+                question: AnyQuestion::Stab(Stab { x: 1, .. }),
+                ..
+            }))
+        )
+    );
     assert!(rt;
         matches!(
             parse(b"stabcount a 1"),
-            Ok(Some(Command::StabCount { x: 1, .. }))
+            Ok(Some(Command::Ask {
+                question: AnyQuestion::StabCount(StabCount { x: 1, .. }),
+                ..
+            }))
         )
     );
 }

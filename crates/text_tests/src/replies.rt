@@ -3,6 +3,7 @@ ghost use Rattle.std.specs.Prelude.{◌<◌};
 
 use answer_text::{Refusal, Reply, write_reply};
 use map_io::MemSink;
+use map_questions::AnyAnswer;
 use map_shapes::{Asked, Found, FoundList, IdList, Peak, Recent, Shape, Spent};
 use std::alloc::Global;
 use std::process::Abort;
@@ -83,21 +84,30 @@ fn writes_numbers(rt: HostRuntime) -> Result<(), Fail> {
     check(
         &rt,
         rt.alloc(),
-        &Reply::Count { n: 0, asked },
+        &Reply::Answered {
+            answer: AnyAnswer::Counted(0),
+            asked,
+        },
         b"count 0",
         tail,
     )?;
     check(
         &rt,
         rt.alloc(),
-        &Reply::Sum { n: u64::MAX, asked },
+        &Reply::Answered {
+            answer: AnyAnswer::Summed(u64::MAX),
+            asked,
+        },
         b"sum 18446744073709551615",
         tail,
     )?;
     check(
         &rt,
         rt.alloc(),
-        &Reply::StabCount { n: 2, asked },
+        &Reply::Answered {
+            answer: AnyAnswer::StabCounted(2),
+            asked,
+        },
         b"stabcount 2",
         tail,
     )?;
@@ -115,15 +125,18 @@ fn writes_the_nearest(rt: HostRuntime) -> Result<(), Fail> {
     check(
         &rt,
         rt.alloc(),
-        &Reply::Near { found: None, asked },
+        &Reply::Answered {
+            answer: AnyAnswer::Nearest(None),
+            asked,
+        },
         b"near none",
         tail,
     )?;
     check(
         &rt,
         rt.alloc(),
-        &Reply::Near {
-            found: Some(near),
+        &Reply::Answered {
+            answer: AnyAnswer::Nearest(Some(near)),
             asked,
         },
         b"near 1 9223372028264841218",
@@ -133,8 +146,8 @@ fn writes_the_nearest(rt: HostRuntime) -> Result<(), Fail> {
     check(
         &rt,
         rt.alloc(),
-        &Reply::Nearest {
-            found: FoundList::new(),
+        &Reply::Answered {
+            answer: AnyAnswer::NearestFew(FoundList::new()),
             asked,
         },
         b"nearest none",
@@ -145,7 +158,10 @@ fn writes_the_nearest(rt: HostRuntime) -> Result<(), Fail> {
     check(
         &rt,
         rt.alloc(),
-        &Reply::Nearest { found, asked },
+        &Reply::Answered {
+            answer: AnyAnswer::NearestFew(found),
+            asked,
+        },
         b"nearest 4 1 9 1",
         tail,
     )?;
@@ -159,7 +175,10 @@ fn writes_the_highest(rt: HostRuntime) -> Result<(), Fail> {
     check(
         &rt,
         rt.alloc(),
-        &Reply::Top { peak: None, asked },
+        &Reply::Answered {
+            answer: AnyAnswer::Highest(None),
+            asked,
+        },
         b"top none",
         tail,
     )?;
@@ -167,7 +186,10 @@ fn writes_the_highest(rt: HostRuntime) -> Result<(), Fail> {
     check(
         &rt,
         rt.alloc(),
-        &Reply::Top { peak, asked },
+        &Reply::Answered {
+            answer: AnyAnswer::Highest(peak),
+            asked,
+        },
         b"top 2 7",
         tail,
     )?;
@@ -182,7 +204,10 @@ fn writes_identifiers(rt: HostRuntime) -> Result<(), Fail> {
     check(
         &rt,
         rt.alloc(),
-        &Reply::List { ids: none, asked },
+        &Reply::Answered {
+            answer: AnyAnswer::Listed(none),
+            asked,
+        },
         b"list none",
         tail,
     )?;
@@ -190,7 +215,10 @@ fn writes_identifiers(rt: HostRuntime) -> Result<(), Fail> {
     check(
         &rt,
         rt.alloc(),
-        &Reply::List { ids, asked },
+        &Reply::Answered {
+            answer: AnyAnswer::Listed(ids),
+            asked,
+        },
         b"list 1 2 18446744073709551615",
         tail,
     )?;
@@ -198,7 +226,10 @@ fn writes_identifiers(rt: HostRuntime) -> Result<(), Fail> {
     check(
         &rt,
         rt.alloc(),
-        &Reply::Above { ids, asked },
+        &Reply::Answered {
+            answer: AnyAnswer::ListedAbove(ids),
+            asked,
+        },
         b"above 8",
         tail,
     )?;
@@ -206,7 +237,10 @@ fn writes_identifiers(rt: HostRuntime) -> Result<(), Fail> {
     check(
         &rt,
         rt.alloc(),
-        &Reply::Stab { ids, asked },
+        &Reply::Answered {
+            answer: AnyAnswer::Stabbed(ids),
+            asked,
+        },
         b"stab 1 2",
         tail,
     )?;
@@ -221,7 +255,10 @@ fn writes_no_identifiers(rt: HostRuntime) -> Result<(), Fail> {
     check(
         &rt,
         rt.alloc(),
-        &Reply::Above { ids, asked },
+        &Reply::Answered {
+            answer: AnyAnswer::ListedAbove(ids),
+            asked,
+        },
         b"above none",
         tail,
     )?;
@@ -229,7 +266,10 @@ fn writes_no_identifiers(rt: HostRuntime) -> Result<(), Fail> {
     check(
         &rt,
         rt.alloc(),
-        &Reply::Stab { ids, asked },
+        &Reply::Answered {
+            answer: AnyAnswer::Stabbed(ids),
+            asked,
+        },
         b"stab none",
         tail,
     )?;
@@ -251,8 +291,8 @@ fn writes_the_largest_numbers(rt: HostRuntime) -> Result<(), Fail> {
     check(
         &rt,
         rt.alloc(),
-        &Reply::Near {
-            found: Some(largest),
+        &Reply::Answered {
+            answer: AnyAnswer::Nearest(Some(largest)),
             asked,
         },
         b"near 18446744073709551615 18446744073709551615",
@@ -265,7 +305,10 @@ fn writes_the_largest_numbers(rt: HostRuntime) -> Result<(), Fail> {
     check(
         &rt,
         rt.alloc(),
-        &Reply::Top { peak, asked },
+        &Reply::Answered {
+            answer: AnyAnswer::Highest(peak),
+            asked,
+        },
         b"top 18446744073709551615 2147483647",
         tail,
     )?;
@@ -334,8 +377,8 @@ fn writes_refusals(rt: HostRuntime) -> Result<(), Fail> {
 fn list_of(alloc: Global, sevens: usize) -> Result<Reply, Fail> {
     let mut ids = vec![in alloc; 7u64; sevens]?;
     ids.push(10)?;
-    Ok(Reply::List {
-        ids: IdList::from(ids),
+    Ok(Reply::Answered {
+        answer: AnyAnswer::Listed(IdList::from(ids)),
         asked: asked(),
     })
 }

@@ -1,6 +1,6 @@
 use Rattle.std.proofs.Common.{rules, [], ◌∷◌, ◌++◌, refl}
 use Rattle.answer_text.specs.Texts.{reply_numbers, listed_ids, none_text, spaced_all, tail_text}
-use Rattle.answer_text.proofs.Pieces.{gathers_both, gathers_end, prefix_first, prefix_second, before_two, before_three, before_four, before_five, before_last, prefix_end, ok_weaker, err_weaker, err_any}
+use Rattle.answer_text.proofs.Pieces.{gathers_both, gathers_end, prefix_second, before_two, before_three, before_four, before_five, before_last, prefix_end, ok_weaker, err_weaker, err_any}
 use Rattle.answer_text.proofs.ReplyTexts.{line_appended, line_cut}
 use Rattle.answer_text.proofs.writing.write_reply.Goals as goal
 

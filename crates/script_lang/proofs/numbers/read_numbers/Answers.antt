@@ -1,5 +1,4 @@
 use Rattle.std.proofs.Common.{sym, ap, ◌∙◌, option_map, subst, ◌≤◌, ◌+◌, length, count_by, drop}
-use Rattle.map_model.specs.Words.{words}
 use Rattle.script_lang.specs.Form.{is_coordinate}
 use Rattle.script_lang.specs.declared.numbers.Numbers.{Numbers}
 use Rattle.script_lang.proofs.FieldWords.{none_left, one_left}
