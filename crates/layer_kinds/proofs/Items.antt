@@ -1,11 +1,13 @@
 -- The items of a layer, as the definitions have them, beside its directory.
-use Rattle.std.proofs.Common.{◌≡◌, ℕ, ◌≤◌, true, List, [], ◌∷◌, Some, None, length, refl, arith}
+use Rattle.std.proofs.Common.{◌≡◌, ℕ, ◌≤◌, true, List, [], ◌∷◌, Some, None, length, map, take, refl, sym, ap, arith}
+use Rattle.std.specs.Prelude.{reverse}
 use Rattle.std.specs.Option.{is_some}
 use Rattle.std.proofs.lemmas.Bool.Decides.{nat_tests}
 use Rattle.std.proofs.lemmas.Grind.{common_steps}
 use Rattle.std.proofs.lemmas.List.{length-map}
 use Rattle.id_chain.specs.Chain.{Entry, HandlesDiffer, is_linked, item_at}
-use Rattle.id_directory.specs.Directory.{handle_of, without, IdsDiffer}
+use Rattle.id_directory.specs.Directory.{ids, handle_of, without, IdsDiffer}
+use Rattle.map_model.specs.Answer.{latest}
 use Rattle.map_model.specs.State.{Item, is_live, shape_of, without_item}
 use Rattle.layer_kinds.specs.Layered.{items_of}
 
@@ -45,6 +47,15 @@ module _ {I : Type 0} (id_of : I → ℕ) (item_of : I → Item) (same : (x : I)
   shape_found id handle x [] differ found at = absurd cc
   shape_found id handle x (e ∷ es) differ found at =
       grind (arith, nat_tests, common_steps, shape_found id handle x es differ.1, linked_found id_of id handle es, differ.0, same e.item)
+
+module _ {I : Type 0} (id_of : I → ℕ) (item_of : I → Item) (same : (x : I) → (item_of x).id ≡ id_of x) where
+  ids_of_items : (es : List (Entry I)) → map (λ item. item.id) (items_of item_of es) ≡ ids id_of es
+  ids_of_items [] = refl
+  ids_of_items (e ∷ es) = λ i. same e.item i ∷ ids_of_items es i
+
+  -- the last identifiers are those of the items
+  pub latest_ids : (k : ℕ) (es : List (Entry I)) → take k (reverse (ids id_of es)) ≡ latest k (items_of item_of es)
+  latest_ids k es = ap (λ xs. take k (reverse xs)) (sym (ids_of_items es))
 
 pub as_many_items : {I : Type 0} (item_of : I → Item) (es : List (Entry I)) → length (items_of item_of es) ≡ length es
 as_many_items item_of es = length-map es (λ e. item_of e.item)

@@ -6,6 +6,7 @@ ghost use Rattle.std.specs.Option.{option_map};
 ghost use Rattle.std.specs.Result.{is_ok};
 ghost use Rattle.query_laws.specs.StepLedger.{AtLapStart};
 ghost use Rattle.map_model.specs.Index.{one_if};
+ghost use Rattle.map_model.specs.Answer.{latest};
 ghost use Rattle.map_model.specs.State as state;
 ghost use Rattle.map_model.specs.Cost.{bounds_at};
 ghost use Rattle.map_shapes.specs.Shape.{model_shape};
@@ -17,7 +18,7 @@ use crate::bounds::{Bounds, spent};
 use crate::{Indexes, UpdateFault};
 pub use asking::ask_layer;
 use id_directory::Directory;
-use map_shapes::{Name, Shape, Shaped, Spent};
+use map_shapes::{Name, Recent, Shape, Shaped, Spent};
 use query_laws::Named;
 use query_laws::step_ledger::Steps;
 use std::alloc::Global;
@@ -97,6 +98,14 @@ impl<X: Indexes> KindLayer<X> {
         let handle = self.directory.find(id)?;
         let item = self.directory.chain().item(handle);
         Some(item.shape())
+    }
+
+    /// The identifiers of the last `k` items, the newest first, or of all where there are fewer.
+    pub fn recent(&self, k: usize) -> Recent
+        requires { k ≤ 64 }
+        ensures { result ≡ latest k (items_of X.Item.item_of self.now.entries) }
+    {
+        self.directory.recent(k)
     }
 
     /// Adds an item at the end, with a stamp of its own, and says what it cost.

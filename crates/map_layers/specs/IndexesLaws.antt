@@ -1,9 +1,10 @@
--- The rates of a layer's indexes say which are there.
-use Rattle.std.proofs.Common.{◌≡◌, ◌∙◌, ◌∷◌, ◌++◌, Option, None, Some, refl, sym, ap}
+-- The rates of a layer's indexes say which are there, and are low.
+use Rattle.std.proofs.Common.{◌≡◌, ◌∙◌, ◌∷◌, ◌++◌, Option, None, Some, refl, sym, ap, arith}
 use Rattle.std.specs.Option.{is_some}
 use Rattle.global_rebuild.specs.Index.{Indexed}
 use Rattle.layer_kinds.specs.Indexing.{rates_of}
-use Rattle.layer_kinds.specs.Shares.{Rate, Rates, count_of}
+use Rattle.layer_kinds.specs.Shares.{Rate, Rates, IsLow, AreLow, count_of}
+use Rattle.layer_kinds.specs.SharesLaws.{AreLow-one, AreLow-both}
 use Rattle.map_model.specs.Index.{IndexSet, no_indexes, index_count}
 use Rattle.map_layers.specs.Layer.{points_held, segments_held, set_of}
 
@@ -54,3 +55,19 @@ module _ {P I : Type 0} (r : Rate) where
   pub segments-counted : (a : Option (Indexed P I)) → count_of (rates_of r a) ≡ index_count (set_of (segments_held a))
   segments-counted None = refl
   segments-counted (Some a) = refl
+
+-- ---- the kinds of the map
+
+abbrev rate : Rate
+rate = record { slope = 4; base = 12 }
+
+rate-low : IsLow rate
+rate-low = (omega arith, omega arith)
+
+pub points-low : {P Q R I J K : Type 0} (a : Option (Indexed P I)) (b : Option (Indexed Q J)) (c : Option (Indexed R K)) → AreLow (three rate rate rate a b c)
+points-low a b c =
+    AreLow-both (rates_of rate a) (rates_of rate b ++ rates_of rate c) (AreLow-one rate a rate-low)
+    (AreLow-both (rates_of rate b) (rates_of rate c) (AreLow-one rate b rate-low) (AreLow-one rate c rate-low))
+
+pub segments-low : {P I : Type 0} (a : Option (Indexed P I)) → AreLow (rates_of rate a)
+segments-low a = AreLow-one rate a rate-low

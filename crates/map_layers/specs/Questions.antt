@@ -1,4 +1,4 @@
--- The questions to a layer, their answers, and what they touch.
+-- The questions to a layer, and what they touch.
 use Rattle.std.specs.Prelude.{◌≡◌, ℕ, Bool, true, false, length, Result, Ok, Err, IfOk}
 use Rattle.query_laws.specs.StepLedger.{Counts}
 use Rattle.map_kinds.specs.Touches.{PartTouches}
@@ -6,31 +6,21 @@ use Rattle.map_model.specs.Answer as answers
 use Rattle.map_model.specs.Answer.{Question, Answer, answer_over, index_of, kind_asked}
 use Rattle.map_model.specs.Command.{lists_ids}
 use Rattle.map_model.specs.Cost.{bounds_at}
-use Rattle.map_model.specs.Index.{has}
+use Rattle.map_model.specs.Index.{Index, Range, Near, Top, Stab, has}
 use Rattle.map_model.specs.Machine.{is_same_kind}
 use Rattle.map_model.specs.State as state
-use Rattle.map_shapes.specs.Rect.{rect_of}
 use Rattle.map_shapes.specs.declared.asked.Asked.{Asked}
 use Rattle.layer_kinds.specs.declared.faults.AskFault.{AskFault}
 use Rattle.layer_kinds.specs.declared.faults.AskFault.TheVariants.{NoLayer, WrongKind, NoIndex, Unknown, NoMemory}
 use Rattle.layer_kinds.specs.Asking.{IsAsking, IsReading, IsTouching, most_of}
-use Rattle.range_tree.specs.Costs.{question_touches}
-use Rattle.range_tree.specs.QuestionLaws.{most_touches}
+use Rattle.range_tree.specs.Costs as range
+use Rattle.range_tree.specs.QuestionLaws as ranges
+use Rattle.kd_nearest.specs.Costs as near
+use Rattle.priority_search.specs.Costs as top
+use Rattle.priority_search.specs.QuestionLaws as tops
+use Rattle.interval_stab.specs.Costs as stab
+use Rattle.interval_stab.specs.QuestionLaws as stabs
 use Rattle.map_layers.specs.Layer.{LayerState, items_in, held_by, IsEveryPart}
-use Rattle.map_layers.specs.declared.questions.AnyAnswer.{AnyAnswer}
-use Rattle.map_layers.specs.declared.questions.AnyAnswer.TheVariants.{Counted, Summed, Listed}
-use Rattle.map_layers.specs.declared.questions.AnyQuestion.{AnyQuestion}
-use Rattle.map_layers.specs.declared.questions.AnyQuestion.TheVariants.{CountIn, SumIn, ListIn}
-
-abbrev pub question_of : AnyQuestion → Question
-question_of (CountIn q) = answers.CountIn (rect_of q.0)
-question_of (SumIn q) = answers.SumIn (rect_of q.0)
-question_of (ListIn q) = answers.ListIn (rect_of q.0)
-
-abbrev pub answer_of : AnyAnswer → Answer
-answer_of (Counted n) = answers.Counted n
-answer_of (Summed n) = answers.Summed n
-answer_of (Listed ids) = answers.Listed ids
 
 -- a question, its answer, how many parts were consulted, and how many live items they have
 pub record AnsweredState : Type 0 where
@@ -39,21 +29,27 @@ pub record AnsweredState : Type 0 where
   pub parts : ℕ
   pub live : ℕ
 
--- what a question touches in a part of at most 2 ^ level items
+-- what a question touches in a part of at most 2 ^ level items, by its index
+abbrev pub touches_by : Index → ℕ → PartTouches
+touches_by Range level = range.question_touches level
+touches_by Near level = near.question_touches level
+touches_by Top level = top.question_touches level
+touches_by Stab level = stab.question_touches level
+
 abbrev pub touches_for : Question → ℕ → PartTouches
-touches_for question level = question_touches level
+touches_for question level = touches_by (index_of question) level
 
 -- the most touches in so many parts of at most 2 ^ level items each, of a layer of n items, with such an answer
 abbrev pub most_for : (level parts n : ℕ) → Answer → ℕ
-most_for level parts n (answers.Counted count) = most_touches level parts 0
-most_for level parts n (answers.Summed sum) = most_touches level parts 0
-most_for level parts n (answers.Listed ids) = most_touches level parts (length ids)
-most_for level parts n (answers.NearestOne found) = most_touches level parts 0
-most_for level parts n (answers.NearestOnes found) = most_touches level parts 0
-most_for level parts n (answers.ListedAbove ids) = most_touches level parts (length ids)
-most_for level parts n (answers.Highest peak) = most_touches level parts 0
-most_for level parts n (answers.Stabbed ids) = most_touches level parts (length ids)
-most_for level parts n (answers.StabCounted count) = most_touches level parts 0
+most_for level parts n (answers.Counted count) = ranges.most_touches level parts 0
+most_for level parts n (answers.Summed sum) = ranges.most_touches level parts 0
+most_for level parts n (answers.Listed ids) = ranges.most_touches level parts (length ids)
+most_for level parts n (answers.NearestOne found) = near.most_touches parts n
+most_for level parts n (answers.NearestOnes found) = near.most_touches parts n
+most_for level parts n (answers.ListedAbove ids) = tops.most_touches level parts (length ids)
+most_for level parts n (answers.Highest peak) = tops.most_touches level parts 0
+most_for level parts n (answers.Stabbed ids) = stabs.most_touches level parts (length ids)
+most_for level parts n (answers.StabCounted count) = stabs.most_touches level parts 0
 
 -- whether a layer is of the kind that is asked, and whether it has the index
 abbrev pub IsOfKind : state.Layer → Question → Bool → Type 0

@@ -3,6 +3,7 @@ ghost use Rattle.std.specs.Prelude.{◌≡◌, ◌+◌, ◌<◌, ◌≤◌, ◌^
 ghost use Rattle.std.specs.Option.{option_map};
 ghost use Rattle.std.specs.Result.{is_ok};
 ghost use Rattle.query_laws.specs.StepLedger.{AtLapStart};
+ghost use Rattle.map_model.specs.Answer.{latest};
 ghost use Rattle.map_model.specs.Index.{fits, one_if};
 ghost use Rattle.map_model.specs.Line.{IsShape};
 ghost use Rattle.map_model.specs.State as state;
@@ -10,13 +11,15 @@ ghost use Rattle.map_shapes.specs.IndexSet.{index_set_of};
 ghost use Rattle.map_shapes.specs.Kind as kinds;
 ghost use Rattle.map_shapes.specs.Shape.{model_shape};
 ghost use Rattle.map_layers.specs.Layer.{name_in, items_in, layer_seen, IsKept, IsAddTo};
-ghost use Rattle.map_layers.specs.Questions.{question_of, Asks};
+ghost use Rattle.map_questions.specs.Any.{question_of};
+ghost use Rattle.map_layers.specs.Questions.{Asks};
 ghost use Rattle.layer_kinds.specs.Layered.{items_of, IsRemoval};
 ghost use Rattle.map_layers.specs.Costs.{IsCost, IsTold};
 
-use crate::{Answered, AnyQuestion, AskFault, NamedIndexes, OverPoints, OverSegments, UpdateFault};
+use crate::{Answered, AskFault, NamedIndexes, OverPoints, OverSegments, UpdateFault};
 use layer_kinds::KindLayer;
-use map_shapes::{Asked, IndexSet, Kind, Name, Shape, Spent};
+use map_questions::AnyQuestion;
+use map_shapes::{Asked, IndexSet, Kind, Name, Recent, Shape, Spent};
 use query_laws::step_ledger::Steps;
 use std::alloc::Global;
 use std::default::MadeWith;
@@ -102,6 +105,17 @@ impl<P: OverPoints, S: OverSegments> Layer<P, S> {
         match &self.sort {
             Sort::Points(points) => points.get(id),
             Sort::Segments(segments) => segments.get(id),
+        }
+    }
+
+    /// The identifiers of the last `k` items, the newest first, or of all where there are fewer.
+    pub(crate) fn recent(&self, k: usize) -> Recent
+        requires { k ≤ 64 }
+        ensures { result ≡ latest k (items_in self.now) }
+    {
+        match &self.sort {
+            Sort::Points(points) => points.recent(k),
+            Sort::Segments(segments) => segments.recent(k),
         }
     }
 

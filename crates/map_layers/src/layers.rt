@@ -2,7 +2,7 @@
 mod asking;
 mod updating;
 
-ghost use Rattle.std.specs.Prelude.{◌≡◌, ◌+◌, ◌<◌, ◌^◌, true, false, IfOk};
+ghost use Rattle.std.specs.Prelude.{◌≡◌, ◌+◌, ◌<◌, ◌≤◌, ◌^◌, true, false, IfOk};
 ghost use Rattle.std.specs.Option.{option_map};
 ghost use Rattle.query_laws.specs.StepLedger.{lap_begun};
 ghost use Rattle.map_model.specs.State.{layer_named};
@@ -20,7 +20,7 @@ ghost use Rattle.map_layers.specs.Replies.{created, updated, asked, IsAnswered};
 use crate::layers::updating::{add_in, remove_in};
 use crate::{AskFault, CreateFault, Layer, OverPoints, OverSegments, UpdateFault};
 use arrayvec::ArrayVec;
-use map_shapes::{IndexSet, Kind, Name, Shape, Spent};
+use map_shapes::{IndexSet, Kind, Name, Recent, Shape, Spent};
 use query_laws::step_ledger::Steps;
 use std::alloc::Global;
 use std::marker::Model;
@@ -143,6 +143,17 @@ impl<P: OverPoints, S: OverSegments> Layers<P, S> {
         match layer.get(id) {
             Some(shape) => Ok(shape),
             None => Err(AskFault::Unknown(id)),
+        }
+    }
+
+    /// The identifiers of the last `k` items of a layer, the newest first, or of all where there are fewer.
+    pub fn recent(&self, name: &Name, k: usize) -> Result<Recent, AskFault>
+        requires { k ≤ 64 }
+        ensures answered { IsAnswered (map_of self.now) (commands.Recent name.now k) (map_of self.now) (asked replies.Latest result) }
+    {
+        match self.layer(name) {
+            Some(layer) => Ok(layer.recent(k)),
+            None => Err(AskFault::NoLayer),
         }
     }
 

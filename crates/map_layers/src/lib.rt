@@ -15,4 +15,4 @@ pub use layer::Layer;
 pub use layer_kinds::{AskFault, UpdateFault};
 pub use layers::Layers;
 pub use named::{AnsweringIndexes, NamedIndexes, OverPoints, OverSegments};
-pub use questions::{Answered, AnyAnswer, AnyQuestion, OneQuestion};
+pub use questions::{Answered, OneQuestion};

@@ -10,12 +10,14 @@ ghost use Rattle.map_shapes.specs.IndexSet.{index_set_of};
 ghost use Rattle.map_shapes.specs.Shape.{model_shape};
 ghost use Rattle.layer_kinds.specs.Shares.{count_of};
 ghost use Rattle.map_layers.specs.Layer.{Held, held_by, parts_held, seen, set_of};
-ghost use Rattle.map_layers.specs.Questions.{question_of, touches_for, most_for, Asks};
+ghost use Rattle.map_questions.specs.Any.{question_of};
+ghost use Rattle.map_layers.specs.Questions.{touches_for, most_for, Asks};
 
-use crate::{Answered, AnyQuestion, OneQuestion};
+use crate::{Answered, OneQuestion};
 use builder_trait::{AnsweringRows, Rows};
 use layer_kinds::{AskFault, Has, Indexes, KindLayer, ask_layer};
 use map_kinds::MapRows;
+use map_questions::AnyQuestion;
 use map_shapes::{Asked, IndexSet, Shape, Shaped};
 use query_laws::step_ledger::Steps;
 use std::alloc::Global;

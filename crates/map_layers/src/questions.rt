@@ -1,31 +1,18 @@
-//! Every question that a layer answers, and what it is answered.
+//! The questions that a layer answers, and what one is answered.
 ghost use Rattle.std.specs.Prelude.{◌≡◌};
-ghost use Rattle.map_layers.specs.Questions.{question_of, answer_of};
+ghost use Rattle.map_questions.specs.Any.{question_of, answer_of};
 
 use builder_trait::{AnsweringRows, Given, Rows, RowsPart};
+use interval_stab::StabRows;
+use kd_nearest::KdRows;
 use map_kinds::{MapQuestion, MapRows};
-use map_shapes::{CountIn, IdList, ListIn, Shaped, SumIn};
+use map_questions::{Above, AnyAnswer, AnyQuestion, Near, NearK, Stab, StabCount, Top};
+use map_shapes::{CountIn, Found, FoundList, IdList, ListIn, Peak, Shaped, SumIn};
+use priority_search::TopRows;
 use range_tree::RangeRows;
 use std::marker::Model;
 
-/// A question to a layer.
-#[derive(Clone, Copy, Debug)]
-pub enum AnyQuestion {
-    CountIn(CountIn),
-    SumIn(SumIn),
-    ListIn(ListIn),
-}
-
-/// The answer to one.
-#[derive(Drop)]
-pub enum AnyAnswer {
-    Counted(u64),
-    Summed(u64),
-    /// Identifiers in ascending order.
-    Listed(IdList),
-}
-
-/// One of these questions, which rows of a kind answer.
+/// One of all questions, which rows of a kind answer.
 pub trait OneQuestion<R: MapRows>: MapQuestion<R>
 where
     R: AnsweringRows<Self>,
@@ -70,6 +57,66 @@ impl OneQuestion<RangeRows> for ListIn {
     }
 }
 
+impl OneQuestion<KdRows> for Near {
+    fn question(self) -> AnyQuestion {
+        AnyQuestion::Near(self)
+    }
+
+    fn answer(answer: Option<Found>) -> AnyAnswer {
+        AnyAnswer::Nearest(answer)
+    }
+}
+
+impl OneQuestion<KdRows> for NearK {
+    fn question(self) -> AnyQuestion {
+        AnyQuestion::NearK(self)
+    }
+
+    fn answer(answer: FoundList) -> AnyAnswer {
+        AnyAnswer::NearestFew(answer)
+    }
+}
+
+impl OneQuestion<TopRows> for Above {
+    fn question(self) -> AnyQuestion {
+        AnyQuestion::Above(self)
+    }
+
+    fn answer(answer: IdList) -> AnyAnswer {
+        AnyAnswer::ListedAbove(answer)
+    }
+}
+
+impl OneQuestion<TopRows> for Top {
+    fn question(self) -> AnyQuestion {
+        AnyQuestion::Top(self)
+    }
+
+    fn answer(answer: Option<Peak>) -> AnyAnswer {
+        AnyAnswer::Highest(answer)
+    }
+}
+
+impl OneQuestion<StabRows> for Stab {
+    fn question(self) -> AnyQuestion {
+        AnyQuestion::Stab(self)
+    }
+
+    fn answer(answer: IdList) -> AnyAnswer {
+        AnyAnswer::Stabbed(answer)
+    }
+}
+
+impl OneQuestion<StabRows> for StabCount {
+    fn question(self) -> AnyQuestion {
+        AnyQuestion::StabCount(self)
+    }
+
+    fn answer(answer: u64) -> AnyAnswer {
+        AnyAnswer::StabCounted(answer)
+    }
+}
+
 /// The answer to a question over the parts that were consulted. Only one that parts gave makes it.
 #[derive(Drop)]
 pub struct Answered {
@@ -80,7 +127,8 @@ pub struct Answered {
 }
 
 impl Model for Answered {
-    ghost use Rattle.map_layers.specs.Questions.{AnsweredState, question_of, answer_of};
+    ghost use Rattle.map_questions.specs.Any.{question_of, answer_of};
+    ghost use Rattle.map_layers.specs.Questions.{AnsweredState};
 
     ghost Value = { AnsweredState };
 

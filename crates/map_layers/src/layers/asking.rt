@@ -7,11 +7,13 @@ ghost use Rattle.map_model.specs.Command.{Ask};
 ghost use Rattle.map_model.specs.Reply as replies;
 ghost use Rattle.map_layers.specs.Layers.{map_of, named};
 ghost use Rattle.map_layers.specs.Costs.{IsAskingIn, IsEveryPartIn, IsTouchingIn};
-ghost use Rattle.map_layers.specs.Questions.{question_of, touches_for, most_for};
+ghost use Rattle.map_questions.specs.Any.{question_of};
+ghost use Rattle.map_layers.specs.Questions.{touches_for, most_for};
 ghost use Rattle.layer_kinds.specs.Asking.{IsReading};
 ghost use Rattle.map_layers.specs.Replies.{asked, IsAnswered};
 
-use crate::{Answered, AnyQuestion, AskFault, Layers, OverPoints, OverSegments};
+use crate::{Answered, AskFault, Layers, OverPoints, OverSegments};
+use map_questions::AnyQuestion;
 use map_shapes::{Asked, Name};
 use query_laws::step_ledger::Steps;
 use std::sync::ledger::Ledger;

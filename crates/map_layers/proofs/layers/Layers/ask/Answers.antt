@@ -4,7 +4,8 @@ use Rattle.map_model.specs.State.{layer_named}
 use Rattle.map_layers.specs.Costs.{IsAskingIn, IsTouchingIn}
 use Rattle.map_layers.specs.Layer.{layer_of}
 use Rattle.map_layers.specs.Layers.{map_of, named}
-use Rattle.map_layers.specs.Questions.{question_of, touches_for, most_for}
+use Rattle.map_questions.specs.Any.{question_of}
+use Rattle.map_layers.specs.Questions.{touches_for, most_for}
 use Rattle.map_layers.proofs.Answering.{IsAnswered-ask, unfound-ask}
 use Rattle.map_layers.proofs.Asking.{IsAskingIn-of}
 use Rattle.map_layers.proofs.Names.{layer_named-Some, layer_named-None}

@@ -1,0 +1,169 @@
+//! The indexes of points.
+ghost use Rattle.std.specs.Prelude.{◌≡◌};
+ghost use Rattle.std.proofs.Common.{arith, refl};
+
+use crate::named::ask_of;
+use crate::{Answered, AnsweringIndexes, AskFault, NamedIndexes, OverPoints};
+use id_chain::{Chain, Handle};
+use kd_nearest::{KdBuilder, KdRows};
+use layer_kinds::{First, Has, Indexes, KindLayer, LayerIndex, Next};
+use map_questions::{Above, AnyQuestion, Near, NearK, Top};
+use map_shapes::{Asked, CountIn, IndexSet, ListIn, Point, Shape, SumIn};
+use priority_search::{TopBuilder, TopRows};
+use query_laws::NoMemory;
+use query_laws::step_ledger::Steps;
+use range_tree::{RangeBuilder, RangeRows};
+use std::alloc::Global;
+use std::sync::ledger::Ledger;
+
+/// The index of points for rectangles, that for near points, and that for high ones.
+#[derive(Drop)]
+pub struct PointIndexes {
+    indexes: OfPoints,
+}
+
+type OfPoints = (
+    LayerIndex<RangeBuilder>,
+    (LayerIndex<KdBuilder>, LayerIndex<TopBuilder>),
+);
+
+type Second = Next<First>;
+
+type Third = Next<Second>;
+
+impl Indexes for PointIndexes {
+    ghost use Rattle.map_layers.specs.IndexesLaws.{points-low};
+
+    type Item = Point;
+
+    ghost rates = { λ s. ⟦<OfPoints as Indexes>⟧.rates s.indexes };
+
+    ghost are_of = { λ s es stamps. ⟦<OfPoints as Indexes>⟧.are_of s.indexes es stamps };
+
+    ghost are_ready = { λ s. ⟦<OfPoints as Indexes>⟧.are_ready s.indexes };
+
+    fn count(&self) -> u64 {
+        self.indexes.count()
+    }
+
+    fn prepare<L: Ledger>(
+        &mut self,
+        chain: &Chain<Point>,
+        steps: &mut Steps<L>,
+    ) -> Result<(), NoMemory> {
+        self.indexes.prepare(chain, steps)
+    }
+
+    fn insert<L: Ledger>(&mut self, chain: &Chain<Point>, handle: Handle, steps: &mut Steps<L>) {
+        self.indexes.insert(chain, handle, steps);
+    }
+
+    fn delete<L: Ledger>(&mut self, chain: &Chain<Point>, handle: Handle, steps: &mut Steps<L>) {
+        self.indexes.delete(chain, handle, steps);
+    }
+
+    ghost low = { λ s. points-low s.indexes.0 s.indexes.1.0 s.indexes.1.1 };
+}
+
+impl Has<RangeRows, First> for PointIndexes {
+    ghost index = { λ s. s.indexes.0 };
+
+    fn index(&self) -> &LayerIndex<RangeBuilder> {
+        &self.indexes.0
+    }
+
+    ghost is_of = { λ s es stamps of. of.0 };
+}
+
+impl Has<KdRows, Second> for PointIndexes {
+    ghost index = { λ s. s.indexes.1.0 };
+
+    fn index(&self) -> &LayerIndex<KdBuilder> {
+        &self.indexes.1.0
+    }
+
+    ghost is_of = { λ s es stamps of. of.1.0 };
+}
+
+impl Has<TopRows, Third> for PointIndexes {
+    ghost index = { λ s. s.indexes.1.1 };
+
+    fn index(&self) -> &LayerIndex<TopBuilder> {
+        &self.indexes.1.1
+    }
+
+    ghost is_of = { λ s es stamps of. of.1.1 };
+}
+
+impl NamedIndexes for PointIndexes {
+    ghost use Rattle.map_layers.specs.Layer.{points_held};
+    ghost use Rattle.map_layers.specs.IndexesLaws.{points-by_rates, points-counted};
+
+    ghost held = { λ s. points_held s.indexes.0 s.indexes.1.0 s.indexes.1.1 };
+
+    fn of_set(alloc: Global, indexes: IndexSet) -> PointIndexes {
+        let near = LayerIndex::new(alloc, indexes.near);
+        let top = LayerIndex::new(alloc, indexes.top);
+        PointIndexes {
+            indexes: (LayerIndex::new(alloc, indexes.range), (near, top)),
+        }
+    }
+
+    fn item(id: u64, shape: Shape) -> Option<Point> {
+        match shape {
+            Shape::Point { x, y, w } => Some(Point {
+                id,
+                x,
+                y,
+                w,
+                stamp: 0,
+            }),
+            Shape::Segment { .. } => None,
+        }
+    }
+
+    ghost by_rates = { λ s t same. points-by_rates _ _ _ s.indexes.0 t.indexes.0 s.indexes.1.0 t.indexes.1.0 s.indexes.1.1 t.indexes.1.1 same };
+
+    ghost counted = { λ s. points-counted _ _ _ s.indexes.0 s.indexes.1.0 s.indexes.1.1 };
+
+    ghost few = { λ s. Prim.omega arith };
+}
+
+impl OverPoints for PointIndexes {
+    ghost points = { refl };
+}
+
+impl AnsweringIndexes for PointIndexes {
+    fn ask<L: Ledger>(
+        layer: &KindLayer<PointIndexes>,
+        alloc: Global,
+        question: &AnyQuestion,
+        steps: &mut Steps<L>,
+    ) -> Result<(Answered, Asked), AskFault> {
+        match question {
+            AnyQuestion::CountIn(count) => {
+                ask_of::<RangeRows, First, PointIndexes, CountIn, L>(layer, alloc, count, steps)
+            }
+            AnyQuestion::SumIn(sum) => {
+                ask_of::<RangeRows, First, PointIndexes, SumIn, L>(layer, alloc, sum, steps)
+            }
+            AnyQuestion::ListIn(list) => {
+                ask_of::<RangeRows, First, PointIndexes, ListIn, L>(layer, alloc, list, steps)
+            }
+            AnyQuestion::Near(near) => {
+                ask_of::<KdRows, Second, PointIndexes, Near, L>(layer, alloc, near, steps)
+            }
+            AnyQuestion::NearK(near) => {
+                ask_of::<KdRows, Second, PointIndexes, NearK, L>(layer, alloc, near, steps)
+            }
+            AnyQuestion::Above(above) => {
+                ask_of::<TopRows, Third, PointIndexes, Above, L>(layer, alloc, above, steps)
+            }
+            AnyQuestion::Top(top) => {
+                ask_of::<TopRows, Third, PointIndexes, Top, L>(layer, alloc, top, steps)
+            }
+            AnyQuestion::Stab(_) => Err(AskFault::WrongKind),
+            AnyQuestion::StabCount(_) => Err(AskFault::WrongKind),
+        }
+    }
+}

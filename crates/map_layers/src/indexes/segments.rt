@@ -1,0 +1,126 @@
+//! The index of segments.
+ghost use Rattle.std.specs.Prelude.{◌≡◌};
+ghost use Rattle.std.proofs.Common.{arith, refl};
+
+use crate::named::ask_of;
+use crate::{Answered, AnsweringIndexes, AskFault, NamedIndexes, OverSegments};
+use id_chain::{Chain, Handle};
+use interval_stab::{StabBuilder, StabRows};
+use layer_kinds::{First, Has, Indexes, KindLayer, LayerIndex};
+use map_questions::{AnyQuestion, Stab, StabCount};
+use map_shapes::{Asked, IndexSet, Segment, Shape};
+use query_laws::NoMemory;
+use query_laws::step_ledger::Steps;
+use std::alloc::Global;
+use std::sync::ledger::Ledger;
+
+/// The index of segments, for those over a place.
+#[derive(Drop)]
+pub struct SegmentIndexes {
+    index: LayerIndex<StabBuilder>,
+}
+
+impl Indexes for SegmentIndexes {
+    ghost use Rattle.map_layers.specs.IndexesLaws.{segments-low};
+
+    type Item = Segment;
+
+    ghost rates = { λ s. ⟦<LayerIndex<StabBuilder> as Indexes>⟧.rates s.index };
+
+    ghost are_of = { λ s es stamps. ⟦<LayerIndex<StabBuilder> as Indexes>⟧.are_of s.index es stamps };
+
+    ghost are_ready = { λ s. ⟦<LayerIndex<StabBuilder> as Indexes>⟧.are_ready s.index };
+
+    fn count(&self) -> u64 {
+        self.index.count()
+    }
+
+    fn prepare<L: Ledger>(
+        &mut self,
+        chain: &Chain<Segment>,
+        steps: &mut Steps<L>,
+    ) -> Result<(), NoMemory> {
+        self.index.prepare(chain, steps)
+    }
+
+    fn insert<L: Ledger>(&mut self, chain: &Chain<Segment>, handle: Handle, steps: &mut Steps<L>) {
+        self.index.insert(chain, handle, steps);
+    }
+
+    fn delete<L: Ledger>(&mut self, chain: &Chain<Segment>, handle: Handle, steps: &mut Steps<L>) {
+        self.index.delete(chain, handle, steps);
+    }
+
+    ghost low = { λ s. segments-low s.index };
+}
+
+impl Has<StabRows, First> for SegmentIndexes {
+    ghost index = { λ s. s.index };
+
+    fn index(&self) -> &LayerIndex<StabBuilder> {
+        &self.index
+    }
+
+    ghost is_of = { λ s es stamps of. of };
+}
+
+impl NamedIndexes for SegmentIndexes {
+    ghost use Rattle.map_layers.specs.Layer.{segments_held};
+    ghost use Rattle.map_layers.specs.IndexesLaws.{segments-by_rates, segments-counted};
+
+    ghost held = { λ s. segments_held s.index };
+
+    fn of_set(alloc: Global, indexes: IndexSet) -> SegmentIndexes {
+        SegmentIndexes {
+            index: LayerIndex::new(alloc, indexes.stab),
+        }
+    }
+
+    fn item(id: u64, shape: Shape) -> Option<Segment> {
+        match shape {
+            Shape::Segment { lo, hi, y } => Some(Segment {
+                id,
+                lo,
+                hi,
+                y,
+                stamp: 0,
+            }),
+            Shape::Point { .. } => None,
+        }
+    }
+
+    ghost by_rates = { λ s t same. segments-by_rates _ s.index t.index same };
+
+    ghost counted = { λ s. segments-counted _ s.index };
+
+    ghost few = { λ s. Prim.omega arith };
+}
+
+impl OverSegments for SegmentIndexes {
+    ghost segments = { refl };
+}
+
+impl AnsweringIndexes for SegmentIndexes {
+    fn ask<L: Ledger>(
+        layer: &KindLayer<SegmentIndexes>,
+        alloc: Global,
+        question: &AnyQuestion,
+        steps: &mut Steps<L>,
+    ) -> Result<(Answered, Asked), AskFault> {
+        match question {
+            AnyQuestion::Stab(stab) => {
+                ask_of::<StabRows, First, SegmentIndexes, Stab, L>(layer, alloc, stab, steps)
+            }
+            AnyQuestion::StabCount(stab) => {
+                ask_of::<StabRows, First, SegmentIndexes, StabCount, L>(layer, alloc, stab, steps)
+            }
+            AnyQuestion::CountIn(_) => Err(AskFault::WrongKind),
+            AnyQuestion::SumIn(_) => Err(AskFault::WrongKind),
+            AnyQuestion::ListIn(_) => Err(AskFault::WrongKind),
+            AnyQuestion::Near(_) => Err(AskFault::WrongKind),
+            AnyQuestion::NearK(_) => Err(AskFault::WrongKind),
+            AnyQuestion::Above(_) => Err(AskFault::WrongKind),
+            AnyQuestion::Top(_) => Err(AskFault::WrongKind),
+        }
+    }
+}
