@@ -1,70 +1,24 @@
 -- What a run says of its endings.
-use Rattle.std.proofs.Common.{◌≡◌, ℕ, ◌+◌, ◌≤◌, ◌⊎◌, inl, inr, refl, Some, None, List, [], ◌∷◌, ◌++◌, length, Option, sym, ap, ◌∙◌, subst, arith, length-append, take_at}
-use Rattle.std.specs.Io.KnownBytes.{Consumes}
+use Rattle.std.proofs.Common.{◌≡◌, ℕ, ◌+◌, ◌<◌, ◌≤◌, ◌⊎◌, inl, inr, refl, Some, None, List, [], ◌++◌, length, Option, ap, arith, length-append}
+use Rattle.std.specs.Io.KnownBytes.{Consumes, IsAtEnd}
 use Rattle.map_io.specs.Faults.{Rose}
-use Rattle.map_model.specs.Text.{whole_lines}
-use Rattle.map_session.specs.Answering.{Moment, IsAnswered, IsStopped}
-use Rattle.map_session.proofs.Lines.{stopped_in_more, stopped_in_text, stopped_rose}
-use Rattle.live_map.specs.declared.intake.Ending.{Ending}
-use Rattle.live_map.specs.declared.intake.Ending.TheVariants.{End, Fault, TooLong}
+use Rattle.map_session.specs.Answering.{Moment}
+use Rattle.map_session.proofs.Lines.{stopped_rose}
 use Rattle.live_map.specs.declared.run.Status.{Status}
-use Rattle.live_map.specs.declared.run.Status.TheVariants as statuses
-use Rattle.live_map.specs.Run.{script_limit, HasRun, TakenIn, AnswersText}
+use Rattle.live_map.specs.declared.run.Status.TheVariants.{Clean, Refusals, Usage, ReadFault, WriteFault, TooLong, NoMemory}
+use Rattle.live_map.specs.Run.{script_limit, HasRun}
 
-module _ {W : Type 0} (words : List W) (none : words ≡ []) (rest rest' : Option (List ℕ)) (text : List ℕ) (start now : Moment) where
-  -- the text and the byte behind the longest script
-  abbrev with_byte : ℕ → List ℕ
-  with_byte byte = text ++ byte ∷ []
-
-  one_longer : (byte : ℕ) → length text ≡ script_limit → length (with_byte byte) ≡ script_limit + 1
-  one_longer byte full = length-append text (byte ∷ []) ∙ ap (λ n. n + 1) full
-
-  -- writing stopped inside the answer to a line of what was taken
-  stopped_run : (ending : Ending) → TakenIn ending rest rest' text → AnswersText ending text start statuses.WriteFault now → HasRun words rest rest' start statuses.WriteFault now
-  stopped_run End t a = inl (none, (text, t.1, omega (arith, t.0), a))
-  stopped_run Fault t a = inl (none, (text, t.1, omega (arith, t.0), stopped_in_text start now text a))
-  stopped_run TooLong t a =
-      let longer = one_longer t.1.0 t.0 in
-      inl (none, (with_byte t.1.0, t.1.1, omega (arith, longer), stopped_in_more start now text (t.1.0 ∷ []) a))
-
-  too_long_run : (ending : Ending) → TakenIn ending rest rest' text → AnswersText ending text start statuses.TooLong now → HasRun words rest rest' start statuses.TooLong now
-  too_long_run End t a = absurd (let none : ⊥ = cc (a.0) in none)
-  too_long_run Fault t a = absurd (let none : ⊥ = cc (a.0) in none)
-  too_long_run TooLong t a =
-      let longer = one_longer t.1.0 t.0 in (
-        none,
-        (
-          with_byte t.1.0,
-          t.1.1,
-          omega (arith, longer),
-          (longer, subst (λ (x : List ℕ). IsAnswered start (whole_lines x) now) (sym (take_at text (t.1.0 ∷ []) script_limit t.0)) a.1),
-        ),
-      )
-
-  clean_run : (ending : Ending) → TakenIn ending rest rest' text → AnswersText ending text start statuses.Clean now → HasRun words rest rest' start statuses.Clean now
-  clean_run End t a = (none, (t.2, (text, t.1, t.0, a.1)), a.2)
-  clean_run Fault t a = absurd (let none : ⊥ = cc (a.0) in none)
-  clean_run TooLong t a = absurd (let none : ⊥ = cc (a.0) in none)
-
-  refused_run : (ending : Ending) → TakenIn ending rest rest' text → AnswersText ending text start statuses.Refusals now → HasRun words rest rest' start statuses.Refusals now
-  refused_run End t a = (none, (t.2, (text, t.1, t.0, a.1)), a.2)
-  refused_run Fault t a = absurd (let none : ⊥ = cc (a.0) in none)
-  refused_run TooLong t a = absurd (let none : ⊥ = cc (a.0) in none)
-
-  failed_run : (ending : Ending) → TakenIn ending rest rest' text → AnswersText ending text start statuses.ReadFault now → HasRun words rest rest' start statuses.ReadFault now
-  failed_run End t a = absurd (let none : ⊥ = cc (a.0) in none)
-  failed_run Fault t a = (none, (text, t.1, t.0, a.1))
-  failed_run TooLong t a = absurd (let none : ⊥ = cc (a.0) in none)
-
-  -- a text that was taken in and answered
-  pub text_run : (ending : Ending) (status : Status) → TakenIn ending rest rest' text → AnswersText ending text start status now → HasRun words rest rest' start status now
-  text_run ending statuses.Clean t a = clean_run ending t a
-  text_run ending statuses.Refusals t a = refused_run ending t a
-  text_run ending statuses.Usage t a = absurd a
-  text_run ending statuses.ReadFault t a = failed_run ending t a
-  text_run ending statuses.WriteFault t a = stopped_run ending t a
-  text_run ending statuses.TooLong t a = too_long_run ending t a
-  text_run ending statuses.NoMemory t a = absurd a
+-- a run without words is one with a list of them that is empty
+pub run_without_words : {W : Type 0} (words : List W) (rest rest' : Option (List ℕ)) (start now : Moment) (status : Status) → words ≡ [] → HasRun {W = ℕ} [] rest rest' start status now
+    → HasRun words rest rest' start status now
+run_without_words words rest rest' start now Clean none r = (none, r.1, r.2)
+run_without_words words rest rest' start now Refusals none r = (none, r.1, r.2)
+run_without_words words rest rest' start now Usage none r = absurd (r.0 refl)
+run_without_words words rest rest' start now ReadFault none r = (none, r.1)
+run_without_words words rest rest' start now WriteFault none (inl r) = inl (none, r.1)
+run_without_words words rest rest' start now WriteFault none (inr r) = absurd (r.0 refl)
+run_without_words words rest rest' start now TooLong none r = (none, r.1)
+run_without_words words rest rest' start now NoMemory none r = (none, r.1)
 
 -- ---- where nothing fails
 
@@ -72,25 +26,53 @@ consumed_fits : (left bs : List ℕ) (rest' : Option (List ℕ)) → Consumes (S
 consumed_fits left bs None c = absurd c
 consumed_fits left bs (Some more) c = omega (arith, ap length c, length-append bs more)
 
--- a text within the limit, that no fault ended, is answered whole
-pub complete_text : (ending : Ending) (status : Status) (text left : List ℕ) (rest' : Option (List ℕ)) (start now : Moment) → TakenIn ending (Some left) rest' text → AnswersText ending text start status now → length left ≤ script_limit
-    → (ending ≡ Fault → ⊥) → (status ≡ statuses.WriteFault → ⊥) → (status ≡ statuses.Clean) ⊎ ((status ≡ statuses.Refusals) ⊎ (status ≡ statuses.NoMemory))
-complete_text ending statuses.Clean text left rest' start now t a short read write = inl refl
-complete_text ending statuses.Refusals text left rest' start now t a short read write = inr (inl refl)
-complete_text ending statuses.Usage text left rest' start now t a short read write = absurd a
-complete_text ending statuses.ReadFault text left rest' start now t a short read write = absurd (read a.0)
-complete_text ending statuses.WriteFault text left rest' start now t a short read write = absurd (write refl)
-complete_text ending statuses.TooLong text left rest' start now t a short read write =
-    let taken : TakenIn TooLong (Some left) rest' text = subst (λ (e : Ending). TakenIn e (Some left) rest' text) a.0 t in
-    absurd (let none : ⊥ = omega (arith, taken.0, consumed_fits left (text ++ taken.1.0 ∷ []) rest' taken.1.1, length-append text (taken.1.0 ∷ []), short) in none)
-complete_text ending statuses.NoMemory text left rest' start now t a short read write = absurd a
+consumed_all : (left bs : List ℕ) (rest' : Option (List ℕ)) → Consumes (Some left) rest' bs → IsAtEnd rest' → length left ≡ length bs
+consumed_all left bs None c e = absurd c
+consumed_all left bs (Some more) c e = omega (arith, ap length c, length-append bs more, ap length e)
+
+module _ (left : List ℕ) (rest' : Option (List ℕ)) (start now : Moment) where
+  -- a script within the limit, that no fault ended, is answered whole
+  pub complete_run : (status : Status) → HasRun {W = ℕ} [] (Some left) rest' start status now → length left ≤ script_limit → (status ≡ ReadFault → ⊥) → (status ≡ WriteFault → ⊥)
+      → (status ≡ Clean) ⊎ ((status ≡ Refusals) ⊎ (status ≡ NoMemory))
+  complete_run Clean r short read write = inl refl
+  complete_run Refusals r short read write = inr (inl refl)
+  complete_run Usage r short read write = absurd (r.0 refl)
+  complete_run ReadFault r short read write = absurd (read refl)
+  complete_run WriteFault r short read write = absurd (write refl)
+  complete_run TooLong r short read write =
+      let fits = consumed_fits left r.1.0 rest' r.1.1 in
+      absurd (let none : ⊥ = omega (arith, r.1.3.0, fits, short) in none)
+  complete_run NoMemory r short read write = inr (inr refl)
+
+  -- and a longer one isn't
+  pub limited_run : (status : Status) → HasRun {W = ℕ} [] (Some left) rest' start status now → script_limit < length left → (status ≡ ReadFault → ⊥) → (status ≡ WriteFault → ⊥)
+      → (status ≡ TooLong) ⊎ (status ≡ NoMemory)
+  limited_run Clean r long read write =
+      let all = consumed_all left r.1.1.0 rest' r.1.1.1 r.1.0 in
+      absurd (let none : ⊥ = omega (arith, all, r.1.1.2, long) in none)
+  limited_run Refusals r long read write =
+      let all = consumed_all left r.1.1.0 rest' r.1.1.1 r.1.0 in
+      absurd (let none : ⊥ = omega (arith, all, r.1.1.2, long) in none)
+  limited_run Usage r long read write = absurd (r.0 refl)
+  limited_run ReadFault r long read write = absurd (read refl)
+  limited_run WriteFault r long read write = absurd (write refl)
+  limited_run TooLong r long read write = inl refl
+  limited_run NoMemory r long read write = inr refl
 
 -- ---- what became of the sink
 
--- a text that was answered whole: no call failed
-pub answered_kept : (start now : Moment) (script : List (List ℕ)) → IsAnswered start script now → now.told.faults ≡ start.told.faults
-answered_kept start now script a = a.delivered.faults
+module _ (rest rest' : Option (List ℕ)) (start now : Moment) where
+  -- a call failed
+  pub run_fault : HasRun {W = ℕ} [] rest rest' start WriteFault now → Rose start.told.faults now.told.faults
+  run_fault (inl r) = stopped_rose start now _ r.1.3.0
+  run_fault (inr r) = absurd (r.0 refl)
 
--- one whose answers were cut off: a call failed
-pub stopped_fault : (start now : Moment) (script : List (List ℕ)) → IsStopped start script now → Rose start.told.faults now.told.faults
-stopped_fault = stopped_rose
+  -- no call failed
+  pub run_kept : (status : Status) → HasRun {W = ℕ} [] rest rest' start status now → (status ≡ WriteFault → ⊥) → now.told.faults ≡ start.told.faults
+  run_kept Clean r write = r.1.1.3.delivered.faults
+  run_kept Refusals r write = r.1.1.3.delivered.faults
+  run_kept Usage r write = absurd (r.0 refl)
+  run_kept ReadFault r write = r.1.3.delivered.faults
+  run_kept WriteFault r write = absurd (write refl)
+  run_kept TooLong r write = r.1.3.1.delivered.faults
+  run_kept NoMemory r write = r.1.3.1.faults

@@ -1,11 +1,9 @@
 -- What a run takes in, answers and writes.
-use Rattle.std.specs.Prelude.{◌≡◌, ◌≢◌, ℕ, ◌+◌, ◌<◌, ◌≤◌, ◌⊎◌, List, [], ◌∷◌, ◌++◌, length, take, Option, codes}
+use Rattle.std.specs.Prelude.{◌≡◌, ◌≢◌, ℕ, ◌+◌, ◌-◌, ◌<◌, ◌≤◌, ◌⊎◌, List, [], length, take, Option, codes}
 use Rattle.std.specs.Io.KnownBytes.{Consumes, IsAtEnd}
 use Rattle.map_io.specs.SinkTold.{SinkTold, Delivers, CutOff}
 use Rattle.map_model.specs.Text.{lines, whole_lines}
-use Rattle.map_session.specs.Answering.{Moment, IsAnswered, IsStopped}
-use Rattle.live_map.specs.declared.intake.Ending.{Ending}
-use Rattle.live_map.specs.declared.intake.Ending.TheVariants as endings
+use Rattle.map_session.specs.Answering.{Moment, IsAnswered, IsStoppedBehind, IsUnderway}
 use Rattle.live_map.specs.declared.run.Status.{Status}
 use Rattle.live_map.specs.declared.run.Status.TheVariants.{Clean, Refusals, Usage, ReadFault, WriteFault, TooLong, NoMemory}
 
@@ -39,6 +37,10 @@ AnswersAll rest rest' start now = IsAtEnd rest' × Takes script_limit rest rest'
 abbrev pub IsIdle : Moment → Moment → Type 0
 IsIdle start now = (now.session ≡ start.session) × (now.counts ≡ start.counts)
 
+-- all but the last 4,096 bytes
+abbrev pub but_last_piece : List ℕ → List ℕ
+but_last_piece taken = take (length taken - 4096) taken
+
 -- What a run with these words took, answered and wrote, by how it ended.
 abbrev pub HasRun : {W : Type 0} → List W → Option (List ℕ) → Option (List ℕ) → Moment → Status → Moment → Type 0
 HasRun words rest rest' start Clean now = (words ≡ []) × AnswersAll rest rest' start now × (now.session.refused ≡ 0)
@@ -46,41 +48,20 @@ HasRun words rest rest' start Refusals now = (words ≡ []) × AnswersAll rest r
 HasRun words rest rest' start Usage now = (words ≢ []) × Takes 0 rest rest' (λ _. IsIdle start now × Delivers start.told now.told usage_line 1)
 HasRun words rest rest' start ReadFault now = (words ≡ []) × Takes script_limit rest rest' (λ taken. IsAnswered start (whole_lines taken) now)
 HasRun words rest rest' start WriteFault now =
-    ((words ≡ []) × Takes (script_limit + 1) rest rest' (λ taken. IsStopped start (lines taken) now))
+    ((words ≡ []) × Takes script_limit rest rest' (λ taken. IsStoppedBehind (length (whole_lines (but_last_piece taken))) start (lines taken) now))
     ⊎ ((words ≢ []) × Takes 0 rest rest' (λ _. IsIdle start now × CutOff start.told now.told usage_line 0))
 HasRun words rest rest' start TooLong now = (words ≡ [])
     × Takes (script_limit + 1) rest rest' (λ taken. (length taken ≡ script_limit + 1) × IsAnswered start (whole_lines (take script_limit taken)) now)
-HasRun words rest rest' start NoMemory now = (words ≡ []) × Takes script_limit rest rest' (λ _. IsIdle start now × Delivers start.told now.told [] 0)
+HasRun words rest rest' start NoMemory now = (words ≡ []) × Takes 0 rest rest' (λ _. IsIdle start now × Delivers start.told now.told [] 0)
 
--- ---- taking in
-
--- The text is all that was taken from a source, and how that ended.
-abbrev pub TakenIn : Ending → Option (List ℕ) → Option (List ℕ) → List ℕ → Type 0
-TakenIn endings.End rest rest' text = (length text ≤ script_limit) × Consumes rest rest' text × IsAtEnd rest'
-TakenIn endings.Fault rest rest' text = (length text ≤ script_limit) × Consumes rest rest' text
-TakenIn endings.TooLong rest rest' text = (length text ≡ script_limit) × ((byte : ℕ) × Consumes rest rest' (text ++ byte ∷ []))
-
--- at most n bytes were taken
-abbrev pub TakesWithin : ℕ → Option (List ℕ) → Option (List ℕ) → Type 0
-TakesWithin n rest rest' = (bytes : List ℕ) × Consumes rest rest' bytes × (length bytes ≤ n)
-
--- ---- answering
-
--- the lines that are answered, by how the taking in ended
-abbrev pub script_of : Ending → List ℕ → List (List ℕ)
-script_of endings.End text = lines text
-script_of endings.Fault text = whole_lines text
-script_of endings.TooLong text = whole_lines text
-
--- A text was answered, as far as its ending allows.
-abbrev pub AnswersText : Ending → List ℕ → Moment → Status → Moment → Type 0
-AnswersText ending text start Clean now = (ending ≡ endings.End) × IsAnswered start (lines text) now × (now.session.refused ≡ 0)
-AnswersText ending text start Refusals now = (ending ≡ endings.End) × IsAnswered start (lines text) now × (0 < now.session.refused)
-AnswersText ending text start Usage now = ⊥
-AnswersText ending text start ReadFault now = (ending ≡ endings.Fault) × IsAnswered start (whole_lines text) now
-AnswersText ending text start WriteFault now = IsStopped start (script_of ending text) now
-AnswersText ending text start TooLong now = (ending ≡ endings.TooLong) × IsAnswered start (whole_lines text) now
-AnswersText ending text start NoMemory now = ⊥
+-- Between two reads: so many bytes were taken since there was this rest, the lines that a line feed ended in them are answered, and the
+-- line that is begun is the front of what comes after.
+pub record IsReading (rest : Option (List ℕ)) (start : Moment) (taken : ℕ) (rest' : Option (List ℕ)) (begun : List ℕ) (now : Moment) : Type 0 where
+  pub text : List ℕ
+  pub consumed : Consumes rest rest' text
+  pub many : length text ≡ taken
+  pub within : taken ≤ script_limit
+  pub underway : IsUnderway start text begun now
 
 -- the usage line was written, or a proper prefix of it
 abbrev pub WritesUsage : SinkTold → SinkTold → Status → Type 0

@@ -1,7 +1,7 @@
 //! Livemap: a live map index. It reads a script from its standard input and writes the answer to each line.
 #![tactic(auto)]
 
-mod intake;
+mod reading;
 mod run;
 
 ghost use Rattle.std.specs.Prelude.{◌≡◌, ◌≢◌, IfOk, IfErr, OnErr, drop, false};

@@ -1,15 +1,15 @@
 // The program, over any source and sink.
-ghost use Rattle.std.specs.Prelude.{◌≡◌, ◌≢◌, ◌⊎◌, ◌+◌, ◌<◌, ◌≤◌, ◌^◌, ℕ, List, [], length, Some, false};
+ghost use Rattle.std.specs.Prelude.{◌≡◌, ◌≢◌, ◌⊎◌, ◌<◌, ◌≤◌, ℕ, List, [], length, Some, false};
 ghost use Rattle.map_io.specs.Faults.{Rose};
 ghost use Rattle.map_session.specs.Session.{new_session};
 ghost use Rattle.map_session.specs.Answering.{moment};
-ghost use Rattle.live_map.specs.Run.{script_limit, code_of, HasRun, AnswersText, WritesUsage};
+ghost use Rattle.live_map.specs.Run.{script_limit, code_of, HasRun, WritesUsage};
 
-use crate::intake::{Ending, take_in};
+use crate::reading::answer_script;
 use map_io::{Sink, Source, WriteFault, write_all};
-use map_session::{MapSession, answer_lines, answer_whole_lines};
+use map_session::MapSession;
 use query_laws::step_ledger::Steps;
-use std::alloc::{AllocError, Global};
+use std::alloc::Global;
 use std::sync::ledger::Ledger;
 
 const USAGE: &[u8] = b"usage: livemap [--ledger] [--make SEED] [--size N]\n";
@@ -57,11 +57,13 @@ pub struct Ended {
     pub session: MapSession,
 }
 
-/// Answers a script: takes it in whole, and then writes the answer to each of its lines.
+/// Answers a script: the lines that end in what a read gave are answered before the next read.
 ///
-/// No word is accepted today: with any, the usage line is written and nothing is read. A script is taken in up to its
+/// No word is accepted today: with any, the usage line is written and nothing is read. A script is taken up to its
 /// end, to the first fault of the source, or to 67,108,864 bytes and one more. After a fault and after too long a
 /// script the lines that a line feed ended are answered. It stops at the first fault of the sink.
+///
+/// It keeps one piece of 4,096 bytes and the front of one line, and takes no memory for the text.
 ///
 /// Each line takes at most what its command may, on the map before it: an update the bounds of its layer, a question the touches of one.
 pub fn run<S: Source, K: Sink, L: Ledger>(
@@ -90,23 +92,17 @@ pub fn run<S: Source, K: Sink, L: Ledger>(
     ensures limit { (left : List ℕ) → S.rest source.old ≡ Some left → script_limit < length left → words.now ≡ [] →
         (Rose (S.faults source.old) (S.faults source.new) → ⊥) → (Rose (K.told sink.old).faults (K.told sink.new).faults → ⊥) →
         (result.status ≡ Status.TooLong) ⊎ (result.status ≡ Status.NoMemory) }
+
+    // No memory is taken for the text.
+    ensures no_memory_yet { result.status ≢ Status.NoMemory }
 {
     let mut session = MapSession::new(alloc, false);
     if !words.is_empty() {
         let status = refuse_words(sink);
         return Ended { status, session };
     }
-    let mut text = Vec::new(alloc);
-    match take_in(&mut text, source) {
-        Ok(ending) => {
-            let status = answer(&mut session, &text, ending, sink, steps);
-            Ended { status, session }
-        }
-        Err(AllocError) => Ended {
-            status: Status::NoMemory,
-            session,
-        },
-    }
+    let status = answer_script(&mut session, source, sink, steps);
+    Ended { status, session }
 }
 
 /// Writes the usage line.
@@ -118,36 +114,5 @@ fn refuse_words<K: Sink>(sink: &mut K) -> Status
     match write_all(sink, USAGE) {
         Ok(()) => Status::Usage,
         Err(WriteFault) => Status::WriteFault,
-    }
-}
-
-/// Answers a text that was taken in, as far as its ending allows.
-#[tactic(auto, using(crate::proofs::Endings::answered_kept, crate::proofs::Endings::stopped_fault))]
-fn answer<K: Sink, L: Ledger>(
-    session: &mut MapSession,
-    text: &[u8],
-    ending: Ending,
-    sink: &mut K,
-    steps: &mut Steps<L>,
-) -> Status
-    requires { session.old.lines + length text.now < 2 ^ 40 }
-    ensures answered { AnswersText ending text.now (moment session.old (K.told sink.old) steps.old) result (moment session.new (K.told sink.new) steps.new) }
-    ensures cause { result ≡ Status.WriteFault → Rose (K.told sink.old).faults (K.told sink.new).faults }
-    ensures succeeded { result ≢ Status.WriteFault → (K.told sink.new).faults ≡ (K.told sink.old).faults }
-{
-    match ending {
-        Ending::End => match answer_lines(session, text, sink, steps) {
-            Ok(()) if session.refused() == 0 => Status::Clean,
-            Ok(()) => Status::Refusals,
-            Err(WriteFault) => Status::WriteFault,
-        },
-        Ending::Fault => match answer_whole_lines(session, text, sink, steps) {
-            Ok(()) => Status::ReadFault,
-            Err(WriteFault) => Status::WriteFault,
-        },
-        Ending::TooLong => match answer_whole_lines(session, text, sink, steps) {
-            Ok(()) => Status::TooLong,
-            Err(WriteFault) => Status::WriteFault,
-        },
     }
 }

@@ -46,7 +46,7 @@ fn ended_run(
     requires writes { 1 ≤ writes.piece }
 {
     let bytes = Vec::from_slice(alloc, script)?;
-    let space = vec![in alloc; 0u8; 4096]?;
+    let space = vec![in alloc; 0u8; 262_144]?;
     let mut source = MemSource::new(bytes, reads.piece, failing_calls(alloc, reads.failing)?);
     let mut sink = MemSink::new(space, writes.piece, failing_calls(alloc, writes.failing)?);
     let ended = run_once::<_, _, Brand>(alloc, &[], &mut source, &mut sink, blank());
@@ -115,24 +115,171 @@ const ROWS: [(&[u8], &[u8], Status); 10] = [
         CORNERS_ANSWERED,
         Status::Clean,
     ),
-    // What isn't built is no command, whether there is a layer or not; but a fault of the line is told first.
+    // The newest first, of a layer of each kind: after a drop of the newest, and of one that was dropped and came again.
     (
-        b"layer a points near\nlayer s segments stab\nlayer a points range top\nseg s 1 2 3 4\nnear a 0 0\nnearest a 1 0 0\nabove a 0 1 0\ntop a 0 1\nstab s 1\nstabcount s 1\nrecent a 3\nrecent a 65\nsize a\n",
-        b"no command\nno command\nno command\nno command\nno command\nno command\nno command\nno command\nno command\nno command\nno command\nno range\nno layer\n",
+        b"layer a points range\nlayer s segments stab\nrecent a 3\nadd a 5 0 0 0\nadd a 9 1 0 0\nadd a 7 2 0 0\nrecent a 64\nrecent a 2\ndrop a 7\nrecent a 2\ndrop a 5\nadd a 5 0 0 0\nrecent a 1\nseg s 4 0 9 0\nrecent s 2\nrecent a 0\nrecent a 65\nrecent b 1\n",
+        b"ok\nok\nrecent none\nok\nok\nok\nrecent 7 9 5\nrecent 7 9\nok\nrecent 9 5\nok\nok\nrecent 5\nok\nrecent 4\nno range\nno range\nno layer\n",
         Status::Refusals,
     ),
 ];
 
+/// Near points, segments over a place, high points.
+const KINDS: [(&[u8], &[u8], Status); 8] = [
+    (
+        b"layer a points near\nadd a 9 0 1 0\nadd a 4 1 0 0\nnear a 0 0\nnearest a 2 0 0\n",
+        b"ok\nok\nok\nnear 4 1\nnearest 4 1 9 1\n",
+        Status::Clean,
+    ),
+    (
+        b"layer a points near\nnear a 0 0\nadd a 1 0 0 0\nnear a 2147483647 2147483647\n",
+        b"ok\nnear none\nok\nnear 1 9223372028264841218\n",
+        Status::Clean,
+    ),
+    (
+        b"layer a points near\ncount a 0 0 1 1\nnearest a 3 0 0\nstab a 5\nnearest a 0 0 0\nnearest a 65 0 0\nnear b 0 0\n",
+        b"ok\nno index\nnearest none\nno kind\nno range\nno range\nno layer\n",
+        Status::Refusals,
+    ),
+    (
+        b"layer s segments stab\nseg s 2 2 5 0\nseg s 1 5 5 3\nseg s 3 6 9 1\nstab s 5\nstabcount s 5\nstab s 10\nget s 1\nseg s 4 9 8 0\n",
+        b"ok\nok\nok\nok\nstab 1 2\nstabcount 2\nstab none\nget 5 5 3\nno order\n",
+        Status::Refusals,
+    ),
+    (
+        b"layer s segments stab\nlayer p points range near\nadd s 1 0 0 0\nseg p 1 0 0 0\ncount s 0 0 9 9\nnear s 0 0\nstab p 0\nstabcount q 0\nlayer t segments range\nseg s 1 0 2147483647 0\nseg s 1 0 0 0\ndrop s 2\n",
+        b"ok\nok\nno kind\nno kind\nno kind\nno kind\nno kind\nno layer\nno index\nok\nno duplicate 1\nno unknown 2\n",
+        Status::Refusals,
+    ),
+    (
+        b"seg s 1 2147483648 2147483648 0\nseg s 1 5 x 0\nseg s 1 5 4\n",
+        b"no range\nno number\nno fields\n",
+        Status::Refusals,
+    ),
+    (
+        b"layer a points top\nadd a 8 3 7 0\nadd a 2 9 7 0\nadd a 5 4 1 0\ntop a 0 9\nabove a 0 9 7\nabove a 0 9 8\ntop a 5 8\n",
+        b"ok\nok\nok\nok\ntop 2 7\nabove 2 8\nabove none\ntop none\n",
+        Status::Clean,
+    ),
+    // Two points of one place and height, and then each highest one is dropped.
+    (
+        b"layer a points top\nadd a 8 3 7 0\nadd a 2 3 7 0\nadd a 5 4 1 0\ntop a 0 9\ndrop a 2\ntop a 0 9\ndrop a 8\ntop a 0 9\ndrop a 5\ntop a 0 9\ntop a 9 0\n",
+        b"ok\nok\nok\nok\ntop 2 7\nok\ntop 8 7\nok\ntop 5 1\nok\ntop none\nno order\n",
+        Status::Refusals,
+    ),
+];
+
+/// Eight layers of both kinds, and no ninth.
+const EIGHT: &[u8] =
+    b"layer l1 points range\nlayer l2 points range\nlayer l3 points range\nlayer l4 points range\nlayer l5 points range\nlayer l6 points range\nlayer l7 points range\nlayer l8 segments stab\nlayer l9 points near\nlayer l1 points range\nstab l1 5\nnear l1 0 0\ncount l9 0 0 1 1\ncount l8 0 0 1 1\nadd l8 1 0 0 0\n";
+
+const EIGHT_ANSWERED: &[u8] =
+    b"ok\nok\nok\nok\nok\nok\nok\nok\nno room\nno taken\nno kind\nno index\nno layer\nno kind\nno kind\n";
+
+/// Whether a script is answered so, in one piece and byte by byte.
+fn is_answered(alloc: Global, script: &[u8], wanted: &[u8], status: Status) -> Result<bool, Fail> {
+    let (whole, written) = run_script(alloc, script, WHOLE, WHOLE)?;
+    let (bytewise, written_bytewise) = run_script(alloc, script, BYTEWISE, BYTEWISE)?;
+    Ok(
+        whole == status
+            && bytewise == status
+            && written.as_slice() == wanted
+            && written_bytewise.as_slice() == wanted,
+    )
+}
+
 #[test]
 fn scripts_are_answered(rt: HostRuntime) -> Result<(), Fail> {
-    let alloc = rt.alloc();
     for (script, wanted, status) in ROWS {
-        let (ended, written) = run_script(alloc, script, WHOLE, WHOLE)?;
-        assert_eq!(rt; ended, status);
-        assert_eq!(rt; written.as_slice(), wanted);
-        let (ended, written) = run_script(alloc, script, BYTEWISE, BYTEWISE)?;
-        assert_eq!(rt; ended, status);
-        assert_eq!(rt; written.as_slice(), wanted);
+        assert!(rt; is_answered(rt.alloc(), script, wanted, status)?);
+    }
+    Ok(())
+}
+
+#[test]
+fn each_kind_answers(rt: HostRuntime) -> Result<(), Fail> {
+    for (script, wanted, status) in KINDS {
+        assert!(rt; is_answered(rt.alloc(), script, wanted, status)?);
+    }
+    assert!(rt; is_answered(rt.alloc(), EIGHT, EIGHT_ANSWERED, Status::Refusals)?);
+    Ok(())
+}
+
+/// Every set of indexes of points.
+const SETS: [&str; 7] = [
+    "range",
+    "near",
+    "top",
+    "range near",
+    "range top",
+    "near top",
+    "range near top",
+];
+
+/// Of each index of points its word, a question, and the answer over the points 1 and 3.
+const QUESTIONS: [(&str, &str, &str); 3] = [
+    ("range", "count a 0 0 9 9\n", "count 2\n"),
+    ("near", "near a 0 0\n", "near 1 2\n"),
+    ("top", "top a 0 9\n", "top 3 3\n"),
+];
+
+/// Three adds and a drop in a layer of these indexes, a question to each index, and the answers.
+fn script_of_set(alloc: Global, set: &str) -> Result<(String, String), AllocError> {
+    let mut script = format!(in alloc; "layer a points {set}\n")?;
+    script.push_str("add a 1 1 1 1\nadd a 2 2 2 1\nadd a 3 3 3 1\ndrop a 2\n")?;
+    let mut answers = String::from_str(alloc, "ok\nok\nok\nok\nok\n")?;
+    for (word, question, answer) in QUESTIONS {
+        let is_there = set.contains(word);
+        script.push_str(question)?;
+        answers.push_str(if is_there { answer } else { "no index\n" })?;
+    }
+    Ok((script, answers))
+}
+
+#[test]
+fn every_set_of_indexes_answers(rt: HostRuntime) -> Result<(), Fail> {
+    let alloc = rt.alloc();
+    for set in SETS {
+        let (script, wanted) = script_of_set(alloc, set)?;
+        let (_, written) = run_script(alloc, script.as_bytes(), WHOLE, WHOLE)?;
+        assert_eq!(rt; written.as_slice(), wanted.as_bytes(), "{set}");
+    }
+    Ok(())
+}
+
+/// A layer of 65,536 items, each from its identifier to an end, which takes no more until one is dropped; and the answers.
+fn filling(
+    alloc: Global,
+    layer: &str,
+    verb: &str,
+    end: &str,
+) -> Result<(String, String), AllocError> {
+    let mut script = format!(in alloc; "{layer}\n")?;
+    let mut answers = String::from_str(alloc, "ok\n")?;
+    for id in 0..65_536u32 {
+        writeln!(script, "{verb} a {id} {id} {end}")?;
+        answers.push_str("ok\n")?;
+    }
+    writeln!(
+        script,
+        "{verb} a 65536 0 {end}\n{verb} a 1 0 {end}\ndrop a 0"
+    )?;
+    writeln!(script, "{verb} a 65536 0 {end}\nsize a")?;
+    answers.push_str("no full\nno duplicate 1\nok\nok\nsize 65536\n")?;
+    Ok((script, answers))
+}
+
+#[test]
+fn full_layers_take_no_more(rt: HostRuntime) -> Result<(), Fail> {
+    let alloc = rt.alloc();
+    for (layer, verb, end) in [
+        ("layer a points near", "add", "0 0"),
+        ("layer a points range near top", "add", "0 0"),
+        ("layer a segments stab", "seg", "65535 0"),
+    ] {
+        let (script, wanted) = filling(alloc, layer, verb, end)?;
+        let (status, written) = run_script(alloc, script.as_bytes(), WHOLE, WHOLE)?;
+        assert_eq!(rt; status, Status::Refusals, "{layer}");
+        assert!(rt; written.as_slice() == wanted.as_bytes(), "{layer}");
     }
     Ok(())
 }
@@ -362,6 +509,173 @@ fn longest_script(alloc: Global) -> Result<Vec<u8>, AllocError> {
         script.extend_from_slice(&line)?;
     }
     Ok(script)
+}
+
+/// A layer and 1,000 lines: 7,021 bytes.
+fn thousand_sizes(alloc: Global) -> Result<Vec<u8>, AllocError> {
+    let mut script = Vec::from_slice(alloc, b"layer a points range\n")?;
+    for _ in 0..1000u32 {
+        script.extend_from_slice(b"size a\n")?;
+    }
+    Ok(script)
+}
+
+/// How a run of a script ends whose sink fails at a call, and how many bytes were left then.
+fn left_at_fault(
+    alloc: Global,
+    script: &[u8],
+    piece: usize,
+    call: u64,
+) -> Result<(Status, usize), Fail>
+    requires { 1 ≤ piece }
+{
+    let mut source = MemSource::new(Vec::from_slice(alloc, script)?, piece, Vec::new(alloc));
+    let space = vec![in alloc; 0u8; 16_384]?;
+    let mut sink = MemSink::new(space, 4096, failing_calls(alloc, call)?);
+    let ended = run_once::<_, _, Brand>(alloc, &[], &mut source, &mut sink, blank());
+    Ok((ended.status, source.left()))
+}
+
+// The first answer comes before the second piece.
+#[test]
+fn a_piece_is_answered_before_the_next(rt: HostRuntime) -> Result<(), Fail> {
+    let script = thousand_sizes(rt.alloc())?;
+    assert_eq!(rt; script.len(), 7021);
+    let (status, left) = left_at_fault(rt.alloc(), &script, 4096, 1)?;
+    assert_eq!(rt; status, Status::WriteFault);
+    assert_eq!(rt; left, 2925);
+    // The layer's answer and 582 sizes are of the first piece, and line 583 of sizes ends in the second.
+    let (_, left) = left_at_fault(rt.alloc(), &script, 4096, 583)?;
+    assert_eq!(rt; left, 2925);
+    let (_, left) = left_at_fault(rt.alloc(), &script, 4096, 584)?;
+    assert_eq!(rt; left, 0);
+    Ok(())
+}
+
+/// Calls of a sink, each of which takes an answer, and the bytes that are left then.
+const LEFT: [(u64, usize); 6] = [
+    (1, 7000),
+    (2, 6993),
+    (3, 6986),
+    (500, 3507),
+    (1000, 7),
+    (1001, 0),
+];
+
+// In pieces of seven bytes each size is one read, and its answer comes before the next one.
+#[test]
+fn a_line_is_answered_before_the_next_read(rt: HostRuntime) -> Result<(), Fail> {
+    let script = thousand_sizes(rt.alloc())?;
+    for (call, wanted) in LEFT {
+        let (status, left) = left_at_fault(rt.alloc(), &script, 7, call)?;
+        assert_eq!(rt; status, Status::WriteFault);
+        assert_eq!(rt; left, wanted, "call {call}");
+    }
+    Ok(())
+}
+
+/// A line of `len` bytes: a comment, but for a carriage return at an index.
+fn line_with_return(alloc: Global, len: usize, place: usize) -> Result<Vec<u8>, AllocError> {
+    let mut line = comment(alloc, len)?;
+    if let Some(byte) = line.get_mut(place) {
+        *byte = b'\r';
+    }
+    Ok(line)
+}
+
+/// Lengths of lines, the places of a carriage return in them, and whether the line is too long.
+const LONG: [(usize, usize, bool); 13] = [
+    (255, 254, false),
+    (256, 255, false),
+    (256, 254, false),
+    (257, 256, false),
+    (257, 255, true),
+    (258, 257, true),
+    (258, 256, true),
+    (259, 258, true),
+    (259, 256, true),
+    (260, 259, true),
+    (260, 256, true),
+    (300, 256, true),
+    (300, 299, true),
+];
+
+const CUTS: [usize; 11] = [250, 251, 252, 253, 254, 255, 256, 257, 258, 259, 260];
+
+// A piece ends at each of these places of the line.
+#[test]
+fn the_front_of_a_long_line_tells_it(rt: HostRuntime) -> Result<(), Fail> {
+    let alloc = rt.alloc();
+    for (len, place, refused) in LONG {
+        let mut script = line_with_return(alloc, len, place)?;
+        script.extend_from_slice(b"\nsize a\n")?;
+        let wanted = if refused {
+            b"no line\nno layer\n".as_slice()
+        } else {
+            b"no layer\n".as_slice()
+        };
+        for piece in CUTS {
+            let reads = Plan { piece, failing: 0 };
+            let (_, written) = run_script(alloc, &script, reads, WHOLE)?;
+            assert_eq!(rt;
+                written.as_slice(),
+                wanted,
+                "{len} bytes, {place}, in {piece}"
+            );
+        }
+    }
+    Ok(())
+}
+
+/// Scripts with line feeds that come as the first byte of a piece of six bytes, as the last of seven, and alone in one; and the answers.
+const FEEDS: [(&[u8], &[u8]); 3] = [
+    (b"size a\nsize b\n", b"no layer\nno layer\n"),
+    (b"size a\n\n\n#\n", b"no layer\n"),
+    (b"size a\n\n\nsize b", b"no layer\nno layer\n"),
+];
+
+const FEED_PIECES: [usize; 3] = [1, 6, 7];
+
+#[test]
+fn line_feeds_stand_anywhere(rt: HostRuntime) -> Result<(), Fail> {
+    for (script, wanted) in FEEDS {
+        for piece in FEED_PIECES {
+            let (_, written) = run_script(rt.alloc(), script, Plan { piece, failing: 0 }, WHOLE)?;
+            assert_eq!(rt; written.as_slice(), wanted, "in {piece}");
+        }
+    }
+    Ok(())
+}
+
+// A line of 300 bytes that no line feed ends: at the end it is answered, before a read fault it isn't.
+#[test]
+fn a_begun_line_is_answered_at_the_end_alone(rt: HostRuntime) -> Result<(), Fail> {
+    let alloc = rt.alloc();
+    let mut script = Vec::from_slice(alloc, b"size a\n")?;
+    script.extend_from_slice(&comment(alloc, 300)?)?;
+    let (status, written) = run_script(
+        alloc,
+        &script,
+        Plan {
+            piece: 4,
+            failing: 0,
+        },
+        WHOLE,
+    )?;
+    assert_eq!(rt; status, Status::Refusals);
+    assert_eq!(rt; written.as_slice(), b"no layer\nno line\n".as_slice());
+    let (status, written) = run_script(
+        alloc,
+        &script,
+        Plan {
+            piece: 4,
+            failing: 78,
+        },
+        WHOLE,
+    )?;
+    assert_eq!(rt; status, Status::ReadFault);
+    assert_eq!(rt; written.as_slice(), b"no layer\n".as_slice());
+    Ok(())
 }
 
 #[test]

@@ -64,6 +64,13 @@ impl MemSource {
             faults: 0,
         }
     }
+
+    /// The number of bytes that are left.
+    pub fn left(&self) -> usize
+        ensures { result ≡ length self.now.rest }
+    {
+        self.bytes.len() - self.taken
+    }
 }
 
 impl Source for MemSource {

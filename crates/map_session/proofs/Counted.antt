@@ -104,6 +104,18 @@ module _ {before after : Counts} where
     told = told;
   }
 
+-- an update is one lap, whatever becomes of it
+pub update_lap : {T : Type 0} (before after : Counts) (o : Option Layer) (result : Result T UpdateFault) → IsCostIn o result (lap_begun before) after
+    → after.lap_start ≡ (lap_begun before).lap_start
+update_lap before after None result cost = ap (λ s. s.lap_start) cost
+update_lap before after (Some layer) (Ok done) cost = cost.spent.same_lap
+update_lap before after (Some layer) (Err NoLayer) cost = ap (λ s. s.lap_start) cost
+update_lap before after (Some layer) (Err WrongKind) cost = ap (λ s. s.lap_start) cost
+update_lap before after (Some layer) (Err (Duplicate id)) cost = ap (λ s. s.lap_start) cost
+update_lap before after (Some layer) (Err (Unknown id)) cost = ap (λ s. s.lap_start) cost
+update_lap before after (Some layer) (Err Full) cost = ap (λ s. s.lap_start) cost
+update_lap before after (Some layer) (Err NoMemory) cost = cost.spent.same_lap
+
 -- ---- the calls
 
 module _ (old new : State) (command : Command) {before after : Counts} where

@@ -1,5 +1,7 @@
 pub mod OutputsWithin
 pub mod Lines
-pub mod Built
 pub mod Counted
 pub mod Steps
+pub mod Laps
+pub mod Unended
+pub mod Underway

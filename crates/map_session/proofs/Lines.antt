@@ -12,14 +12,13 @@ use Rattle.map_model.specs.State.{State}
 use Rattle.map_model.specs.Text.{lines, whole_lines, one_line}
 use Rattle.map_model.specs.Grammar.{parse}
 use Rattle.map_model.specs.Output.{Given, Answers, Output, Interrupted, written_for}
-use Rattle.map_model.proofs.TextLemmas.{lines-line, whole_lines-line, lines-rest, whole_lines-rest, lines_begin_whole}
+use Rattle.map_model.proofs.TextLemmas.{lines_begin_whole}
 use Rattle.map_model.proofs.Outputs.{refusals-push}
 use Rattle.answer_text.specs.Pieces.{DeliversLines, CutOffInPieces}
 use Rattle.answer_text.proofs.Pieces.{lines_both}
-use Rattle.map_session.specs.Built.{as_built}
 use Rattle.map_session.specs.Work.{no_work, both, work_said}
 use Rattle.map_session.specs.Session.{map_in, ExecutesLine}
-use Rattle.map_session.specs.Answering.{OutputWithin, Moment, AnswersLine, Runs, is_update_line, IsAnswered, IsStopped, Progress}
+use Rattle.map_session.specs.Answering.{OutputWithin, Moment, AnswersLine, Runs, is_update_line, IsAnswered, IsStopped, IsStoppedBehind}
 use Rattle.map_session.proofs.OutputsWithin.{within_is_output, OutputWithin-push}
 
 -- ---- the first line of a text
@@ -43,7 +42,7 @@ split_at_feed text end fits h =
 
 -- ---- lines answered
 
-no_lines : (start : Moment) → IsAnswered start [] start
+pub no_lines : (start : Moment) → IsAnswered start [] start
 no_lines start = record {
   runs = refl;
   bytes = [];
@@ -69,17 +68,14 @@ pub one_more : (start now new : Moment) (script : List (List ℕ)) (line : List 
 one_more start now new script line given p e a =
     let ledger = start.session.ledger in
     let told = written_for ledger given.told in
-    let built = map as_built script in
-    let pushed : OutputWithin ledger (map_in start.session) (built ++ as_built line ∷ []) (p.bytes ++ told) given.state (both p.work (work_said (map_in now.session) (parse (as_built line)))) =
-    OutputWithin-push ledger (map_in start.session) (map_in now.session) built (as_built line) p.bytes p.work given p.output e.answers in
+    let pushed : OutputWithin ledger (map_in start.session) (script ++ line ∷ []) (p.bytes ++ told) given.state (both p.work (work_said (map_in now.session) (parse line))) =
+    OutputWithin-push ledger (map_in start.session) (map_in now.session) script line p.bytes p.work given p.output e.answers in
     let updates : count_by is_update_line (script ++ line ∷ []) ≡ count_by is_update_line script + count_by is_update_line (line ∷ []) = sum_by-append _ script (line ∷ []) in
     record {
       runs = Runs-push start now new script line p.runs (record { given = given; executed = e; delivered = a });
       bytes = p.bytes ++ told;
-      work = both p.work (work_said (map_in now.session) (parse (as_built line)));
-      output = subst (λ (ls : List (List ℕ)). OutputWithin ledger (map_in start.session) ls (p.bytes ++ told) (map_in new.session) (both p.work (work_said (map_in now.session) (parse (as_built line)))))
-          (sym (map-append as_built script (line ∷ [])))
-          (subst (λ (s : State). OutputWithin ledger (map_in start.session) (built ++ as_built line ∷ []) (p.bytes ++ told) s (both p.work (work_said (map_in now.session) (parse (as_built line))))) (sym e.map) pushed);
+      work = both p.work (work_said (map_in now.session) (parse line));
+      output = subst (λ (s : State). OutputWithin ledger (map_in start.session) (script ++ line ∷ []) (p.bytes ++ told) s (both p.work (work_said (map_in now.session) (parse line)))) (sym e.map) pushed;
       delivered = subst (DeliversLines start.told new.told (p.bytes ++ told)) (sym (length-append script (line ∷ [])))
           (lines_both start.told now.told new.told p.bytes told (length script) 1 p.delivered (subst (λ (b : Bool). DeliversLines now.told new.told (written_for b given.told) 1) p.ledger a));
       turns = omega (arith, p.turns, e.counted.few_turns);
@@ -91,53 +87,16 @@ one_more start now new script line given p e a =
         arith,
         p.refused,
         e.refused,
-        refusals-push ledger (map_in start.session) (map_in now.session) built p.bytes given.told
-            (within_is_output ledger (map_in start.session) (map_in now.session) built p.bytes p.work p.output),
+        refusals-push ledger (map_in start.session) (map_in now.session) script p.bytes given.told
+            (within_is_output ledger (map_in start.session) (map_in now.session) script p.bytes p.work p.output),
       );
       updates = omega (arith, p.updates, e.updates, updates, sum_by-cons (λ (l : List ℕ). if is_update_line l then 1 else 0) line []);
     }
 
--- ---- progress
-
-pub no_progress : (start : Moment) (text : List ℕ) → Progress start text text start
-no_progress start text = record { answered = []; all = refl; whole = refl; answers = no_lines start; fewer = omega arith }
-
-pub more_progress : (start now new : Moment) (text rest line after : List ℕ) (given : Given) → Progress start text rest now → rest ≡ line ++ 10 ∷ after → one_line line ≡ true
-    → ExecutesLine now.session now.counts line given new.session new.counts → DeliversLines now.told new.told (written_for now.session.ledger given.told) 1 → Progress start text after new
-more_progress start now new text rest line after given p split ended e a = record {
-  answered = p.answered ++ line ∷ [];
-  all = p.all ∙ ap (λ (ls : List (List ℕ)). p.answered ++ ls) (ap lines split ∙ lines-line line after ended) ∙ sym (append_assoc p.answered (line ∷ []) (lines after));
-  whole = p.whole ∙ ap (λ (ls : List (List ℕ)). p.answered ++ ls) (ap whole_lines split ∙ whole_lines-line line after ended) ∙ sym (append_assoc p.answered (line ∷ []) (whole_lines after));
-  answers = one_more start now new p.answered line given p.answers e a;
-  fewer = omega (arith, p.fewer, ap length split, length-append line (10 ∷ after), length-append p.answered (line ∷ []));
-}
-
--- ---- the end
-
-pub whole_answered : (start now : Moment) (text rest : List ℕ) → Progress start text rest now → one_line rest ≡ true → IsAnswered start (whole_lines text) now
-whole_answered start now text rest p unended =
-    subst (λ (ls : List (List ℕ)). IsAnswered start ls now)
-    (sym (p.whole ∙ ap (λ (ls : List (List ℕ)). p.answered ++ ls) (whole_lines-rest rest unended) ∙ append-nil p.answered)) p.answers
-
--- nothing is left
-pub all_answered : (start now : Moment) (text rest : List ℕ) → Progress start text rest now → length rest ≡ 0 → IsAnswered start (lines text) now
-all_answered start now text [] p none = subst (λ (ls : List (List ℕ)). IsAnswered start ls now) (sym (p.all ∙ append-nil p.answered)) p.answers
-all_answered start now text (byte ∷ rest) p none = absurd (omega (arith, none))
-
--- a text with no line feed that isn't empty is one line
-pub one_last : (rest : List ℕ) → one_line rest ≡ true → 0 < length rest → lines rest ≡ rest ∷ []
-one_last [] unended some = absurd (omega arith)
-one_last (byte ∷ rest) unended some = lines-rest byte rest unended
-
-pub last_answered : (start now new : Moment) (text rest : List ℕ) (given : Given) → Progress start text rest now → one_line rest ≡ true → 0 < length rest
-    → ExecutesLine now.session now.counts rest given new.session new.counts → DeliversLines now.told new.told (written_for now.session.ledger given.told) 1 → IsAnswered start (lines text) new
-last_answered start now new text rest given p unended some e a =
-    subst (λ (ls : List (List ℕ)). IsAnswered start ls new) (sym (p.all ∙ ap (λ (ls : List (List ℕ)). p.answered ++ ls) (one_last rest unended some)))
-    (one_more start now new p.answered rest given p.answers e a)
-
 -- ---- a fault
 
-stopped : (start now new : Moment) (answered more script : List (List ℕ)) (line : List ℕ) (given : Given) → script ≡ answered ++ line ∷ more → IsAnswered start answered now
+-- writing stopped in this line, behind those that were answered
+abbrev pub stopped : (start now new : Moment) (answered more script : List (List ℕ)) (line : List ℕ) (given : Given) → script ≡ answered ++ line ∷ more → IsAnswered start answered now
     → ExecutesLine now.session now.counts line given new.session new.counts → CutOffInPieces now.told new.told (written_for now.session.ledger given.told) → IsStopped start script new
 stopped start now new answered more script line given split p e prefix = record {
   answered = length answered;
@@ -150,22 +109,8 @@ stopped start now new answered more script line given split p e prefix = record 
   cut_off = prefix;
 }
 
--- writing stopped in a line that a line feed ends
-pub stopped_whole : (start now new : Moment) (text rest line after : List ℕ) (given : Given) → Progress start text rest now → rest ≡ line ++ 10 ∷ after → one_line line ≡ true
-    → ExecutesLine now.session now.counts line given new.session new.counts → CutOffInPieces now.told new.told (written_for now.session.ledger given.told) → IsStopped start (whole_lines text) new
-stopped_whole start now new text rest line after given p split ended e prefix =
-    stopped start now new p.answered (whole_lines after) (whole_lines text) line given
-    (p.whole ∙ ap (λ (ls : List (List ℕ)). p.answered ++ ls) (ap whole_lines split ∙ whole_lines-line line after ended)) p.answers e prefix
-
--- writing stopped in the last line, which no line feed ends
-pub stopped_last : (start now new : Moment) (text rest : List ℕ) (given : Given) → Progress start text rest now → one_line rest ≡ true → 0 < length rest
-    → ExecutesLine now.session now.counts rest given new.session new.counts → CutOffInPieces now.told new.told (written_for now.session.ledger given.told) → IsStopped start (lines text) new
-stopped_last start now new text rest given p unended some e prefix =
-    stopped start now new p.answered [] (lines text) rest given
-    (p.all ∙ ap (λ (ls : List (List ℕ)). p.answered ++ ls) (one_last rest unended some)) p.answers e prefix
-
 -- more lines behind those that writing stopped in
-pub IsStopped-append : (start now : Moment) (script more : List (List ℕ)) → IsStopped start script now → IsStopped start (script ++ more) now
+abbrev pub IsStopped-append : (start now : Moment) (script more : List (List ℕ)) → IsStopped start script now → IsStopped start (script ++ more) now
 IsStopped-append start now script more s = record {
   answered = s.answered;
   has_next = omega (arith, s.has_next, length-append script more);
@@ -176,14 +121,11 @@ IsStopped-append start now script more s = record {
   cut_off = s.cut_off;
 }
 
--- more text after the whole lines that writing stopped in
-pub stopped_in_more : (start now : Moment) (text more : List ℕ) → IsStopped start (whole_lines text) now → IsStopped start (lines (text ++ more)) now
-stopped_in_more start now text more s =
-    let r = lines_begin_whole text more in
-    subst (λ (ls : List (List ℕ)). IsStopped start ls now) (sym r.1) (IsStopped-append start now (whole_lines text) r.0 s)
-
-pub stopped_in_text : (start now : Moment) (text : List ℕ) → IsStopped start (whole_lines text) now → IsStopped start (lines text) now
-stopped_in_text start now text s = subst (λ (t : List ℕ). IsStopped start (lines t) now) (append-nil text) (stopped_in_more start now text [] s)
+-- the lines of a text begin with its whole lines
+pub stopped_behind_in_text : (n : ℕ) (start now : Moment) (text : List ℕ) → IsStoppedBehind n start (whole_lines text) now → IsStoppedBehind n start (lines text) now
+stopped_behind_in_text n start now text s =
+    let r = lines_begin_whole text [] in
+    subst (λ (ls : List (List ℕ)). IsStoppedBehind n start ls now) (sym r.1 ∙ ap lines (append-nil text)) (IsStopped-append start now (whole_lines text) r.0 s.0, s.1)
 
 -- a call failed after the lines that were answered
 pub stopped_rose : (start now : Moment) (script : List (List ℕ)) → IsStopped start script now → Rose start.told.faults now.told.faults
@@ -193,10 +135,9 @@ stopped_rose start now script s = λ low. omega (arith, s.answers_before.deliver
 
 -- what was written by a session that was stopped
 pub stopped_is_interrupted : (start now : Moment) (script : List (List ℕ)) → IsStopped start script now
-    → (bytes : List ℕ) × Appends start.told.written now.told.written bytes × Interrupted start.session.ledger (map_in start.session) (map as_built script) bytes (map_in now.session)
+    → (bytes : List ℕ) × Appends start.told.written now.told.written bytes × Interrupted start.session.ledger (map_in start.session) script bytes (map_in now.session)
 stopped_is_interrupted start now script s =
     let p = s.answers_before in
-    let built = map as_built script in
     let line = get_or script s.answered [] in
     let told = written_for start.session.ledger s.given.told in
     let cut : CutOffInPieces s.before.told now.told told = subst (λ (b : Bool). CutOffInPieces s.before.told now.told (written_for b s.given.told)) p.ledger s.cut_off in
@@ -205,13 +146,12 @@ stopped_is_interrupted start now script s =
       Appends-trans start.told.written s.before.told.written now.told.written p.bytes (take prefix.0 told) p.delivered.written prefix.2,
       record {
         answered = s.answered;
-        has_next = omega (arith, s.has_next, length-map script as_built);
+        has_next = s.has_next;
         full = p.bytes;
         before = map_in s.before.session;
-        answers_before = subst (λ (ls : List (List ℕ)). Output start.session.ledger (map_in start.session) ls p.bytes (map_in s.before.session)) (sym (take-map as_built s.answered script))
-            (within_is_output start.session.ledger (map_in start.session) (map_in s.before.session) (map as_built (take s.answered script)) p.bytes p.work p.output);
+        answers_before = within_is_output start.session.ledger (map_in start.session) (map_in s.before.session) (take s.answered script) p.bytes p.work p.output;
         given = s.given;
-        answers_next = subst (λ (l : List ℕ). Answers (map_in s.before.session) l s.given) (sym (get_or-map as_built script s.answered [] [] s.has_next)) s.executed.answers;
+        answers_next = s.executed.answers;
         executed = s.executed.map;
         part = prefix.0;
         is_part = prefix.1;

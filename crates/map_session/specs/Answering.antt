@@ -1,13 +1,13 @@
 -- Lines of a text that a session answered.
-use Rattle.std.specs.Prelude.{◌≡◌, ℕ, ◌+◌, ◌<◌, ◌≤◌, ◌++◌, Bool, List, [], ◌∷◌, length, take, map, count_by, slice_index_or}
+use Rattle.std.specs.Prelude.{◌≡◌, ◌==◌, ℕ, ◌+◌, ◌<◌, ◌≤◌, ◌++◌, Bool, List, [], ◌∷◌, length, take, map, count_by, slice_index_or, if◌then◌else◌}
 use Rattle.query_laws.specs.StepLedger.{Counts}
 use Rattle.map_io.specs.SinkTold.{SinkTold}
-use Rattle.map_model.specs.Text.{lines, whole_lines, refusals}
+use Rattle.map_model.specs.Text.{whole_lines, one_line, refusals}
 use Rattle.map_model.specs.State.{State}
 use Rattle.map_model.specs.Grammar.{parse}
 use Rattle.map_model.specs.Output.{Given, Answers, written_for}
+use Rattle.script_lang.specs.Front.{longest_front}
 use Rattle.answer_text.specs.Pieces.{DeliversLines, CutOffInPieces}
-use Rattle.map_session.specs.Built.{as_built}
 use Rattle.map_session.specs.Work.{Work, no_work, both, work_said, is_update_said}
 use Rattle.map_session.specs.Session.{SessionState, map_in, ExecutesLine}
 
@@ -27,7 +27,7 @@ pub record Moment : Type 0 where
 abbrev pub moment : SessionState → SinkTold → Counts → Moment
 moment session told counts = record { session = session; told = told; counts = counts }
 
--- From one moment to the next a line was answered in full, as it is built.
+-- From one moment to the next a line was answered in full.
 pub record AnswersLine (now : Moment) (line : List ℕ) (next : Moment) : Type 0 where
   pub given : Given
   pub executed : ExecutesLine now.session now.counts line given next.session next.counts
@@ -39,14 +39,14 @@ Runs start [] now = now ≡ start
 Runs start (line ∷ lines) now = (next : Moment) × AnswersLine start line next × Runs next lines now
 
 abbrev pub is_update_line : List ℕ → Bool
-is_update_line line = is_update_said (parse (as_built line))
+is_update_line line = is_update_said (parse line)
 
 -- From one moment to another these lines were answered in full: what each took, and all together.
 pub record IsAnswered (start : Moment) (script : List (List ℕ)) (now : Moment) : Type 0 where
   pub runs : Runs start script now
   pub bytes : List ℕ
   pub work : Work
-  pub output : OutputWithin start.session.ledger (map_in start.session) (map as_built script) bytes (map_in now.session) work
+  pub output : OutputWithin start.session.ledger (map_in start.session) script bytes (map_in now.session) work
   pub delivered : DeliversLines start.told now.told bytes (length script)
   pub turns : now.counts.turns ≤ start.counts.turns + work.turns
   pub marks : now.counts.marks ≤ start.counts.marks + work.marks
@@ -67,10 +67,24 @@ pub record IsStopped (start : Moment) (script : List (List ℕ)) (now : Moment) 
   pub executed : ExecutesLine before.session before.counts (slice_index_or script answered []) given now.session now.counts
   pub cut_off : CutOffInPieces before.told now.told (written_for before.session.ledger given.told)
 
--- Lines at the front of a text were answered, and the rest of the text is left.
-pub record Progress (start : Moment) (text rest : List ℕ) (now : Moment) : Type 0 where
-  pub answered : List (List ℕ)
-  pub all : lines text ≡ answered ++ lines rest
-  pub whole : whole_lines text ≡ answered ++ whole_lines rest
-  pub answers : IsAnswered start answered now
-  pub fewer : length answered + length rest ≤ length text
+-- the same, and not inside the answers to the first so many
+abbrev pub IsStoppedBehind : ℕ → Moment → List (List ℕ) → Moment → Type 0
+IsStoppedBehind n start script now = (stopped : IsStopped start script now) × (n ≤ stopped.answered)
+
+-- Writing stopped inside the answer to this line.
+pub record StopsInLine (before : Moment) (line : List ℕ) (now : Moment) : Type 0 where
+  pub given : Given
+  pub executed : ExecutesLine before.session before.counts line given now.session now.counts
+  pub cut_off : CutOffInPieces before.told now.told (written_for before.session.ledger given.told)
+
+-- ---- a text that comes in pieces
+
+-- what comes after the last line feed
+abbrev pub unended : List ℕ → List ℕ
+unended [] = []
+unended (byte ∷ text) = if one_line text then (if byte == 10 then text else byte ∷ text) else unended text
+
+-- The lines that a line feed ended in a text are answered, and the line that is begun is the front of the rest.
+pub record IsUnderway (start : Moment) (text begun : List ℕ) (now : Moment) : Type 0 where
+  pub answered : IsAnswered start (whole_lines text) now
+  pub front : begun ≡ take longest_front (unended text)

@@ -1,5 +1,5 @@
-pub mod Built
 pub mod Work
 pub mod Replies
 pub mod Session
 pub mod Answering
+pub mod Laps

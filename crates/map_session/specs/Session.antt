@@ -12,8 +12,7 @@ use Rattle.answer_text.specs.Reply.{reply_of, cost_of}
 use Rattle.map_layers.specs.Layers.{LayersState, no_layers, map_of}
 use Rattle.map_session.specs.declared.session.Done.{Done}
 use Rattle.map_session.specs.declared.session.Done.TheVariants.{Silent, Answered, Refused}
-use Rattle.map_session.specs.Built.{as_built}
-use Rattle.map_session.specs.Work.{work_said, is_update_said, IsCounted}
+use Rattle.map_session.specs.Work.{work_said, is_update_said, lap_said, IsCounted}
 
 -- the layers, whether replies tell what they cost, and how many commands and lines there were, and were refused
 pub record SessionState : Type 0 where
@@ -45,6 +44,7 @@ pub record Executes (old : SessionState) (before : Counts) (said : Parsed) (give
   pub answers : AnswersTo (map_in old) said given
   pub map : map_in new ≡ given.state
   pub counted : IsCounted (work_said (map_in old) said) (cost_told given.told) before after
+  pub lap : after.lap_start ≡ lap_said said before
   pub ledger : new.ledger ≡ old.ledger
   pub lines : new.lines ≡ old.lines + 1
   pub refused : new.refused ≡ old.refused + refusal_count given.told
@@ -52,7 +52,7 @@ pub record Executes (old : SessionState) (before : Counts) (said : Parsed) (give
 
 -- the same of what a line says
 abbrev pub ExecutesLine : SessionState → Counts → List ℕ → Given → SessionState → Counts → Type 0
-ExecutesLine old before line given new after = Executes old before (parse (as_built line)) given new after
+ExecutesLine old before line given new after = Executes old before (parse line) given new after
 
 abbrev pub done_of : Option Told → Done
 done_of None = Silent

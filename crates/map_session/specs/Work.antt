@@ -1,6 +1,6 @@
 -- What commands may take, and what was counted for one.
 use Rattle.std.specs.Prelude.{◌≡◌, ℕ, ◌+◌, ◌*◌, ◌≤◌, ⊤, Bool, true, false, Option, Some, None, Ok, Err, if◌then◌else◌}
-use Rattle.query_laws.specs.StepLedger.{Counts}
+use Rattle.query_laws.specs.StepLedger.{Counts, LapStart, lap_begun}
 use Rattle.map_kinds.specs.Touches.{touches_at}
 use Rattle.layer_kinds.specs.Asking.{most_of}
 use Rattle.map_layers.specs.Costs.{most_in}
@@ -37,6 +37,25 @@ abbrev pub is_update_said : Parsed → Bool
 is_update_said (Ok None) = false
 is_update_said (Ok (Some command)) = is_update command
 is_update_said (Err fault) = false
+
+-- an update and a question begin a lap, whatever becomes of them, and nothing else does
+abbrev pub begins_lap : Command → Bool
+begins_lap (MakeLayer name kind indexes) = false
+begins_lap (Add name id shape) = true
+begins_lap (Drop name id) = true
+begins_lap (Ask name question) = true
+begins_lap (Get name id) = false
+begins_lap (Size name) = false
+begins_lap (Recent name k) = false
+
+abbrev pub begins_lap_said : Parsed → Bool
+begins_lap_said (Ok None) = false
+begins_lap_said (Ok (Some command)) = begins_lap command
+begins_lap_said (Err fault) = false
+
+-- the lap that is running once this is done
+abbrev pub lap_said : Parsed → Counts → LapStart
+lap_said said old = if begins_lap_said said then (lap_begun old).lap_start else old.lap_start
 
 -- the bounds of an update of a layer, where there is one: 16 touches a turn, and those of a part for each mark
 abbrev pub bounds_in : Option Layer → Work

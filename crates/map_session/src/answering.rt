@@ -1,9 +1,10 @@
 // Answering a text, line by line.
-ghost use Rattle.std.specs.Prelude.{◌≡◌, ◌+◌, ◌<◌, ◌^◌, ◌++◌, ◌∷◌, true, length, MatchOption, OnOk, OnErr, IfOk};
+ghost use Rattle.std.specs.Prelude.{◌≡◌, ℕ, ◌+◌, ◌<◌, ◌≤◌, ◌^◌, ◌++◌, ◌∷◌, [], List, true, length, take, MatchOption, OnOk, OnErr};
 ghost use Rattle.map_model.specs.Text.{lines, whole_lines, one_line};
-ghost use Rattle.map_session.specs.Answering.{moment, Progress, IsAnswered, IsStopped};
+ghost use Rattle.script_lang.specs.Front.{longest_front};
+ghost use Rattle.map_session.specs.Answering.{Moment, moment, AnswersLine, StopsInLine, IsAnswered, IsStopped, IsStoppedBehind, IsUnderway};
 
-use crate::Session;
+use crate::{LineStart, Session};
 use map_io::{Sink, WriteFault};
 use map_layers::{OverPoints, OverSegments};
 use memchr::memchr;
@@ -21,10 +22,9 @@ pub fn answer_lines<P: OverPoints, S: OverSegments, K: Sink, L: Ledger>(
     ensures answered { OnOk result (IsAnswered (moment session.old (K.told sink.old) steps.old) (lines text.now) (moment session.new (K.told sink.new) steps.new)) }
     ensures stopped { OnErr result (IsStopped (moment session.old (K.told sink.old) steps.old) (lines text.now) (moment session.new (K.told sink.new) steps.new)) }
 {
-    let rest = answer_ended_lines(session, text, sink, steps)?;
-    if !rest.is_empty() {
-        session.line(rest, sink, steps)?;
-    }
+    let mut begun = LineStart::new();
+    answer_piece(session, &mut begun, text, sink, steps)?;
+    answer_begun(session, &begun, sink, steps)?;
     Ok(())
 }
 
@@ -39,28 +39,81 @@ pub fn answer_whole_lines<P: OverPoints, S: OverSegments, K: Sink, L: Ledger>(
     ensures answered { OnOk result (IsAnswered (moment session.old (K.told sink.old) steps.old) (whole_lines text.now) (moment session.new (K.told sink.new) steps.new)) }
     ensures stopped { OnErr result (IsStopped (moment session.old (K.told sink.old) steps.old) (whole_lines text.now) (moment session.new (K.told sink.new) steps.new)) }
 {
-    answer_ended_lines(session, text, sink, steps)?;
+    let mut begun = LineStart::new();
+    answer_piece(session, &mut begun, text, sink, steps)?;
     Ok(())
 }
 
-/// Answers the lines of a text that a line feed ended, and gives what comes after the last of them.
-fn answer_ended_lines<'a, P: OverPoints, S: OverSegments, K: Sink, L: Ledger>(
+/// Answers the lines that end in the next piece of a text, the one that is begun first. What comes after the last of them is begun
+/// then.
+pub fn answer_piece<P: OverPoints, S: OverSegments, K: Sink, L: Ledger>(
     session: &mut Session<P, S>,
-    text: &'a [u8],
+    begun: &mut LineStart,
+    piece: &[u8],
     sink: &mut K,
     steps: &mut Steps<L>,
-) -> Result<&'a [u8], WriteFault>
-    requires { session.old.lines + length text.now < 2 ^ 40 }
-    ensures progress { IfOk result (λ rest. Progress (moment session.old (K.told sink.old) steps.old) text.now rest.now (moment session.new (K.told sink.new) steps.new)) }
-    ensures unended { IfOk result (λ rest. one_line rest.now ≡ true) }
-    ensures stopped { OnErr result (IsStopped (moment session.old (K.told sink.old) steps.old) (whole_lines text.now) (moment session.new (K.told sink.new) steps.new)) }
+) -> Result<(), WriteFault>
+    requires { session.old.lines + length piece.now < 2 ^ 40 }
+    ensures answered { OnOk result ((start : Moment) (text : List ℕ) → IsUnderway start text begun.old (moment session.old (K.told sink.old) steps.old)
+        → IsUnderway start (text ++ piece.now) begun.new (moment session.new (K.told sink.new) steps.new)) }
+    ensures stopped { OnErr result ((start : Moment) (text : List ℕ) → IsUnderway start text begun.old (moment session.old (K.told sink.old) steps.old)
+        → IsStoppedBehind (length (whole_lines text)) start (whole_lines (text ++ piece.now)) (moment session.new (K.told sink.new) steps.new)) }
+
+    // A line has a byte at least, its line feed.
+    ensures few { OnOk result (session.new.lines ≤ session.old.lines + length piece.now) }
 {
-    let mut rest = text;
+    let mut rest = piece;
     while let Some((line, after)) = split_line(rest) {
-        session.line(line, sink, steps)?;
+        end_line(session, begun, line, sink, steps)?;
         rest = after;
     }
-    Ok(rest)
+    begun.push(rest);
+    Ok(())
+}
+
+/// Answers the line that is begun as the last one of its text: where it is empty there is none.
+pub fn answer_begun<P: OverPoints, S: OverSegments, K: Sink, L: Ledger>(
+    session: &mut Session<P, S>,
+    begun: &LineStart,
+    sink: &mut K,
+    steps: &mut Steps<L>,
+) -> Result<(), WriteFault>
+    requires { session.old.lines < 2 ^ 40 }
+    ensures answered { OnOk result ((start : Moment) (text : List ℕ) → IsUnderway start text begun.now (moment session.old (K.told sink.old) steps.old)
+        → IsAnswered start (lines text) (moment session.new (K.told sink.new) steps.new)) }
+    ensures stopped { OnErr result ((start : Moment) (text : List ℕ) → IsUnderway start text begun.now (moment session.old (K.told sink.old) steps.old)
+        → IsStoppedBehind (length (whole_lines text)) start (lines text) (moment session.new (K.told sink.new) steps.new)) }
+{
+    if !begun.is_empty() {
+        session.line(begun.as_slice(), sink, steps)?;
+    }
+    Ok(())
+}
+
+/// Answers the line that is begun and ends in these bytes. No line is begun then.
+fn end_line<P: OverPoints, S: OverSegments, K: Sink, L: Ledger>(
+    session: &mut Session<P, S>,
+    begun: &mut LineStart,
+    end: &[u8],
+    sink: &mut K,
+    steps: &mut Steps<L>,
+) -> Result<(), WriteFault>
+    requires { session.old.lines < 2 ^ 40 }
+    ensures answered { OnOk result ((line : List ℕ) → begun.old ≡ take longest_front line
+        → AnswersLine (moment session.old (K.told sink.old) steps.old) (line ++ end.now) (moment session.new (K.told sink.new) steps.new)) }
+    ensures stopped { OnErr result ((line : List ℕ) → begun.old ≡ take longest_front line
+        → StopsInLine (moment session.old (K.told sink.old) steps.old) (line ++ end.now) (moment session.new (K.told sink.new) steps.new)) }
+    ensures cleared { OnOk result (begun.new ≡ []) }
+    ensures counted { session.new.lines ≡ session.old.lines + 1 }
+{
+    if begun.is_empty() {
+        session.line(end, sink, steps)?;
+        return Ok(());
+    }
+    begun.push(end);
+    session.line(begun.as_slice(), sink, steps)?;
+    begun.clear();
+    Ok(())
 }
 
 /// The first line of a text that a line feed ends, and what comes after the line feed: `None` where there is no line feed.

@@ -1,35 +1,40 @@
 //! A session: one command or line of a script after another, on layers of its own.
 //!
-//! A line is parsed to a command, the command is executed, and its reply is written as a line of text. [`answer_lines`] cuts a
-//! text at its line feeds, and gives each line to a session.
+//! A line is parsed to a command, the command is executed, and its reply is written as a line of text. [`answer_piece`] cuts a
+//! text that comes in pieces at its line feeds, and gives each line to a session; [`answer_lines`] does so with a whole text.
 #![tactic(auto)]
 
-ghost use Rattle.std.specs.Prelude.{◌≡◌, ℕ, List, map};
+ghost use Rattle.std.specs.Prelude.{ℕ, List};
 ghost use Rattle.std.specs.Io.KnownBytes.{Appends};
-ghost use Rattle.map_model.specs.Grammar.{parse};
 ghost use Rattle.map_model.specs.Output.{Output, Interrupted};
-ghost use Rattle.map_session.specs.Built.{built, as_built};
 ghost use Rattle.map_session.specs.Session.{map_in};
-ghost use Rattle.map_session.specs.Answering.{Moment, IsAnswered, IsStopped};
+ghost use Rattle.map_session.specs.Answering.{Moment, IsAnswered, IsStopped, Runs};
+ghost use Rattle.map_session.specs.Laps.{AreLaps};
 
 mod answering;
 mod executing;
+mod line_start;
 mod replying;
 mod session;
 
-pub use answering::{answer_lines, answer_whole_lines, split_line};
+pub use answering::{answer_begun, answer_lines, answer_piece, answer_whole_lines, split_line};
+pub use line_start::LineStart;
 pub use map_layers::{OverPoints, OverSegments, PointIndexes, SegmentIndexes};
 pub use session::{Done, Session};
 
 /// A session over all kinds of index.
 pub type MapSession = Session<PointIndexes, SegmentIndexes>;
 
-/// What a session answers is an output of the definitions, and where writing stopped a part of one. A line whose command isn't
-/// built says as little as one without a command word.
+/// What a session answers is an output of the definitions, and where writing stopped a part of one.
 pub fn answers_are_outputs()
     ensures answered { (start now : Moment) (script : List (List ℕ)) → IsAnswered start script now → (bytes : List ℕ) × Appends start.told.written now.told.written bytes
-        × Output start.session.ledger (map_in start.session) (map as_built script) bytes (map_in now.session) }
+        × Output start.session.ledger (map_in start.session) script bytes (map_in now.session) }
     ensures stopped { (start now : Moment) (script : List (List ℕ)) → IsStopped start script now → (bytes : List ℕ) × Appends start.told.written now.told.written bytes
-        × Interrupted start.session.ledger (map_in start.session) (map as_built script) bytes (map_in now.session) }
-    ensures unbuilt { (line : List ℕ) → parse (as_built line) ≡ built (parse line) }
+        × Interrupted start.session.ledger (map_in start.session) script bytes (map_in now.session) }
+{}
+
+/// In lines that a session answered each update and each question is one lap of the steps, and none took more turns or marks than the
+/// dearest of them may.
+pub fn laps_are_bounded()
+    ensures { (start : Moment) (script : List (List ℕ)) (now : Moment) (runs : Runs start script now) → AreLaps start script now runs }
 {}

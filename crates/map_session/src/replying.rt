@@ -1,19 +1,17 @@
 //! What lines and the calls of layers are replied.
 ghost use Rattle.std.specs.Prelude.{◌≡◌};
-ghost use Rattle.map_model.specs.Cost.{Asking, Untold};
+ghost use Rattle.map_model.specs.Cost.{Untold};
 ghost use Rattle.map_model.specs.Refusal as refusals;
 ghost use Rattle.map_model.specs.Reply as replies;
-ghost use Rattle.map_shapes.specs.Cost.{asked_of};
 ghost use Rattle.map_shapes.specs.Shape.{model_shape};
 ghost use Rattle.script_lang.specs.LineFault.{fault_of};
-ghost use Rattle.map_layers.specs.Questions.{answer_of};
 ghost use Rattle.map_layers.specs.Replies as layers;
 ghost use Rattle.answer_text.specs.Reply.{refusal_of, reply_of, cost_of};
 ghost use Rattle.map_session.specs.Replies.{update_cost, question_cost};
 
 use answer_text::{Refusal, Reply};
-use map_layers::{Answered, AnyAnswer, AskFault, CreateFault, UpdateFault};
-use map_shapes::{Asked, Shape, Spent};
+use map_layers::{Answered, AskFault, CreateFault, UpdateFault};
+use map_shapes::{Asked, Recent, Shape, Spent};
 use script_lang::LineFault;
 
 /// That a line has a fault.
@@ -76,20 +74,11 @@ pub fn answered(outcome: Result<(Answered, Asked), AskFault>) -> Reply
     ensures cost { cost_of result ≡ question_cost outcome }
 {
     match outcome {
-        Ok((given, asked)) => with_cost(given.into_answer(), asked),
+        Ok((given, asked)) => Reply::Answered {
+            answer: given.into_answer(),
+            asked,
+        },
         Err(fault) => refused(refusal_of_question(fault)),
-    }
-}
-
-/// An answer, beside what it cost.
-fn with_cost(answer: AnyAnswer, asked: Asked) -> Reply
-    ensures reply { reply_of result ≡ replies.Answered (answer_of answer) }
-    ensures cost { cost_of result ≡ Asking (asked_of asked) }
-{
-    match answer {
-        AnyAnswer::Counted(n) => Reply::Count { n, asked },
-        AnyAnswer::Summed(n) => Reply::Sum { n, asked },
-        AnyAnswer::Listed(ids) => Reply::List { ids, asked },
     }
 }
 
@@ -115,6 +104,17 @@ pub fn sized(outcome: Result<u64, AskFault>) -> Reply
     }
 }
 
+/// The last identifiers, or why they aren't told.
+pub fn recent(outcome: Result<Recent, AskFault>) -> Reply
+    ensures reply { reply_of result ≡ layers.asked replies.Latest outcome }
+    ensures cost { cost_of result ≡ Untold }
+{
+    match outcome {
+        Ok(ids) => Reply::Recent { ids },
+        Err(fault) => refused(refusal_of_question(fault)),
+    }
+}
+
 fn refusal_of_question(fault: AskFault) -> Refusal
     ensures { refusal_of result ≡ layers.refusal_of_ask fault }
 {
@@ -128,7 +128,7 @@ fn refusal_of_question(fault: AskFault) -> Refusal
 }
 
 /// A refusal.
-pub fn refused(cause: Refusal) -> Reply
+fn refused(cause: Refusal) -> Reply
     ensures { result ≡ Reply.Refused cause }
 {
     Reply::Refused { cause }

@@ -53,8 +53,7 @@ impl<P: OverPoints, S: OverSegments> Session<P, S> {
     ghost use Rattle.script_lang.specs.Command.{command_of};
     ghost use Rattle.answer_text.specs.Reply.{reply_of, cost_of};
     ghost use Rattle.answer_text.specs.Pieces.{DeliversLines, CutOffInPieces};
-    ghost use Rattle.map_session.specs.Built.{built};
-    ghost use Rattle.map_session.specs.Work.{work_said, is_update_said, IsCounted};
+    ghost use Rattle.map_session.specs.Work.{work_said, is_update_said, lap_said, IsCounted};
     ghost use Rattle.map_session.specs.Session.{new_session, map_in, given_by, Executes, ExecutesLine, done_of};
 
     /// A session without layers, whose written replies tell what they cost, or don't. It takes no memory; updates take theirs
@@ -91,15 +90,16 @@ impl<P: OverPoints, S: OverSegments> Session<P, S> {
         &self.layers
     }
 
-    /// Executes a command that a line can say. One that isn't built yet is refused as no command, and changes nothing.
+    /// Executes a command that a line can say.
     ///
     /// An update costs at most the bounds of its layer, whether memory is refused or not; a question takes no turn and no mark.
     pub fn command<L: Ledger>(&mut self, command: &Command, steps: &mut Steps<L>) -> Reply
         requires few { self.old.lines < 2 ^ 40 }
         requires lawful { IsCommand (command_of command.now) }
-        ensures answered { AnswersTo (map_in self.old) (built (Ok (Some (command_of command.now)))) (given_by (Some result) (map_in self.new)) }
-        ensures counted { IsCounted (work_said (map_in self.old) (built (Ok (Some (command_of command.now))))) (cost_of result) steps.old steps.new }
-        ensures updates { self.new.layers.updates ≡ self.old.layers.updates + one_if (is_update_said (built (Ok (Some (command_of command.now))))) }
+        ensures answered { AnswersTo (map_in self.old) (Ok (Some (command_of command.now))) (given_by (Some result) (map_in self.new)) }
+        ensures counted { IsCounted (work_said (map_in self.old) (Ok (Some (command_of command.now)))) (cost_of result) steps.old steps.new }
+        ensures lap { steps.new.lap_start ≡ lap_said (Ok (Some (command_of command.now))) steps.old }
+        ensures updates { self.new.layers.updates ≡ self.old.layers.updates + one_if (is_update_said (Ok (Some (command_of command.now)))) }
         ensures lines { self.new.lines ≡ self.old.lines + 1 }
         ensures refused { self.new.refused ≡ self.old.refused + one_if (is_refusal (reply_of result)) }
         ensures ledger { self.new.ledger ≡ self.old.ledger }

@@ -2,9 +2,7 @@ use Rattle.std.proofs.Common.{rules, arith, sym, ap, ◌∙◌, subst, refl, ◌
 use Rattle.map_model.specs.Grammar.{Parsed, parse}
 use Rattle.map_model.proofs.LawfulCommands.{IsCommand-parsed}
 use Rattle.script_lang.specs.Command.{command_of}
-use Rattle.map_session.specs.Built.{built, as_built}
 use Rattle.map_session.specs.Session.{map_in, given_by, Executes}
-use Rattle.map_session.proofs.Built.{parse_as_built}
 use Rattle.map_session.proofs.session.Session.answer.Goals as goal
 
 pub command-requires : goal.command-requires
@@ -16,6 +14,5 @@ pub returns-in-Ok-Some-clause-executed : goal.returns-in-Ok-Some-clause-executed
 returns-in-Ok-Some-clause-executed g c =
     let e = c.command.ensures in
     let says : parse c.args.line.now ≡ Ok (Some (command_of c.in-Ok-Some.command)) = sym c.in-Ok-Some.ensures ∙ ap (λ f. Ok (option_map command_of f)) c.in-Ok-Some.field-0-is in
-    let said : parse (as_built c.args.line.now) ≡ built (Ok (Some (command_of c.in-Ok-Some.command))) = parse_as_built c.args.line.now ∙ ap built says in
-    subst (λ (p : Parsed). Executes c.args.self.now c.args.steps.now p (given_by (Some c.command.result) (map_in c.command.new.self)) c.command.new.self c.command.new.steps) (sym said)
-    (record { answers = e.answered; map = refl; counted = e.counted; ledger = e.ledger; lines = e.lines; refused = e.refused; updates = e.updates })
+    subst (λ (p : Parsed). Executes c.args.self.now c.args.steps.now p (given_by (Some c.command.result) (map_in c.command.new.self)) c.command.new.self c.command.new.steps) (sym says)
+    (record { answers = e.answered; map = refl; counted = e.counted; lap = e.lap; ledger = e.ledger; lines = e.lines; refused = e.refused; updates = e.updates })

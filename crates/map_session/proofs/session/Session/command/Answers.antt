@@ -6,7 +6,6 @@ use Rattle.script_lang.specs.Command.{command_of}
 use Rattle.map_model.specs.Output.{AnswersTo}
 use Rattle.answer_text.specs.Reply.{reply_of, cost_of}
 use Rattle.map_layers.specs.Layers.{LayersState, map_of}
-use Rattle.map_session.specs.Built.{built}
 use Rattle.map_session.specs.Work.{work_said, is_update_said, IsCounted}
 use Rattle.map_session.specs.Session.{given_by}
 use Rattle.map_session.proofs.session.Session.command.Goals as goal
@@ -26,16 +25,16 @@ returns-clause-refused g c =
 
 pub returns-clause-answered : goal.returns-clause-answered
 returns-clause-answered g c =
-    subst (λ (l : LayersState). AnswersTo (map_of l) (built (Ok (Some (command_of c.args.command.now)))) (given_by (Some c.execute-reply.result) (map_of c.execute-reply.new.layers)))
+    subst (λ (l : LayersState). AnswersTo (map_of l) (Ok (Some (command_of c.args.command.now))) (given_by (Some c.execute-reply.result) (map_of c.execute-reply.new.layers)))
     (ap (λ v. v.layers) c.self.view_is) c.execute-reply.ensures.answered
 
 pub returns-clause-counted : goal.returns-clause-counted
 returns-clause-counted g c =
-    subst (λ (l : LayersState). IsCounted (work_said (map_of l) (built (Ok (Some (command_of c.args.command.now))))) (cost_of c.execute-reply.result) c.args.steps.now c.execute-reply.new.steps)
+    subst (λ (l : LayersState). IsCounted (work_said (map_of l) (Ok (Some (command_of c.args.command.now)))) (cost_of c.execute-reply.result) c.args.steps.now c.execute-reply.new.steps)
     (ap (λ v. v.layers) c.self.view_is) c.execute-reply.ensures.counted
 
 pub invariant_of-self : goal.invariant_of-self
 invariant_of-self g c = (
   omega (arith, c.self.invariant.0, c.from.ensures, byte c.refused.result, few c.refused.result),
-  omega (arith, c.self.invariant.1, c.execute-reply.ensures.updates, few (is_update_said (built (Ok (Some (command_of c.args.command.now)))))),
+  omega (arith, c.self.invariant.1, c.execute-reply.ensures.updates, few (is_update_said (Ok (Some (command_of c.args.command.now))))),
 )
