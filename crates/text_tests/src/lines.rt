@@ -87,6 +87,10 @@ fn reads_questions_of_places(rt: HostRuntime) {
             }))
         )
     );
+}
+
+#[test]
+fn reads_questions_of_strips(rt: HostRuntime) {
     assert!(rt;
         matches!(
             parse(b"above a 1 2 3"),

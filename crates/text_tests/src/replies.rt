@@ -37,6 +37,20 @@ fn check(
     Ok(())
 }
 
+/// An answer's line without the ledger, and with it.
+fn check_answer(
+    rt: &impl Abort,
+    alloc: Global,
+    answer: AnyAnswer,
+    line: &[u8],
+) -> Result<(), Fail> {
+    let reply = Reply::Answered {
+        answer,
+        asked: asked(),
+    };
+    check(rt, alloc, &reply, line, b" parts 5/15 touches 99")
+}
+
 #[test]
 fn writes_updates(rt: HostRuntime) -> Result<(), Fail> {
     let spent = Spent {
@@ -79,200 +93,80 @@ fn writes_updates(rt: HostRuntime) -> Result<(), Fail> {
 
 #[test]
 fn writes_numbers(rt: HostRuntime) -> Result<(), Fail> {
-    let asked = asked();
-    let tail = b" parts 5/15 touches 99";
-    check(
+    check_answer(&rt, rt.alloc(), AnyAnswer::Counted(0), b"count 0")?;
+    check_answer(
         &rt,
         rt.alloc(),
-        &Reply::Answered {
-            answer: AnyAnswer::Counted(0),
-            asked,
-        },
-        b"count 0",
-        tail,
-    )?;
-    check(
-        &rt,
-        rt.alloc(),
-        &Reply::Answered {
-            answer: AnyAnswer::Summed(u64::MAX),
-            asked,
-        },
+        AnyAnswer::Summed(u64::MAX),
         b"sum 18446744073709551615",
-        tail,
     )?;
-    check(
-        &rt,
-        rt.alloc(),
-        &Reply::Answered {
-            answer: AnyAnswer::StabCounted(2),
-            asked,
-        },
-        b"stabcount 2",
-        tail,
-    )?;
+    check_answer(&rt, rt.alloc(), AnyAnswer::StabCounted(2), b"stabcount 2")?;
     Ok(())
 }
 
 #[test]
 fn writes_the_nearest(rt: HostRuntime) -> Result<(), Fail> {
-    let asked = asked();
-    let tail = b" parts 5/15 touches 99";
     let near = Found {
         dist: 9_223_372_028_264_841_218,
         id: 1,
     };
-    check(
+    check_answer(&rt, rt.alloc(), AnyAnswer::Nearest(None), b"near none")?;
+    check_answer(
         &rt,
         rt.alloc(),
-        &Reply::Answered {
-            answer: AnyAnswer::Nearest(None),
-            asked,
-        },
-        b"near none",
-        tail,
-    )?;
-    check(
-        &rt,
-        rt.alloc(),
-        &Reply::Answered {
-            answer: AnyAnswer::Nearest(Some(near)),
-            asked,
-        },
+        AnyAnswer::Nearest(Some(near)),
         b"near 1 9223372028264841218",
-        tail,
     )?;
     let mut found = FoundList::new();
-    check(
+    check_answer(
         &rt,
         rt.alloc(),
-        &Reply::Answered {
-            answer: AnyAnswer::NearestFew(FoundList::new()),
-            asked,
-        },
+        AnyAnswer::NearestFew(FoundList::new()),
         b"nearest none",
-        tail,
     )?;
     found.push(Found { dist: 1, id: 4 });
     found.push(Found { dist: 1, id: 9 });
-    check(
+    check_answer(
         &rt,
         rt.alloc(),
-        &Reply::Answered {
-            answer: AnyAnswer::NearestFew(found),
-            asked,
-        },
+        AnyAnswer::NearestFew(found),
         b"nearest 4 1 9 1",
-        tail,
     )?;
     Ok(())
 }
 
 #[test]
 fn writes_the_highest(rt: HostRuntime) -> Result<(), Fail> {
-    let asked = asked();
-    let tail = b" parts 5/15 touches 99";
-    check(
-        &rt,
-        rt.alloc(),
-        &Reply::Answered {
-            answer: AnyAnswer::Highest(None),
-            asked,
-        },
-        b"top none",
-        tail,
-    )?;
+    check_answer(&rt, rt.alloc(), AnyAnswer::Highest(None), b"top none")?;
     let peak = Some(Peak { y: 7, id: 2 });
-    check(
-        &rt,
-        rt.alloc(),
-        &Reply::Answered {
-            answer: AnyAnswer::Highest(peak),
-            asked,
-        },
-        b"top 2 7",
-        tail,
-    )?;
+    check_answer(&rt, rt.alloc(), AnyAnswer::Highest(peak), b"top 2 7")?;
     Ok(())
 }
 
 #[test]
 fn writes_identifiers(rt: HostRuntime) -> Result<(), Fail> {
-    let asked = asked();
-    let tail = b" parts 5/15 touches 99";
     let none = IdList::from(Vec::new(rt.alloc()));
-    check(
-        &rt,
-        rt.alloc(),
-        &Reply::Answered {
-            answer: AnyAnswer::Listed(none),
-            asked,
-        },
-        b"list none",
-        tail,
-    )?;
+    check_answer(&rt, rt.alloc(), AnyAnswer::Listed(none), b"list none")?;
     let ids = IdList::from([1, 2, u64::MAX].to_vec(rt.alloc())?);
-    check(
+    check_answer(
         &rt,
         rt.alloc(),
-        &Reply::Answered {
-            answer: AnyAnswer::Listed(ids),
-            asked,
-        },
+        AnyAnswer::Listed(ids),
         b"list 1 2 18446744073709551615",
-        tail,
     )?;
     let ids = IdList::from([8].to_vec(rt.alloc())?);
-    check(
-        &rt,
-        rt.alloc(),
-        &Reply::Answered {
-            answer: AnyAnswer::ListedAbove(ids),
-            asked,
-        },
-        b"above 8",
-        tail,
-    )?;
+    check_answer(&rt, rt.alloc(), AnyAnswer::ListedAbove(ids), b"above 8")?;
     let ids = IdList::from([1, 2].to_vec(rt.alloc())?);
-    check(
-        &rt,
-        rt.alloc(),
-        &Reply::Answered {
-            answer: AnyAnswer::Stabbed(ids),
-            asked,
-        },
-        b"stab 1 2",
-        tail,
-    )?;
+    check_answer(&rt, rt.alloc(), AnyAnswer::Stabbed(ids), b"stab 1 2")?;
     Ok(())
 }
 
 #[test]
 fn writes_no_identifiers(rt: HostRuntime) -> Result<(), Fail> {
-    let asked = asked();
-    let tail = b" parts 5/15 touches 99";
     let ids = IdList::from(Vec::new(rt.alloc()));
-    check(
-        &rt,
-        rt.alloc(),
-        &Reply::Answered {
-            answer: AnyAnswer::ListedAbove(ids),
-            asked,
-        },
-        b"above none",
-        tail,
-    )?;
+    check_answer(&rt, rt.alloc(), AnyAnswer::ListedAbove(ids), b"above none")?;
     let ids = IdList::from(Vec::new(rt.alloc()));
-    check(
-        &rt,
-        rt.alloc(),
-        &Reply::Answered {
-            answer: AnyAnswer::Stabbed(ids),
-            asked,
-        },
-        b"stab none",
-        tail,
-    )?;
+    check_answer(&rt, rt.alloc(), AnyAnswer::Stabbed(ids), b"stab none")?;
     Ok(())
 }
 
