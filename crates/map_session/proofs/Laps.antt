@@ -12,7 +12,7 @@ use Rattle.map_model.specs.State.{State}
 use Rattle.map_session.specs.Answering.{Moment, AnswersLine, Runs}
 use Rattle.map_session.specs.Laps.{laps_of, greatest_of, AreLaps}
 use Rattle.map_session.specs.Session.{map_in}
-use Rattle.map_session.specs.Work.{Work, no_work, work_of, work_said, begins_lap, begins_lap_said, lap_said}
+use Rattle.map_session.specs.Work.{Work, no_work, work_of, work_said, begins_lap, begins_lap_said}
 
 -- ---- one line
 
@@ -24,7 +24,7 @@ if_none : (b : Bool) → (if b then no_work else no_work) ≡ no_work
 if_none true = refl
 if_none false = refl
 
-lapless_command : (state : State) (command : Command) → begins_lap command ≡ false → work_of state command ≡ no_work
+pub lapless_command : (state : State) (command : Command) → begins_lap command ≡ false → work_of state command ≡ no_work
 lapless_command state (MakeLayer name kind indexes) none = if_none (is_refusal (step state (MakeLayer name kind indexes)).reply)
 lapless_command state (Add name id shape) none = absurd cc
 lapless_command state (Drop name id) none = absurd cc
@@ -48,36 +48,11 @@ risen false work before after m start new-m new-start kept few none is is-start 
     let same : after ≡ before = omega (arith, kept, few, none refl) in
     rw (is, is-start, same) (grind (arith, nat_tests, common_steps))
 
-module _ (b : Bool) (old : Counts) (lap : LapStart) (is : lap ≡ (if b then (lap_begun old).lap_start else old.lap_start)) where
-  lap_turns : lap.most_turns ≡ (if b then most_lap_turns old else old.lap_start.most_turns)
-  lap_turns = elim b as (λ c. lap ≡ (if c then (lap_begun old).lap_start else old.lap_start) → lap.most_turns ≡ (if c then most_lap_turns old else old.lap_start.most_turns)) [
-    | true ↦ λ same. ap (λ l. l.most_turns) same
-    | false ↦ λ same. ap (λ l. l.most_turns) same
-  ] is
-
-  lap_marks : lap.most_marks ≡ (if b then most_lap_marks old else old.lap_start.most_marks)
-  lap_marks = elim b as (λ c. lap ≡ (if c then (lap_begun old).lap_start else old.lap_start) → lap.most_marks ≡ (if c then most_lap_marks old else old.lap_start.most_marks)) [
-    | true ↦ λ same. ap (λ l. l.most_marks) same
-    | false ↦ λ same. ap (λ l. l.most_marks) same
-  ] is
-
-  turns_start : lap.turns ≡ (if b then old.turns else old.lap_start.turns)
-  turns_start = elim b as (λ c. lap ≡ (if c then (lap_begun old).lap_start else old.lap_start) → lap.turns ≡ (if c then old.turns else old.lap_start.turns)) [
-    | true ↦ λ same. ap (λ l. l.turns) same
-    | false ↦ λ same. ap (λ l. l.turns) same
-  ] is
-
-  marks_start : lap.marks ≡ (if b then old.marks else old.lap_start.marks)
-  marks_start = elim b as (λ c. lap ≡ (if c then (lap_begun old).lap_start else old.lap_start) → lap.marks ≡ (if c then old.marks else old.lap_start.marks)) [
-    | true ↦ λ same. ap (λ l. l.marks) same
-    | false ↦ λ same. ap (λ l. l.marks) same
-  ] is
-
-  laps_after : lap.laps ≡ (if b then min (old.lap_start.laps + 1) (2 ^ 64 - 1) else old.lap_start.laps)
-  laps_after = elim b as (λ c. lap ≡ (if c then (lap_begun old).lap_start else old.lap_start) → lap.laps ≡ (if c then min (old.lap_start.laps + 1) (2 ^ 64 - 1) else old.lap_start.laps)) [
-    | true ↦ λ same. ap (λ l. l.laps) same
-    | false ↦ λ same. ap (λ l. l.laps) same
-  ] is
+-- a number of the lap that is running after a command
+lap_after : (number : LapStart → ℕ) (begun : Bool) (old : Counts) (lap : LapStart) → lap ≡ (if begun then (lap_begun old).lap_start else old.lap_start)
+    → number lap ≡ (if begun then number (lap_begun old).lap_start else number old.lap_start)
+lap_after number true old lap is = ap number is
+lap_after number false old lap is = ap number is
 
 module _ (start next : Moment) (line : List ℕ) (a : AnswersLine start line next) where
   abbrev work : Work
@@ -86,22 +61,25 @@ module _ (start next : Moment) (line : List ℕ) (a : AnswersLine start line nex
   abbrev begun : Bool
   begun = begins_lap_said (parse line)
 
+  after : (number : LapStart → ℕ) → number next.counts.lap_start ≡ (if begun then number (lap_begun start.counts).lap_start else number start.counts.lap_start)
+  after number = lap_after number begun start.counts next.counts.lap_start a.executed.lap
+
   line_turns : most_lap_turns next.counts ≤ max (most_lap_turns start.counts) work.turns
   line_turns =
       let e = a.executed in
       risen begun work.turns start.counts.turns next.counts.turns start.counts.lap_start.most_turns start.counts.lap_start.turns next.counts.lap_start.most_turns next.counts.lap_start.turns
       e.counted.turns_kept e.counted.few_turns (λ none. ap (λ w. w.turns) (lapless (map_in start.session) (parse line) none))
-      (lap_turns begun start.counts next.counts.lap_start e.lap) (turns_start begun start.counts next.counts.lap_start e.lap)
+      (after (λ l. l.most_turns)) (after (λ l. l.turns))
 
   line_marks : most_lap_marks next.counts ≤ max (most_lap_marks start.counts) work.marks
   line_marks =
       let e = a.executed in
       risen begun work.marks start.counts.marks next.counts.marks start.counts.lap_start.most_marks start.counts.lap_start.marks next.counts.lap_start.most_marks next.counts.lap_start.marks
       e.counted.marks_kept e.counted.few_marks (λ none. ap (λ w. w.marks) (lapless (map_in start.session) (parse line) none))
-      (lap_marks begun start.counts next.counts.lap_start e.lap) (marks_start begun start.counts next.counts.lap_start e.lap)
+      (after (λ l. l.most_marks)) (after (λ l. l.marks))
 
   line_laps : next.counts.lap_start.laps ≡ (if begun then min (start.counts.lap_start.laps + 1) (2 ^ 64 - 1) else start.counts.lap_start.laps)
-  line_laps = laps_after begun start.counts next.counts.lap_start a.executed.lap
+  line_laps = after (λ l. l.laps)
 
 -- ---- all lines
 

@@ -5,3 +5,4 @@ pub mod Steps
 pub mod Laps
 pub mod Unended
 pub mod Underway
+pub mod Ledger

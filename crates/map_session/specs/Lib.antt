@@ -3,3 +3,4 @@ pub mod Replies
 pub mod Session
 pub mod Answering
 pub mod Laps
+pub mod Ledger

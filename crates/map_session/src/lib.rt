@@ -10,6 +10,7 @@ ghost use Rattle.map_model.specs.Output.{Output, Interrupted};
 ghost use Rattle.map_session.specs.Session.{map_in};
 ghost use Rattle.map_session.specs.Answering.{Moment, IsAnswered, IsStopped, Runs};
 ghost use Rattle.map_session.specs.Laps.{AreLaps};
+ghost use Rattle.map_session.specs.Ledger.{told_in, lacking_in, AddsUp};
 
 mod answering;
 mod executing;
@@ -37,4 +38,10 @@ pub fn answers_are_outputs()
 /// dearest of them may.
 pub fn laps_are_bounded()
     ensures { (start : Moment) (script : List (List ℕ)) (now : Moment) (runs : Runs start script now) → AreLaps start script now runs }
+{}
+
+/// What the replies to lines tell adds up to what was counted, and where memory was never lacking so do turns and marks exactly.
+pub fn ledger_adds_up()
+    ensures { (start : Moment) (script : List (List ℕ)) (now : Moment) (runs : Runs start script now)
+        → AddsUp (told_in start script now runs) (lacking_in start script now runs) start now }
 {}
