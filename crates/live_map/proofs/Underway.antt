@@ -1,5 +1,5 @@
 -- A script that is read and answered piece by piece.
-use Rattle.std.proofs.Common.{◌≡◌, ℕ, ◌+◌, ◌-◌, ◌<◌, ◌≤◌, inl, refl, List, [], ◌++◌, length, take, drop, Option, sym, ap, ◌∙◌, subst, arith, length-append, append-nil, take_at, take-append-drop}
+use Rattle.std.proofs.Common.{◌≡◌, ℕ, ◌+◌, ◌-◌, ◌<◌, ◌≤◌, refl, List, [], ◌++◌, length, take, drop, Option, sym, ap, ◌∙◌, subst, arith, length-append, append-nil, take_at, take-append-drop}
 use Rattle.std.proofs.lemmas.List.{take-append-le}
 use Rattle.std.specs.Io.KnownBytes.{Keeps, Consumes, IsAtEnd}
 use Rattle.std.proofs.KnownBytes.{Consumes-nil, Consumes-trans, Consumes-kept}
@@ -8,7 +8,7 @@ use Rattle.map_session.specs.Answering.{Moment, IsAnswered, IsStoppedBehind, IsU
 use Rattle.map_session.proofs.Lines.{stopped_behind_in_text}
 use Rattle.map_session.proofs.Underway.{underway_at_first, more_lines, stopped_earlier}
 use Rattle.live_map.specs.declared.run.Status.TheVariants.{Clean, Refusals, ReadFault, WriteFault, TooLong}
-use Rattle.live_map.specs.Run.{script_limit, but_last_piece, HasRun, IsReading}
+use Rattle.live_map.specs.Run.{script_limit, but_last_piece, AnswersScript, IsReading}
 
 pub reading_at_first : (rest : Option (List ℕ)) (start : Moment) → IsReading rest start 0 rest [] start
 reading_at_first rest start = record { text = []; consumed = Consumes-nil rest; many = refl; within = omega arith; underway = underway_at_first start }
@@ -51,39 +51,39 @@ module _ (rest before : Option (List ℕ)) (start now : Moment) (taken : ℕ) (b
     }
 
     -- a byte came behind the longest script
-    pub too_long_run : length bytes ≡ 1 → taken ≡ script_limit → HasRun {W = ℕ} [] rest rest' start TooLong now
+    pub too_long_run : length bytes ≡ 1 → taken ≡ script_limit → AnswersScript rest rest' start TooLong now
     too_long_run one full =
         let size : length (r.text ++ bytes) ≡ script_limit + 1 = omega (arith, length-append r.text bytes, r.many, one, full) in
         let front : take script_limit (r.text ++ bytes) ≡ r.text = take_at r.text bytes script_limit (r.many ∙ full) in
-        (refl, (r.text ++ bytes, consumed_with, omega (arith, size), (size, subst (λ (t : List ℕ). IsAnswered start (whole_lines t) now) (sym front) r.underway.answered)))
+        (r.text ++ bytes, consumed_with, omega (arith, size), (size, subst (λ (t : List ℕ). IsAnswered start (whole_lines t) now) (sym front) r.underway.answered))
 
     -- bytes came, and writing stopped in an answer to one of their lines
     pub stopped_run : (new : Moment) → length bytes ≤ 4096 → taken + length bytes ≤ script_limit
         → ((start : Moment) (text : List ℕ) → IsUnderway start text begun now → IsStoppedBehind (length (whole_lines text)) start (whole_lines (text ++ bytes)) new)
-        → HasRun {W = ℕ} [] rest rest' start WriteFault new
+        → AnswersScript rest rest' start WriteFault new
     stopped_run new small fits stopped =
         let size : length (r.text ++ bytes) ≡ length r.text + length bytes = length-append r.text bytes in
         let behind = stopped_behind_in_text (length (whole_lines r.text)) start new (r.text ++ bytes) (stopped start r.text r.underway) in
         let fewer : length (whole_lines (but_last_piece (r.text ++ bytes))) ≤ length (whole_lines r.text) =
         fewer_lines r.text bytes (length (r.text ++ bytes) - 4096) (omega (arith, size, small)) in
-        inl (refl, (r.text ++ bytes, consumed_with, omega (arith, size, r.many, fits), stopped_earlier _ _ start new (lines (r.text ++ bytes)) fewer behind))
+        (r.text ++ bytes, consumed_with, omega (arith, size, r.many, fits), stopped_earlier _ _ start new (lines (r.text ++ bytes)) fewer behind)
 
   -- the source failed
-  pub failed_run : HasRun {W = ℕ} [] rest before start ReadFault now
-  failed_run = (refl, (r.text, r.consumed, omega (arith, r.many, r.within), r.underway.answered))
+  pub failed_run : AnswersScript rest before start ReadFault now
+  failed_run = (r.text, r.consumed, omega (arith, r.many, r.within), r.underway.answered)
 
   module _ (end : IsAtEnd before) (new : Moment) where
     -- the last line was answered
-    pub clean_run : ((start : Moment) (text : List ℕ) → IsUnderway start text begun now → IsAnswered start (lines text) new) → new.session.refused ≡ 0 → HasRun {W = ℕ} [] rest before start Clean new
-    clean_run all none = (refl, (end, (r.text, r.consumed, omega (arith, r.many, r.within), all start r.text r.underway)), none)
+    pub clean_run : ((start : Moment) (text : List ℕ) → IsUnderway start text begun now → IsAnswered start (lines text) new) → new.session.refused ≡ 0 → AnswersScript rest before start Clean new
+    clean_run all none = ((end, (r.text, r.consumed, omega (arith, r.many, r.within), all start r.text r.underway)), none)
 
-    pub refused_run : ((start : Moment) (text : List ℕ) → IsUnderway start text begun now → IsAnswered start (lines text) new) → 0 < new.session.refused → HasRun {W = ℕ} [] rest before start Refusals new
-    refused_run all some = (refl, (end, (r.text, r.consumed, omega (arith, r.many, r.within), all start r.text r.underway)), some)
+    pub refused_run : ((start : Moment) (text : List ℕ) → IsUnderway start text begun now → IsAnswered start (lines text) new) → 0 < new.session.refused → AnswersScript rest before start Refusals new
+    refused_run all some = ((end, (r.text, r.consumed, omega (arith, r.many, r.within), all start r.text r.underway)), some)
 
   -- writing stopped in the answer to the last line
   pub stopped_last_run : (new : Moment) → ((start : Moment) (text : List ℕ) → IsUnderway start text begun now → IsStoppedBehind (length (whole_lines text)) start (lines text) new)
-      → HasRun {W = ℕ} [] rest before start WriteFault new
+      → AnswersScript rest before start WriteFault new
   stopped_last_run new stopped =
       let fewer : length (whole_lines (but_last_piece r.text)) ≤ length (whole_lines r.text) =
       subst (λ (t : List ℕ). length (whole_lines (take (length r.text - 4096) t)) ≤ length (whole_lines r.text)) (append-nil r.text) (fewer_lines r.text [] (length r.text - 4096) (omega arith)) in
-      inl (refl, (r.text, r.consumed, omega (arith, r.many, r.within), stopped_earlier _ _ start new (lines r.text) fewer (stopped start r.text r.underway)))
+      (r.text, r.consumed, omega (arith, r.many, r.within), stopped_earlier _ _ start new (lines r.text) fewer (stopped start r.text r.underway))

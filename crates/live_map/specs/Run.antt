@@ -1,9 +1,16 @@
 -- What a run takes in, answers and writes.
-use Rattle.std.specs.Prelude.{◌≡◌, ◌≢◌, ℕ, ◌+◌, ◌-◌, ◌<◌, ◌≤◌, ◌⊎◌, List, [], length, take, Option, codes}
+use Rattle.std.specs.Prelude.{◌≡◌, ◌≢◌, ℕ, ◌+◌, ◌-◌, ◌<◌, ◌≤◌, List, [], length, take, Option, Result, Ok, Err, Bool, true, false, codes}
 use Rattle.std.specs.Io.KnownBytes.{Consumes, IsAtEnd}
+use Rattle.query_laws.specs.StepLedger.{Counts}
 use Rattle.map_io.specs.SinkTold.{SinkTold, Delivers, CutOff}
 use Rattle.map_model.specs.Text.{lines, whole_lines}
-use Rattle.map_session.specs.Answering.{Moment, IsAnswered, IsStoppedBehind, IsUnderway}
+use Rattle.map_session.specs.Session.{new_session}
+use Rattle.map_session.specs.Answering.{Moment, moment, IsAnswered, IsStoppedBehind, IsUnderway}
+use Rattle.program_words.specs.declared.job.Job.{Job}
+use Rattle.program_words.specs.declared.job.Job.TheVariants.{Script, Made}
+use Rattle.program_words.specs.declared.job.WordsFault.{WordsFault}
+use Rattle.program_words.specs.declared.job.WordsFault.TheVariants as faults
+use Rattle.program_words.specs.Words.{AsksFor, Reads}
 use Rattle.live_map.specs.declared.run.Status.{Status}
 use Rattle.live_map.specs.declared.run.Status.TheVariants.{Clean, Refusals, Usage, ReadFault, WriteFault, TooLong, NoMemory}
 
@@ -23,7 +30,7 @@ code_of WriteFault = 4
 code_of TooLong = 5
 code_of NoMemory = 6
 
--- ---- a run
+-- ---- a script
 
 -- so many bytes at most were taken, and P holds of them
 abbrev pub Takes : ℕ → Option (List ℕ) → Option (List ℕ) → (List ℕ → Type 0) → Type 0
@@ -33,26 +40,21 @@ Takes most rest rest' P = (taken : List ℕ) × Consumes rest rest' taken × (le
 abbrev pub AnswersAll : Option (List ℕ) → Option (List ℕ) → Moment → Moment → Type 0
 AnswersAll rest rest' start now = IsAtEnd rest' × Takes script_limit rest rest' (λ taken. IsAnswered start (lines taken) now)
 
--- the session is as it was, and nothing was counted
-abbrev pub IsIdle : Moment → Moment → Type 0
-IsIdle start now = (now.session ≡ start.session) × (now.counts ≡ start.counts)
-
 -- all but the last 4,096 bytes
 abbrev pub but_last_piece : List ℕ → List ℕ
 but_last_piece taken = take (length taken - 4096) taken
 
--- What a run with these words took, answered and wrote, by how it ended.
-abbrev pub HasRun : {W : Type 0} → List W → Option (List ℕ) → Option (List ℕ) → Moment → Status → Moment → Type 0
-HasRun words rest rest' start Clean now = (words ≡ []) × AnswersAll rest rest' start now × (now.session.refused ≡ 0)
-HasRun words rest rest' start Refusals now = (words ≡ []) × AnswersAll rest rest' start now × (0 < now.session.refused)
-HasRun words rest rest' start Usage now = (words ≢ []) × Takes 0 rest rest' (λ _. IsIdle start now × Delivers start.told now.told usage_line 1)
-HasRun words rest rest' start ReadFault now = (words ≡ []) × Takes script_limit rest rest' (λ taken. IsAnswered start (whole_lines taken) now)
-HasRun words rest rest' start WriteFault now =
-    ((words ≡ []) × Takes script_limit rest rest' (λ taken. IsStoppedBehind (length (whole_lines (but_last_piece taken))) start (lines taken) now))
-    ⊎ ((words ≢ []) × Takes 0 rest rest' (λ _. IsIdle start now × CutOff start.told now.told usage_line 0))
-HasRun words rest rest' start TooLong now = (words ≡ [])
-    × Takes (script_limit + 1) rest rest' (λ taken. (length taken ≡ script_limit + 1) × IsAnswered start (whole_lines (take script_limit taken)) now)
-HasRun words rest rest' start NoMemory now = (words ≡ []) × Takes 0 rest rest' (λ _. IsIdle start now × Delivers start.told now.told [] 0)
+-- What was taken of a script, answered and written since the start, by how it ended.
+abbrev pub AnswersScript : Option (List ℕ) → Option (List ℕ) → Moment → Status → Moment → Type 0
+AnswersScript rest rest' start Clean now = AnswersAll rest rest' start now × (now.session.refused ≡ 0)
+AnswersScript rest rest' start Refusals now = AnswersAll rest rest' start now × (0 < now.session.refused)
+AnswersScript rest rest' start Usage now = ⊥
+AnswersScript rest rest' start ReadFault now = Takes script_limit rest rest' (λ taken. IsAnswered start (whole_lines taken) now)
+AnswersScript rest rest' start WriteFault now =
+    Takes script_limit rest rest' (λ taken. IsStoppedBehind (length (whole_lines (but_last_piece taken))) start (lines taken) now)
+AnswersScript rest rest' start TooLong now =
+    Takes (script_limit + 1) rest rest' (λ taken. (length taken ≡ script_limit + 1) × IsAnswered start (whole_lines (take script_limit taken)) now)
+AnswersScript rest rest' start NoMemory now = ⊥
 
 -- Between two reads: so many bytes were taken since there was this rest, the lines that a line feed ended in them are answered, and the
 -- line that is begun is the front of what comes after.
@@ -63,6 +65,8 @@ pub record IsReading (rest : Option (List ℕ)) (start : Moment) (taken : ℕ) (
   pub within : taken ≤ script_limit
   pub underway : IsUnderway start text begun now
 
+-- ---- a run
+
 -- the usage line was written, or a proper prefix of it
 abbrev pub WritesUsage : SinkTold → SinkTold → Status → Type 0
 WritesUsage told told' Clean = ⊥
@@ -72,3 +76,28 @@ WritesUsage told told' ReadFault = ⊥
 WritesUsage told told' WriteFault = CutOff told told' usage_line 0
 WritesUsage told told' TooLong = ⊥
 WritesUsage told told' NoMemory = ⊥
+
+-- nothing was taken, executed or counted
+pub record IsIdle (rest rest' : Option (List ℕ)) (start now : Moment) : Type 0 where
+  pub taken : Consumes rest rest' []
+  pub session : now.session ≡ start.session
+  pub counts : now.counts ≡ start.counts
+
+-- the words are accepted, and ask for the script that is read
+abbrev pub AsksForScript : List (List ℕ) → Type 0
+AsksForScript words = (ledger : Bool) × AsksFor words (Script ledger)
+
+-- What a run did, by what its words ask for.
+abbrev pub RunsBy : Result Job WordsFault → Option (List ℕ) → Option (List ℕ) → SinkTold → Counts → Status → Moment → Type 0
+RunsBy (Ok (Script ledger)) rest rest' told counts status now = AnswersScript rest rest' (moment (new_session ledger) told counts) status now
+-- no script is made yet
+RunsBy (Ok (Made seed size)) rest rest' told counts status now =
+    IsIdle rest rest' (moment (new_session false) told counts) now × WritesUsage told now.told status
+RunsBy (Err faults.Usage) rest rest' told counts status now =
+    IsIdle rest rest' (moment (new_session false) told counts) now × WritesUsage told now.told status
+RunsBy (Err faults.NoMemory) rest rest' told counts status now =
+    (status ≡ NoMemory) × IsIdle rest rest' (moment (new_session false) told counts) now × Delivers told now.told [] 0
+
+-- The words were read, and what was taken, answered and written is what they ask for.
+abbrev pub HasRun : List (List ℕ) → Option (List ℕ) → Option (List ℕ) → SinkTold → Counts → Status → Moment → Type 0
+HasRun words rest rest' told counts status now = (read : Result Job WordsFault) × Reads words read × RunsBy read rest rest' told counts status now

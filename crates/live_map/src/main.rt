@@ -4,11 +4,12 @@
 mod reading;
 mod run;
 
-ghost use Rattle.std.specs.Prelude.{◌≡◌, ◌≢◌, IfOk, IfErr, OnErr, drop, false};
+ghost use Rattle.std.specs.Prelude.{◌≡◌, ◌≢◌, IfOk, IfErr, OnErr, drop, map};
+ghost use Rattle.std.specs.String.{string_bytes};
 ghost use Rattle.std.specs.Process.{exit_status};
 ghost use Rattle.std.specs.IoError.{error_kind};
 ghost use Rattle.query_laws.specs.StepLedger.{Counts, nothing_counted};
-ghost use Rattle.map_session.specs.Session.{SessionState, new_session};
+ghost use Rattle.map_session.specs.Session.{SessionState};
 ghost use Rattle.map_session.specs.Answering.{moment};
 ghost use Rattle.live_map.specs.Run.{code_of, HasRun};
 
@@ -48,7 +49,7 @@ fn end<S: Source, K: Sink, L: Ledger>(
     requires parts { blank.parts ≡ L.parts }
     requires shares { blank.parts ≡ SHARES }
     ensures run { IfOk arguments (λ all. (status : Status) × (session : SessionState) × (counts : Counts) × (exit_status result ≡ code_of status)
-        × HasRun (drop 1 all.items) (S.rest source.old) (S.rest source.new) (moment (new_session false) (K.told sink.old) nothing_counted)
+        × HasRun (map string_bytes (drop 1 all.items)) (S.rest source.old) (S.rest source.new) (K.told sink.old) nothing_counted
         status (moment session (K.told sink.new) counts)) }
     ensures no_memory { IfErr arguments (λ error. error_kind error ≡ ErrorKind.OutOfMemory → exit_status result ≡ 6) }
     ensures no_text { IfErr arguments (λ error. error_kind error ≢ ErrorKind.OutOfMemory → exit_status result ≡ 7) }
@@ -75,8 +76,8 @@ fn run_once<S: Source, K: Sink, L: Ledger>(
     requires name { blank.name ≡ L.name }
     requires parts { blank.parts ≡ L.parts }
     requires shares { blank.parts ≡ SHARES }
-    ensures { (counts : Counts) × HasRun words.now (S.rest source.old) (S.rest source.new)
-        (moment (new_session false) (K.told sink.old) nothing_counted) result.status (moment result.session (K.told sink.new) counts) }
+    ensures { (counts : Counts) × HasRun (map string_bytes words.now) (S.rest source.old) (S.rest source.new)
+        (K.told sink.old) nothing_counted result.status (moment result.session (K.told sink.new) counts) }
 {
     let mut steps = Steps::<L>::new(blank);
     run(alloc, words, source, sink, &mut steps)

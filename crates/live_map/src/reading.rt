@@ -1,9 +1,9 @@
 // Reading a script and answering its lines.
-ghost use Rattle.std.specs.Prelude.{◌≡◌, ◌≢◌, ◌+◌, ◌-◌, ◌<◌, ◌≤◌, ℕ, List, [], Option, Err, IfOk, IfErr, min, max};
+ghost use Rattle.std.specs.Prelude.{◌≡◌, ◌≢◌, ◌+◌, ◌-◌, ◌<◌, ◌≤◌, ℕ, List, Option, Err, IfOk, IfErr, min, max};
 ghost use Rattle.map_io.specs.Faults.{Rose};
 ghost use Rattle.std.specs.Io.KnownBytes.{IsAtEnd};
 ghost use Rattle.map_session.specs.Answering.{Moment, moment};
-ghost use Rattle.live_map.specs.Run.{script_limit, HasRun, IsReading};
+ghost use Rattle.live_map.specs.Run.{script_limit, AnswersScript, IsReading};
 
 use crate::Status;
 use map_io::{Sink, Source, WriteFault};
@@ -25,7 +25,7 @@ pub fn answer_script<S: Source, K: Sink, L: Ledger>(
     steps: &mut Steps<L>,
 ) -> Status
     requires { session.old.lines ≡ 0 }
-    ensures ended { HasRun {W = ℕ} [] (S.rest source.old) (S.rest source.new) (moment session.old (K.told sink.old) steps.old) result
+    ensures ended { AnswersScript (S.rest source.old) (S.rest source.new) (moment session.old (K.told sink.old) steps.old) result
         (moment session.new (K.told sink.new) steps.new) }
     ensures failed { result ≡ Status.ReadFault → Rose (S.faults source.old) (S.faults source.new) }
     ensures succeeded { result ≢ Status.ReadFault → S.faults source.new ≡ S.faults source.old }
@@ -58,7 +58,7 @@ fn answer_read<S: Source, K: Sink, L: Ledger>(
         → IsReading rest start (taken + given) (S.rest source.new) begun.new (moment session.new (K.told sink.new) steps.new)) }
     ensures ended { IfErr result (λ status. (rest : Option (List ℕ)) (start : Moment)
         → IsReading rest start taken (S.rest source.old) begun.old (moment session.old (K.told sink.old) steps.old)
-        → HasRun {W = ℕ} [] rest (S.rest source.new) start status (moment session.new (K.told sink.new) steps.new)) }
+        → AnswersScript rest (S.rest source.new) start status (moment session.new (K.told sink.new) steps.new)) }
     ensures some { IfOk result (λ given. (1 ≤ given) × (taken + given ≤ script_limit)) }
     ensures lines { IfOk result (λ given. session.new.lines ≤ taken + given) }
     ensures failed { result ≡ Err Status.ReadFault → Rose (S.faults source.old) (S.faults source.new) }
@@ -92,7 +92,7 @@ fn answer_last<K: Sink, L: Ledger>(
     requires { session.old.lines ≤ script_limit }
     ensures ended { (rest : Option (List ℕ)) (start : Moment) (taken : ℕ) (rest' : Option (List ℕ))
         → IsReading rest start taken rest' begun.now (moment session.old (K.told sink.old) steps.old) → IsAtEnd rest'
-        → HasRun {W = ℕ} [] rest rest' start result (moment session.new (K.told sink.new) steps.new) }
+        → AnswersScript rest rest' start result (moment session.new (K.told sink.new) steps.new) }
     ensures no_read_fault { result ≢ Status.ReadFault }
     ensures no_memory { result ≢ Status.NoMemory }
 {

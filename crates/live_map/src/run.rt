@@ -1,13 +1,14 @@
 // The program, over any source and sink.
-ghost use Rattle.std.specs.Prelude.{◌≡◌, ◌≢◌, ◌⊎◌, ◌<◌, ◌≤◌, ℕ, List, [], length, Some, false};
+ghost use Rattle.std.specs.Prelude.{◌≡◌, ◌≢◌, ◌⊎◌, ◌<◌, ◌≤◌, ℕ, List, length, map, Some};
+ghost use Rattle.std.specs.String.{string_bytes};
 ghost use Rattle.map_io.specs.Faults.{Rose};
-ghost use Rattle.map_session.specs.Session.{new_session};
 ghost use Rattle.map_session.specs.Answering.{moment};
-ghost use Rattle.live_map.specs.Run.{script_limit, code_of, HasRun, WritesUsage};
+ghost use Rattle.live_map.specs.Run.{script_limit, code_of, AsksForScript, HasRun, RunsBy, WritesUsage};
 
 use crate::reading::answer_script;
 use map_io::{Sink, Source, WriteFault, write_all};
 use map_session::MapSession;
+use program_words::{Job, WordsFault, read_words};
 use query_laws::step_ledger::Steps;
 use std::alloc::Global;
 use std::sync::ledger::Ledger;
@@ -59,9 +60,10 @@ pub struct Ended {
 
 /// Answers a script: the lines that end in what a read gave are answered before the next read.
 ///
-/// No word is accepted today: with any, the usage line is written and nothing is read. A script is taken up to its
-/// end, to the first fault of the source, or to 67,108,864 bytes and one more. After a fault and after too long a
-/// script the lines that a line feed ended are answered. It stops at the first fault of the sink.
+/// The words are `[--ledger]`; with the ledger an accepted update and an answered question tell what they cost. Other words are
+/// answered by the usage line, those for a made script too, and nothing is read. A script is taken up to its end, to the first fault
+/// of the source, or to 67,108,864 bytes and one more. After a fault and after too long a script the lines that a line feed ended
+/// are answered. It stops at the first fault of the sink.
 ///
 /// It keeps one piece of 4,096 bytes and the front of one line, and takes no memory for the text.
 ///
@@ -74,8 +76,8 @@ pub fn run<S: Source, K: Sink, L: Ledger>(
     steps: &mut Steps<L>,
 ) -> Ended
     // What was taken, answered, counted and written.
-    ensures ended { HasRun words.now (S.rest source.old) (S.rest source.new)
-        (moment (new_session false) (K.told sink.old) steps.old) result.status (moment result.session (K.told sink.new) steps.new) }
+    ensures ended { HasRun (map string_bytes words.now) (S.rest source.old) (S.rest source.new) (K.told sink.old) steps.old
+        result.status (moment result.session (K.told sink.new) steps.new) }
 
     // A fault comes only from the outside.
     ensures read_fault_cause { result.status ≡ Status.ReadFault → Rose (S.faults source.old) (S.faults source.new) }
@@ -86,23 +88,49 @@ pub fn run<S: Source, K: Sink, L: Ledger>(
     ensures no_write_fault { result.status ≢ Status.WriteFault → (K.told sink.new).faults ≡ (K.told sink.old).faults }
 
     // Where nothing failed, a script within the limit is answered whole, and no longer one is, but for want of memory.
-    ensures complete { (left : List ℕ) → S.rest source.old ≡ Some left → length left ≤ script_limit → words.now ≡ [] →
+    ensures complete { (left : List ℕ) → S.rest source.old ≡ Some left → length left ≤ script_limit → AsksForScript (map string_bytes words.now) →
         (Rose (S.faults source.old) (S.faults source.new) → ⊥) → (Rose (K.told sink.old).faults (K.told sink.new).faults → ⊥) →
         (result.status ≡ Status.Clean) ⊎ ((result.status ≡ Status.Refusals) ⊎ (result.status ≡ Status.NoMemory)) }
-    ensures limit { (left : List ℕ) → S.rest source.old ≡ Some left → script_limit < length left → words.now ≡ [] →
+    ensures limit { (left : List ℕ) → S.rest source.old ≡ Some left → script_limit < length left → AsksForScript (map string_bytes words.now) →
         (Rose (S.faults source.old) (S.faults source.new) → ⊥) → (Rose (K.told sink.old).faults (K.told sink.new).faults → ⊥) →
         (result.status ≡ Status.TooLong) ⊎ (result.status ≡ Status.NoMemory) }
-
-    // No memory is taken for the text.
-    ensures no_memory_yet { result.status ≢ Status.NoMemory }
 {
-    let mut session = MapSession::new(alloc, false);
-    if !words.is_empty() {
-        let status = refuse_words(sink);
-        return Ended { status, session };
+    let job = read_words(alloc, words);
+    run_job(alloc, job, source, sink, steps)
+}
+
+/// Does what the words ask for, or says why it can't be done.
+fn run_job<S: Source, K: Sink, L: Ledger>(
+    alloc: Global,
+    job: Result<Job, WordsFault>,
+    source: &mut S,
+    sink: &mut K,
+    steps: &mut Steps<L>,
+) -> Ended
+    ensures ended { RunsBy job (S.rest source.old) (S.rest source.new) (K.told sink.old) steps.old
+        result.status (moment result.session (K.told sink.new) steps.new) }
+    ensures read_fault_cause { result.status ≡ Status.ReadFault → Rose (S.faults source.old) (S.faults source.new) }
+    ensures write_fault_cause { result.status ≡ Status.WriteFault → Rose (K.told sink.old).faults (K.told sink.new).faults }
+    ensures no_read_fault { result.status ≢ Status.ReadFault → result.status ≢ Status.WriteFault → S.faults source.new ≡ S.faults source.old }
+    ensures no_write_fault { result.status ≢ Status.WriteFault → (K.told sink.new).faults ≡ (K.told sink.old).faults }
+{
+    match job {
+        Ok(Job::Script { ledger }) => {
+            let mut session = MapSession::new(alloc, ledger);
+            let status = answer_script(&mut session, source, sink, steps);
+            Ended { status, session }
+        }
+        Ok(Job::Made { .. }) | Err(WordsFault::Usage) => {
+            let session = MapSession::new(alloc, false);
+            let status = refuse_words(sink);
+            Ended { status, session }
+        }
+        Err(WordsFault::NoMemory) => {
+            let session = MapSession::new(alloc, false);
+            let status = Status::NoMemory;
+            Ended { status, session }
+        }
     }
-    let status = answer_script(&mut session, source, sink, steps);
-    Ended { status, session }
 }
 
 /// Writes the usage line.

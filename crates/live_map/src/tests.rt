@@ -2,6 +2,9 @@
 ghost use Rattle.std.specs.Prelude.{◌<◌, ◌≤◌, All, IfOk};
 ghost use Rattle.std.specs.List.Sorted.{IsStrictlyIncreasing};
 
+mod ledger;
+mod town;
+
 use super::*;
 use map_io::{MemSink, MemSource};
 use std::alloc::AllocError;
@@ -683,6 +686,29 @@ fn a_script_of_64_mebibytes_is_read(rt: HostRuntime) -> Result<(), Fail> {
     let script = longest_script(rt.alloc())?;
     let (status, written) = run_script(rt.alloc(), &script, WHOLE, WHOLE)?;
     assert_eq!(rt; status, Status::Clean);
+    assert!(rt; written.is_empty());
+    Ok(())
+}
+
+/// The longest script, whose last 300 bytes no line feed ends.
+fn longest_unended_script(alloc: Global) -> Result<Vec<u8>, AllocError> {
+    let mut script = longest_script(alloc)?;
+    script.truncate(67_108_864 - 301);
+    script.push(b'\n')?;
+    script.extend_from_slice(&comment(alloc, 300)?)?;
+    Ok(script)
+}
+
+// At the limit the line is the last one; a byte more, and the script is too long.
+#[test]
+fn a_begun_line_may_end_at_the_limit(rt: HostRuntime) -> Result<(), Fail> {
+    let mut script = longest_unended_script(rt.alloc())?;
+    let (status, written) = run_script(rt.alloc(), &script, WHOLE, WHOLE)?;
+    assert_eq!(rt; status, Status::Refusals);
+    assert_eq!(rt; written.as_slice(), b"no line\n".as_slice());
+    script.push(b'x')?;
+    let (status, written) = run_script(rt.alloc(), &script, WHOLE, WHOLE)?;
+    assert_eq!(rt; status, Status::TooLong);
     assert!(rt; written.is_empty());
     Ok(())
 }
