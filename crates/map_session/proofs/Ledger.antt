@@ -10,14 +10,14 @@ use Rattle.map_model.specs.Answer.{Question, answer_over, index_of, kind_asked}
 use Rattle.map_model.specs.Index.{has}
 use Rattle.map_model.specs.Refusal.{NoLayer, Index, Duplicate, Unknown, Full}
 use Rattle.map_model.specs.Refusal as refusals
-use Rattle.map_model.specs.Output.{Given, AnswersTo, IsCost, adds}
+use Rattle.map_model.specs.Output.{Told, Given, AnswersTo, IsCost, adds}
 use Rattle.map_model.specs.Reply.{Reply, Made, Updated, Answered, Got, Sized, Latest, Refused, is_refusal}
 use Rattle.map_model.specs.Shape.{Shape, kind_of}
 use Rattle.map_model.specs.State.{Layer, State, layer_named, most_items, live_count, is_live, with_items, with_item, without_item}
-use Rattle.map_session.specs.Answering.{Moment, AnswersLine, Runs}
-use Rattle.map_session.specs.Ledger.{work_told, work_lacking, told_in, lacking_in, AddsUp}
-use Rattle.map_session.specs.Session.{map_in, cost_told}
-use Rattle.map_session.specs.Work.{Work, no_work, work_of, work_said, begins_lap, IsCounted}
+use Rattle.map_session.specs.Answering.{Moment, Runs}
+use Rattle.map_session.specs.Ledger.{work_told, work_lacking, told_in, lacking_in, told_to, lacking_to, AddsUp}
+use Rattle.map_session.specs.Session.{SessionState, map_in, cost_told, Executes, Obeys}
+use Rattle.map_session.specs.Work.{Work, no_work, both, work_of, work_said, begins_lap, IsCounted}
 use Rattle.map_session.proofs.Laps.{lapless_command}
 
 -- ---- a reply without a cost
@@ -117,31 +117,52 @@ counted_cost (Updating spent) work lacking old new c none =
 counted_cost (Asking asked) work lacking old new c none =
     (omega (arith, c.told.0), omega (arith, c.told.1), omega (arith, c.told.2), omega (arith, c.told.0), omega (arith, c.told.1))
 
-line_adds_up : (start next : Moment) (line : List ℕ) (a : AnswersLine start line next)
-    → AddsUp (work_told (cost_told a.given.told)) (work_lacking (map_in start.session) (parse line) a.given.told) start next
-line_adds_up start next line a =
-    let state = map_in start.session in
-    let e = a.executed in
-    let all = counted_cost (cost_told a.given.told) (work_said state (parse line)) (work_lacking state (parse line) a.given.told) start.counts next.counts
-        e.counted (untold state (parse line) a.given e.answers) in
+said_adds_up : (old : SessionState) (before : Counts) (said : Parsed) (given : Given) (new : SessionState) (after : Counts) → Executes old before said given new after
+    → AddsUp (work_told (cost_told given.told)) (work_lacking (map_in old) said given.told) before after
+said_adds_up old before said given new after e =
+    let state = map_in old in
+    let all = counted_cost (cost_told given.told) (work_said state said) (work_lacking state said given.told) before after e.counted (untold state said given e.answers) in
     record { turns_counted = all.0; marks_counted = all.1; touches_counted = all.2; turns_told = all.3; marks_told = all.4; }
 
--- ---- all lines
+-- ---- all of them
+
+nothing_adds_up : (old new : Counts) → new ≡ old → AddsUp no_work no_work old new
+nothing_adds_up old new same =
+    let turns : new.turns ≡ old.turns = ap (λ (c : Counts). c.turns) same in
+    let marks : new.marks ≡ old.marks = ap (λ (c : Counts). c.marks) same in
+    let touches : new.touches ≡ old.touches = ap (λ (c : Counts). c.touches) same in
+    record {
+      turns_counted = omega (arith, turns);
+      marks_counted = omega (arith, marks);
+      touches_counted = omega (arith, touches);
+      turns_told = omega (arith, turns);
+      marks_told = omega (arith, marks);
+    }
+
+both_add_up : (told lacking told' lacking' : Work) (old next new : Counts) → AddsUp told lacking old next → AddsUp told' lacking' next new → AddsUp (both told told') (both lacking lacking') old new
+both_add_up told lacking told' lacking' old next new one rest = record {
+  turns_counted = omega (arith, one.turns_counted, rest.turns_counted);
+  marks_counted = omega (arith, one.marks_counted, rest.marks_counted);
+  touches_counted = omega (arith, one.touches_counted, rest.touches_counted);
+  turns_told = omega (arith, one.turns_told, rest.turns_told);
+  marks_told = omega (arith, one.marks_told, rest.marks_told);
+}
 
 pub script_adds_up : (start : Moment) (script : List (List ℕ)) (now : Moment) (runs : Runs start script now)
-    → AddsUp (told_in start script now runs) (lacking_in start script now runs) start now
-script_adds_up start [] now runs =
-    let turns : now.counts.turns ≡ start.counts.turns = ap (λ (m : Moment). m.counts.turns) runs in
-    let marks : now.counts.marks ≡ start.counts.marks = ap (λ (m : Moment). m.counts.marks) runs in
-    let touches : now.counts.touches ≡ start.counts.touches = ap (λ (m : Moment). m.counts.touches) runs in
-    record { turns_counted = omega (arith, turns); marks_counted = omega (arith, marks); touches_counted = omega (arith, touches); turns_told = omega (arith, turns); marks_told = omega (arith, marks); }
+    → AddsUp (told_in start script now runs) (lacking_in start script now runs) start.counts now.counts
+script_adds_up start [] now runs = nothing_adds_up start.counts now.counts (ap (λ (m : Moment). m.counts) runs)
 script_adds_up start (line ∷ lines) now runs =
-    let one = line_adds_up start runs.0 line runs.1 in
-    let rest = script_adds_up runs.0 lines now runs.2 in
-    record {
-      turns_counted = omega (arith, one.turns_counted, rest.turns_counted);
-      marks_counted = omega (arith, one.marks_counted, rest.marks_counted);
-      touches_counted = omega (arith, one.touches_counted, rest.touches_counted);
-      turns_told = omega (arith, one.turns_told, rest.turns_told);
-      marks_told = omega (arith, one.marks_told, rest.marks_told);
-    }
+    let given = runs.1.given in
+    both_add_up (work_told (cost_told given.told)) (work_lacking (map_in start.session) (parse line) given.told) (told_in runs.0 lines now runs.2) (lacking_in runs.0 lines now runs.2)
+    start.counts runs.0.counts now.counts (said_adds_up start.session start.counts (parse line) given runs.0.session runs.0.counts runs.1.executed) (script_adds_up runs.0 lines now runs.2)
+
+pub commands_add_up : (old : SessionState) (before : Counts) (commands : List Command) (told : List Told) (new : SessionState) (after : Counts) (obeys : Obeys old before commands told new after)
+    → AddsUp (told_to told) (lacking_to old before commands told new after obeys) before after
+commands_add_up old before [] [] new after obeys = nothing_adds_up before after obeys.1
+commands_add_up old before [] (one ∷ more) new after obeys = absurd obeys
+commands_add_up old before (command ∷ commands) [] new after obeys = absurd obeys
+commands_add_up old before (command ∷ commands) (one ∷ more) new after obeys =
+    let said : Parsed = Ok (Some command) in
+    let given : Given = record { told = Some one; state = map_in obeys.0 } in
+    both_add_up (work_told one.cost) (work_lacking (map_in old) said (Some one)) (told_to more) (lacking_to obeys.0 obeys.1 commands more new after obeys.3)
+    before obeys.1 after (said_adds_up old before said given obeys.0 obeys.1 obeys.2) (commands_add_up obeys.0 obeys.1 commands more new after obeys.3)

@@ -1,12 +1,14 @@
 -- What the replies to lines tell that they took, beside what was counted.
-use Rattle.std.specs.Prelude.{ℕ, ◌+◌, ◌≤◌, List, [], ◌∷◌, Option, Some, None, if◌then◌else◌}
+use Rattle.std.specs.Prelude.{ℕ, ◌+◌, ◌≤◌, List, [], ◌∷◌, Option, Some, None, Ok, if◌then◌else◌}
+use Rattle.query_laws.specs.StepLedger.{Counts}
+use Rattle.map_model.specs.Command.{Command}
 use Rattle.map_model.specs.Cost.{Cost, Untold, Updating, Asking}
 use Rattle.map_model.specs.Grammar.{Parsed, parse}
 use Rattle.map_model.specs.Output.{Told}
 use Rattle.map_model.specs.Reply.{is_refusal}
 use Rattle.map_model.specs.State.{State}
 use Rattle.map_session.specs.Answering.{Moment, Runs}
-use Rattle.map_session.specs.Session.{map_in, cost_told}
+use Rattle.map_session.specs.Session.{SessionState, map_in, cost_told, Obeys}
 use Rattle.map_session.specs.Work.{Work, no_work, both, work_said}
 
 -- what a reply tells
@@ -29,10 +31,22 @@ abbrev pub lacking_in : (start : Moment) (script : List (List ℕ)) (now : Momen
 lacking_in start [] now runs = no_work
 lacking_in start (line ∷ lines) now runs = both (work_lacking (map_in start.session) (parse line) runs.1.given.told) (lacking_in runs.0 lines now runs.2)
 
+-- and over commands
+abbrev pub told_to : List Told → Work
+told_to [] = no_work
+told_to (one ∷ more) = both (work_told one.cost) (told_to more)
+
+abbrev pub lacking_to : (old : SessionState) (before : Counts) (commands : List Command) (told : List Told) (new : SessionState) (after : Counts)
+    → Obeys old before commands told new after → Work
+lacking_to old before [] told new after obeys = no_work
+lacking_to old before (command ∷ commands) [] new after obeys = no_work
+lacking_to old before (command ∷ commands) (one ∷ more) new after obeys =
+    both (work_lacking (map_in old) (Ok (Some command)) (Some one)) (lacking_to obeys.0 obeys.1 commands more new after obeys.3)
+
 -- What is told adds up to what was counted, but for what refused memory leaves untold. Only the touches of updates aren't told.
-pub record AddsUp (told lacking : Work) (start now : Moment) : Type 0 where
-  pub turns_counted : start.counts.turns + told.turns ≤ now.counts.turns
-  pub marks_counted : start.counts.marks + told.marks ≤ now.counts.marks
-  pub touches_counted : start.counts.touches + told.touches ≤ now.counts.touches
-  pub turns_told : now.counts.turns ≤ start.counts.turns + told.turns + lacking.turns
-  pub marks_told : now.counts.marks ≤ start.counts.marks + told.marks + lacking.marks
+pub record AddsUp (told lacking : Work) (old new : Counts) : Type 0 where
+  pub turns_counted : old.turns + told.turns ≤ new.turns
+  pub marks_counted : old.marks + told.marks ≤ new.marks
+  pub touches_counted : old.touches + told.touches ≤ new.touches
+  pub turns_told : new.turns ≤ old.turns + told.turns + lacking.turns
+  pub marks_told : new.marks ≤ old.marks + told.marks + lacking.marks

@@ -1,7 +1,8 @@
 -- What a session is, and what a command and a line do to it.
-use Rattle.std.specs.Prelude.{◌≡◌, ℕ, ◌+◌, Bool, List, Option, Some, None, if◌then◌else◌, option_map}
+use Rattle.std.specs.Prelude.{◌≡◌, ℕ, ◌+◌, Bool, List, [], ◌∷◌, Option, Some, None, Ok, if◌then◌else◌, option_map}
 use Rattle.query_laws.specs.StepLedger.{Counts}
 use Rattle.map_model.specs.State.{State}
+use Rattle.map_model.specs.Command.{Command}
 use Rattle.map_model.specs.Index.{one_if}
 use Rattle.map_model.specs.Cost.{Cost, Untold}
 use Rattle.map_model.specs.Reply.{is_refusal}
@@ -53,6 +54,15 @@ pub record Executes (old : SessionState) (before : Counts) (said : Parsed) (give
 -- the same of what a line says
 abbrev pub ExecutesLine : SessionState → Counts → List ℕ → Given → SessionState → Counts → Type 0
 ExecutesLine old before line given new after = Executes old before (parse line) given new after
+
+-- Commands were executed one after another, and each was answered so.
+abbrev pub Obeys : SessionState → Counts → List Command → List Told → SessionState → Counts → Type 0
+Obeys old before [] [] new after = (new ≡ old) × (after ≡ before)
+Obeys old before [] (one ∷ more) new after = ⊥
+Obeys old before (command ∷ commands) [] new after = ⊥
+Obeys old before (command ∷ commands) (one ∷ more) new after =
+    (next : SessionState) × (counts : Counts) × Executes old before (Ok (Some command)) (record { told = Some one; state = map_in next }) next counts
+    × Obeys next counts commands more new after
 
 abbrev pub done_of : Option Told → Done
 done_of None = Silent

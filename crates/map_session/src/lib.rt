@@ -6,11 +6,13 @@
 
 ghost use Rattle.std.specs.Prelude.{ℕ, List};
 ghost use Rattle.std.specs.Io.KnownBytes.{Appends};
-ghost use Rattle.map_model.specs.Output.{Output, Interrupted};
-ghost use Rattle.map_session.specs.Session.{map_in};
+ghost use Rattle.query_laws.specs.StepLedger.{Counts};
+ghost use Rattle.map_model.specs.Command.{Command};
+ghost use Rattle.map_model.specs.Output.{Told, Output, Interrupted};
+ghost use Rattle.map_session.specs.Session.{SessionState, map_in, Obeys};
 ghost use Rattle.map_session.specs.Answering.{Moment, IsAnswered, IsStopped, Runs};
 ghost use Rattle.map_session.specs.Laps.{AreLaps};
-ghost use Rattle.map_session.specs.Ledger.{told_in, lacking_in, AddsUp};
+ghost use Rattle.map_session.specs.Ledger.{told_in, lacking_in, told_to, lacking_to, AddsUp};
 
 mod answering;
 mod executing;
@@ -40,8 +42,11 @@ pub fn laps_are_bounded()
     ensures { (start : Moment) (script : List (List ℕ)) (now : Moment) (runs : Runs start script now) → AreLaps start script now runs }
 {}
 
-/// What the replies to lines tell adds up to what was counted, and where memory was never lacking so do turns and marks exactly.
+/// What the replies to lines, or to commands, tell adds up to what was counted, and where memory was never lacking so do turns and
+/// marks exactly.
 pub fn ledger_adds_up()
-    ensures { (start : Moment) (script : List (List ℕ)) (now : Moment) (runs : Runs start script now)
-        → AddsUp (told_in start script now runs) (lacking_in start script now runs) start now }
+    ensures lines { (start : Moment) (script : List (List ℕ)) (now : Moment) (runs : Runs start script now)
+        → AddsUp (told_in start script now runs) (lacking_in start script now runs) start.counts now.counts }
+    ensures commands { (old : SessionState) (before : Counts) (commands : List Command) (told : List Told) (new : SessionState) (after : Counts)
+        (obeys : Obeys old before commands told new after) → AddsUp (told_to told) (lacking_to old before commands told new after obeys) before after }
 {}
