@@ -11,6 +11,7 @@ use Rattle.program_words.specs.declared.job.Job.TheVariants.{Script, Made}
 use Rattle.program_words.specs.declared.job.WordsFault.{WordsFault}
 use Rattle.program_words.specs.declared.job.WordsFault.TheVariants as faults
 use Rattle.program_words.specs.Words.{AsksFor, Reads}
+use Rattle.live_map.specs.Made.{AnswersMade}
 use Rattle.live_map.specs.declared.run.Status.{Status}
 use Rattle.live_map.specs.declared.run.Status.TheVariants.{Clean, Refusals, Usage, ReadFault, WriteFault, TooLong, NoMemory}
 
@@ -90,9 +91,8 @@ AsksForScript words = (ledger : Bool) × AsksFor words (Script ledger)
 -- What a run did, by what its words ask for.
 abbrev pub RunsBy : Result Job WordsFault → Option (List ℕ) → Option (List ℕ) → SinkTold → Counts → Status → Moment → Type 0
 RunsBy (Ok (Script ledger)) rest rest' told counts status now = AnswersScript rest rest' (moment (new_session ledger) told counts) status now
--- no script is made yet
 RunsBy (Ok (Made seed size)) rest rest' told counts status now =
-    IsIdle rest rest' (moment (new_session false) told counts) now × WritesUsage told now.told status
+    Consumes rest rest' [] × AnswersMade seed size (moment (new_session false) told counts) status now
 RunsBy (Err faults.Usage) rest rest' told counts status now =
     IsIdle rest rest' (moment (new_session false) told counts) now × WritesUsage told now.told status
 RunsBy (Err faults.NoMemory) rest rest' told counts status now =

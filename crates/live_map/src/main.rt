@@ -1,6 +1,7 @@
 //! Livemap: a live map index. It reads a script from its standard input and writes the answer to each line.
 #![tactic(auto)]
 
+mod making;
 mod reading;
 mod run;
 

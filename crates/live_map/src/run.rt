@@ -5,6 +5,7 @@ ghost use Rattle.map_io.specs.Faults.{Rose};
 ghost use Rattle.map_session.specs.Answering.{moment};
 ghost use Rattle.live_map.specs.Run.{script_limit, code_of, AsksForScript, HasRun, RunsBy, WritesUsage};
 
+use crate::making::answer_made;
 use crate::reading::answer_script;
 use map_io::{Sink, Source, WriteFault, write_all};
 use map_session::MapSession;
@@ -120,7 +121,12 @@ fn run_job<S: Source, K: Sink, L: Ledger>(
             let status = answer_script(&mut session, source, sink, steps);
             Ended { status, session }
         }
-        Ok(Job::Made { .. }) | Err(WordsFault::Usage) => {
+        Ok(Job::Made { seed, size }) => {
+            let mut session = MapSession::new(alloc, false);
+            let status = answer_made(&mut session, seed, size, sink, steps);
+            Ended { status, session }
+        }
+        Err(WordsFault::Usage) => {
             let session = MapSession::new(alloc, false);
             let status = refuse_words(sink);
             Ended { status, session }

@@ -1,1 +1,1 @@
-mod Giving
+pub mod Giving

@@ -16,6 +16,7 @@ mod summary;
 mod workload;
 
 pub use generator::Generator;
+pub use maker::layer_name;
 pub use summary::Summary;
 pub use workload::Workload;
 

@@ -45,13 +45,20 @@ impl Model for Maker {
     ghost invariant = { λ maker. (maker.name ≡ made) × (maker.first ≤ maker.next) };
 }
 
+/// The name of the layer of every made script.
+pub fn layer_name() -> Name
+    ensures { result ≡ made.made }
+{
+    Name::read(b"made").unwrap()
+}
+
 impl Maker {
     /// Before the first round.
     pub(crate) fn new(seed: u64) -> Maker
         ensures { result ≡ made.before_all seed }
     {
         Maker {
-            name: Name::read(b"made").unwrap(),
+            name: layer_name(),
             generator: Generator::new(seed),
             first: 0,
             next: 0,
