@@ -35,8 +35,8 @@ module _ (words : List (List ℕ)) where
       ap (λ (kinds : Kinds). is_empty kinds && (is_some (seed_of words) || not (is_some (size_of words)))) fine
       ∙ ap₂ (λ (a b : Option ℕ). is_some a || not (is_some b)) seed_is size_is
 
-  job_is : (seed size : Option ℕ) → seed_of words ≡ seed → size_of words ≡ size → job_for seed size (has_ledger words) ≡ job_of words
-  job_is seed size seed_is size_is = sym (ap₂ (λ (a b : Option ℕ). job_for a b (has_ledger words)) seed_is size_is)
+  job_is : (seed size : Option ℕ) → seed_of words ≡ seed → size_of words ≡ size → job_of words ≡ job_for seed size (has_ledger words)
+  job_is seed size seed_is size_is = ap₂ (λ (a b : Option ℕ). job_for a b (has_ledger words)) seed_is size_is
 
   by_numbers : fault_of livemap_app words ≡ [] → Reads words (job_or_usage (seed_of words) (size_of words) (has_ledger words))
   by_numbers fine = go (seed_of words) (size_of words) refl refl
@@ -74,6 +74,7 @@ module _ (words : List (List ℕ)) where
       go Usage = not_accepted (fault_of livemap_app words) refl e among
       go NoMemory = tt
 
-  pub reads_converted : (e : Error) → HasKind (fault_of livemap_app words) e → (r : Result Job WordsFault) → IsErrAnd r (λ fault. fault ≡ fault_by (kind_of e)) → Reads words r
+  pub reads_converted : (e : Error) → HasKind (fault_of livemap_app words) e → (r : Result Job WordsFault)
+      → IsErrAnd r (λ fault. fault ≡ fault_by (kind_of e)) → Reads words r
   reads_converted e kind (Ok job) is = absurd is
   reads_converted e kind (Err fault) is = subst (λ (f : WordsFault). Reads words (Err f)) (sym is) (reads_error e kind)

@@ -66,8 +66,11 @@ job_for (Some seed) size ledger = Made seed (unwrap_or size usual_size)
 abbrev pub job_of : List (List ℕ) → Job
 job_of words = job_for (seed_of words) (size_of words) (has_ledger words)
 
+abbrev pub AsksFor : List (List ℕ) → Job → Type 0
+AsksFor words job = (accepts words ≡ true) × (job_of words ≡ job)
+
 -- what reading the words may give; memory may always be lacking
 abbrev pub Reads : List (List ℕ) → Result Job WordsFault → Type 0
-Reads words (Ok job) = (accepts words ≡ true) × (job ≡ job_of words)
+Reads words (Ok job) = AsksFor words job
 Reads words (Err Usage) = accepts words ≡ false
 Reads words (Err NoMemory) = ⊤

@@ -15,7 +15,8 @@ returns-in_err-matches c =
     let words = map string_bytes c.args.words.now in
     let is = c.in_ok-command.ensures in
     let kind : HasKind (fault_of livemap_app words) c.in_err-matches.field-0.0 =
-    subst (λ (app : App). HasKind (fault_of app words) c.in_err-matches.field-0.0) is (c.in_err-matches.ensures.kinds (ap is_simple_and_free is ∙ is_free_command)) in
+    subst (λ (app : App). HasKind (fault_of app words) c.in_err-matches.field-0.0) is
+    (c.in_err-matches.ensures.kinds (ap is_simple_and_free is ∙ is_free_command)) in
     reads_converted words c.in_err-matches.field-0.0 kind c.from_residual-in_err-matches.result c.from_residual-in_err-matches.ensures.1
 
 pub job_of-requires : goal.job_of-requires

@@ -1,0 +1,141 @@
+-- Made scripts: the commands that a seed and a size stand for.
+use Rattle.std.specs.Prelude.{◌≡◌, ◌==◌, ℕ, zero, suc, ◌+◌, ◌-◌, ◌*◌, ◌/◌, ◌%◌, ◌^◌, Bool, true, false, not, ◌&&◌, List, [], ◌∷◌, Option, Some, None, codes, if◌then◌else◌}
+use Rattle.map_model.specs.Shape as shapes
+use Rattle.map_model.specs.Answer as questions
+use Rattle.map_model.specs.Command.{Command, MakeLayer, Add, Drop, Ask}
+use Rattle.map_model.specs.Line as lines
+use Rattle.map_questions.specs.Any.{question_of}
+use Rattle.map_questions.specs.declared.any_question.AnyQuestion.{AnyQuestion}
+use Rattle.script_lang.specs.declared.command.Command as script
+use Rattle.script_lang.specs.Command.{command_of}
+
+-- ---- drawn numbers
+
+-- the generator's state after a draw, of 64 bits
+abbrev pub stepped : ℕ → ℕ
+stepped state = (state * 6364136223846793005 + 1442695040888963407) % 2 ^ 64
+
+-- the number that a draw gives, of 32 bits, by the state after it
+abbrev pub upper_half : ℕ → ℕ
+upper_half state = state / 2 ^ 32
+
+-- the same as a coordinate below 2 ^ 20, and as a weight below 2 ^ 10
+abbrev pub coordinate : ℕ → ℕ
+coordinate state = upper_half state / 4096
+
+abbrev pub weight : ℕ → ℕ
+weight state = upper_half state / 4194304
+
+-- ---- a round
+
+-- Between two rounds: the generator's state, and the live identifiers, which are those from `first` on and below `next`.
+pub record Between : Type 0 where
+  pub state : ℕ
+  pub first : ℕ
+  pub next : ℕ
+
+-- a round's command, and what stands after it
+pub record Round : Type 0 where
+  pub command : Command
+  pub after : Between
+
+-- after one draw, two, three
+abbrev pub drawn : Between → Between
+drawn b = record b { state = stepped b.state }
+
+abbrev pub drawn_twice : Between → Between
+drawn_twice b = drawn (drawn b)
+
+abbrev pub drawn_thrice : Between → Between
+drawn_thrice b = drawn (drawn_twice b)
+
+abbrev pub made : List ℕ
+made = codes "made"
+
+abbrev pub has_live : Between → Bool
+has_live b = not (b.first == b.next)
+
+abbrev pub drawn_point : Between → shapes.Shape
+drawn_point b = shapes.Point (coordinate (drawn b).state) (coordinate (drawn_twice b).state) (weight (drawn_thrice b).state)
+
+abbrev pub add_round : Between → Round
+add_round b = record { command = Add made b.next (drawn_point b); after = record (drawn_thrice b) { next = b.next + 1 } }
+
+abbrev pub drop_first : Between → Round
+drop_first b = record { command = Drop made b.first; after = record b { first = b.first + 1 } }
+
+abbrev pub drop_last : Between → Round
+drop_last b = record { command = Drop made (b.next - 1); after = record b { next = b.next - 1 } }
+
+-- 65,536 by 65,536 places, from a corner on
+abbrev pub square_from : ℕ → ℕ → shapes.Rect
+square_from x y = record { x1 = x; y1 = y; x2 = x + 65535; y2 = y + 65535 }
+
+abbrev pub count_round : Between → Round
+count_round b = record {
+  command = Ask made (questions.CountIn (square_from (coordinate (drawn b).state) (coordinate (drawn_twice b).state)));
+  after = drawn_twice b;
+}
+
+abbrev pub near_round : Between → Round
+near_round b = record {
+  command = Ask made (questions.Near (coordinate (drawn b).state) (coordinate (drawn_twice b).state));
+  after = drawn_twice b;
+}
+
+abbrev pub top_round : Between → Round
+top_round b = record {
+  command = Ask made (questions.Top (coordinate (drawn b).state) (coordinate (drawn b).state + 65535));
+  after = drawn b;
+}
+
+-- The round of a number below ten. A round that would drop an item where none is live adds one.
+abbrev pub round_by : ℕ → Between → Round
+round_by number b =
+    if number == 7 then count_round b
+    else if number == 8 then near_round b
+    else if number == 9 then top_round b
+    else if (number == 5) && has_live b then drop_first b
+    else if (number == 6) && has_live b then drop_last b
+    else add_round b
+
+abbrev pub round : Between → Round
+round b = round_by (upper_half (drawn b).state % 10) (drawn b)
+
+-- ---- a script
+
+abbrev pub layer : Command
+layer = MakeLayer made shapes.Points (record { range = true; near = true; top = true; stab = false })
+
+abbrev pub before_all : (seed : ℕ) → Between
+before_all seed = record { state = seed; first = 0; next = 0 }
+
+-- the commands of so many rounds
+abbrev pub rounds_from : ℕ → Between → List Command
+rounds_from zero b = []
+rounds_from (suc n) b = (round b).command ∷ rounds_from n (round b).after
+
+abbrev pub made_script : (seed size : ℕ) → List Command
+made_script seed size = layer ∷ rounds_from size (before_all seed)
+
+-- ---- a script that is given command by command
+
+-- what is to come: with the first command, where it wasn't given
+abbrev pub to_come : (is_begun : Bool) → (rounds : ℕ) → Between → List Command
+to_come false rounds b = layer ∷ rounds_from rounds b
+to_come true rounds b = rounds_from rounds b
+
+-- The first command to come is given, which a line can say, and the others are to come after it; none where there is none.
+abbrev pub GivesCommand : List Command → Option script.Command → List Command → Type 0
+GivesCommand [] None after = after ≡ []
+GivesCommand [] (Some given) after = ⊥
+GivesCommand (command ∷ commands) None after = ⊥
+GivesCommand (command ∷ commands) (Some given) after = (command_of given ≡ command) × lines.IsCommand (command_of given) × (after ≡ commands)
+
+-- ---- a question to the layer
+
+abbrev pub asks : AnyQuestion → Command
+asks question = Ask made (question_of question)
+
+abbrev pub IsQuestion : AnyQuestion → Type 0
+IsQuestion question = lines.IsQuestion (question_of question)
