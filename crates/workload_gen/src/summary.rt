@@ -2,8 +2,7 @@
 ghost use Rattle.std.specs.Prelude.{◌≡◌, ◌<◌, ◌≤◌, ◌+◌, ◌^◌, ◌++◌, length, OnOk, OnErr, option_map};
 ghost use Rattle.map_io.specs.SinkTold.{Delivers, CutOff};
 ghost use Rattle.map_questions.specs.Any.{answer_of};
-ghost use Rattle.map_shapes.specs.Cost.{spent_of, asked_of};
-ghost use Rattle.map_model.specs.Cost as costs;
+ghost use Rattle.map_shapes.specs.Cost.{spent_of};
 ghost use Rattle.workload_gen.specs.Summary as summaries;
 
 use answer_text::Reply;
@@ -11,7 +10,7 @@ use arrayvec::ArrayVec;
 use itoa::Buffer;
 use map_io::{Sink, WriteFault, write_all};
 use map_questions::AnyAnswer;
-use map_shapes::{Asked, Spent};
+use map_shapes::Spent;
 use std::marker::Model;
 
 /// No fewer bytes than a summary's lines.
@@ -20,15 +19,18 @@ const LONGEST: usize = 512;
 /// Lines in place.
 type Text = ArrayVec<u8, LONGEST>;
 
-/// What the commands taken in so far were answered and cost, in eight numbers but that of the live items.
+/// What the commands of a script were answered and cost, in the numbers of the summary but that of the live items.
 #[derive(Drop)]
 pub struct Summary {
     commands: u64,
     refused: u64,
+    /// The answers of `count` together.
     counted: u128,
+    /// The identifiers that `near` and `top` gave together, modulo 2^64.
     ids: u64,
     parts: u64,
     touches: u128,
+    /// Of the accepted update of the most turns, and of several the first.
     largest: Option<Spent>,
 }
 
