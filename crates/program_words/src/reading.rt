@@ -1,5 +1,5 @@
 //! Which job the words ask for.
-ghost use Rattle.std.specs.Prelude.{◌≡◌, IfSome, map, is_some, codes};
+ghost use Rattle.std.specs.Prelude.{◌≡◌, map, codes};
 ghost use Rattle.std.specs.String.{string_bytes};
 ghost use Rattle.program_words.specs.Words.{Reads};
 ghost use Rattle.program_words.specs.Reading.{HasValues, number_in, flag_in, job_or_usage};
@@ -14,7 +14,7 @@ const USUAL_ROUNDS: u32 = 1_000;
 
 /// Reads the words after the program's name: `[--ledger] [--make SEED] [--size N]`, as clap reads them, in any order.
 ///
-/// A size without a seed is refused; with a seed the ledger changes nothing.
+/// A size without a seed is refused; with a seed the ledger changes nothing. `NoMemory` is told where clap finds no memory, whatever the words say.
 pub fn read_words(alloc: Global, words: &[String]) -> Result<Job, WordsFault>
     ensures { Reads (map string_bytes words.now) result }
 {

@@ -3,7 +3,6 @@
 
 mod costs;
 mod failure;
-mod generator;
 mod order;
 mod report;
 mod scanned;
@@ -11,11 +10,11 @@ mod spread;
 
 pub use costs::Costs;
 pub use failure::{Failure, expect_same};
-pub use generator::Generator;
 pub use order::{Order, play};
 pub use report::Report;
 pub use scanned::Scanned;
 pub use spread::Spread;
+pub use workload_gen::Generator;
 
 #[cfg(test)]
 mod tests;

@@ -1,9 +1,9 @@
 //! Questions that are drawn, and what a plain list answers.
-use crate::generator::Generator;
 use crate::spread::Spread;
 use map_shapes::{CountIn, IdList, ListIn, Point, Rect};
 use query_laws::Question;
 use std::alloc::{AllocError, Global};
+use workload_gen::Generator;
 
 /// A question that is drawn, and that a plain list can be scanned for. Its answers are told as numbers.
 pub trait Scanned: Question {

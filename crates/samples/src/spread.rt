@@ -1,8 +1,8 @@
 //! Where seeded items lie.
 ghost use Rattle.std.specs.Prelude.{◌≤◌, ◌<◌, ◌^◌};
 
-use crate::generator::Generator;
 use map_shapes::Rect;
+use workload_gen::Generator;
 
 /// Coordinates are below this, as in made scripts.
 const SIDE: u32 = 1_048_576;

@@ -1,11 +1,6 @@
-//! A number from outside, and what is told of numbers.
-use crate::{Costs, Generator, Report};
+//! What is told of numbers.
+use crate::{Costs, Report};
 use std::test::Fail;
-
-#[test]
-fn draws_as_made_scripts_do(rt: HostRuntime) {
-    assert_eq!(rt; Generator::new(0).draw(), 335_903_614);
-}
 
 #[test]
 fn tells_of_numbers(rt: HostRuntime) -> Result<(), Fail> {
