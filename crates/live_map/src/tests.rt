@@ -3,6 +3,8 @@ ghost use Rattle.std.specs.Prelude.{◌<◌, ◌≤◌, All, IfOk};
 ghost use Rattle.std.specs.List.Sorted.{IsStrictlyIncreasing};
 
 mod ledger;
+mod made;
+mod patterns;
 mod town;
 
 use super::*;
@@ -38,23 +40,41 @@ fn failing_calls(alloc: Global, call: u64) -> Result<Vec<u64>, AllocError>
     Ok(calls)
 }
 
-/// How the run of a script ended, and what was written.
-fn ended_run(
+/// How a run ended, what was written, and how many bytes weren't read.
+struct Ran {
+    ended: Ended,
+    written: Vec<u8>,
+    left: usize,
+}
+
+/// A run by words after the program's name, over a script and a sink with so much room.
+fn run_words(
     alloc: Global,
+    words: &[&str],
     script: &[u8],
     reads: Plan,
     writes: Plan,
-) -> Result<(Ended, Vec<u8>), Fail>
+    room: usize,
+) -> Result<Ran, Fail>
     requires reads { 1 ≤ reads.piece }
     requires writes { 1 ≤ writes.piece }
 {
+    let mut owned = Vec::new(alloc);
+    for word in words {
+        owned.push(String::from_str(alloc, word)?)?;
+    }
     let bytes = Vec::from_slice(alloc, script)?;
-    let space = vec![in alloc; 0u8; 262_144]?;
     let mut source = MemSource::new(bytes, reads.piece, failing_calls(alloc, reads.failing)?);
+    let space = vec![in alloc; 0u8; room]?;
     let mut sink = MemSink::new(space, writes.piece, failing_calls(alloc, writes.failing)?);
-    let ended = run_once::<_, _, Brand>(alloc, &[], &mut source, &mut sink, blank());
+    let ended = run_once::<_, _, Brand>(alloc, &owned, &mut source, &mut sink, blank());
     let written = Vec::from_slice(alloc, sink.written())?;
-    Ok((ended, written))
+    let left = source.left();
+    Ok(Ran {
+        ended,
+        written,
+        left,
+    })
 }
 
 /// What a script is answered, with its status.
@@ -67,8 +87,8 @@ fn run_script(
     requires reads { 1 ≤ reads.piece }
     requires writes { 1 ≤ writes.piece }
 {
-    let (ended, written) = ended_run(alloc, script, reads, writes)?;
-    Ok((ended.status, written))
+    let ran = run_words(alloc, &[], script, reads, writes, 262_144)?;
+    Ok((ran.ended.status, ran.written))
 }
 
 /// Two points at opposite corners, counted and weighed.
@@ -287,19 +307,6 @@ fn full_layers_take_no_more(rt: HostRuntime) -> Result<(), Fail> {
     Ok(())
 }
 
-/// A run with a word, and what it wrote.
-fn run_with_a_word(alloc: Global, space: usize, piece: usize) -> Result<(Status, Vec<u8>), Fail>
-    requires { 1 ≤ piece }
-{
-    let words = [String::from_str(alloc, "x")?];
-    let script = Vec::from_slice(alloc, b"layer a points range\n")?;
-    let mut source = MemSource::new(script, 4096, Vec::new(alloc));
-    let mut sink = MemSink::new(vec![in alloc; 0u8; space]?, piece, Vec::new(alloc));
-    let ended = run_once::<_, _, Brand>(alloc, &words, &mut source, &mut sink, blank());
-    let written = Vec::from_slice(alloc, sink.written())?;
-    Ok((ended.status, written))
-}
-
 #[test]
 fn main_hands_on_words_and_statuses(rt: HostRuntime) -> Result<(), Fail> {
     let alloc = rt.alloc();
@@ -321,22 +328,37 @@ fn main_hands_on_words_and_statuses(rt: HostRuntime) -> Result<(), Fail> {
     Ok(())
 }
 
+const USAGE: &[u8] = b"usage: livemap [--ledger] [--make SEED] [--size N]\n";
+
+/// Words that aren't accepted.
+const REFUSED: [&[&str]; 11] = [
+    &["x"],
+    &[""],
+    &["--make"],
+    &["--size", "5"],
+    &["--make", "-1"],
+    &["--make", "18446744073709551616"],
+    &["--make", "1", "--size", "0"],
+    &["--make", "1", "--size", "65537"],
+    &["--size", "5", "--ledger"],
+    &["--ledger", "--ledger"],
+    &["--help"],
+];
+
 #[test]
 fn words_are_refused(rt: HostRuntime) -> Result<(), Fail> {
-    let alloc = rt.alloc();
-    let usage: &[u8] = b"usage: livemap [--ledger] [--make SEED] [--size N]\n";
-    let (status, written) = run_with_a_word(alloc, 64, 4096)?;
-    assert_eq!(rt; status, Status::Usage);
-    assert_eq!(rt; status.code(), 2);
-    assert_eq!(rt; written.as_slice(), usage);
-    let (status, written) = run_with_a_word(alloc, 64, 1)?;
-    assert_eq!(rt; status, Status::Usage);
-    assert_eq!(rt; written.as_slice(), usage);
+    for words in REFUSED {
+        let ran = run_words(rt.alloc(), words, b"size a\n", WHOLE, WHOLE, 64)?;
+        assert_eq!(rt; ran.ended.status, Status::Usage, "{words:?}");
+        assert_eq!(rt; ran.written.as_slice(), USAGE, "{words:?}");
+        assert_eq!(rt; ran.left, 7, "{words:?}");
+    }
+    assert_eq!(rt; Status::Usage.code(), 2);
 
     // No room for the line: a proper prefix of it is written.
-    let (status, written) = run_with_a_word(alloc, 5, 4096)?;
-    assert_eq!(rt; status, Status::WriteFault);
-    assert_eq!(rt; written.as_slice(), b"usage".as_slice());
+    let ran = run_words(rt.alloc(), &["x"], b"", WHOLE, BYTEWISE, 5)?;
+    assert_eq!(rt; ran.ended.status, Status::WriteFault);
+    assert_eq!(rt; ran.written.as_slice(), b"usage".as_slice());
     Ok(())
 }
 
@@ -496,10 +518,11 @@ fn a_sink_fails_at_each_byte(rt: HostRuntime) -> Result<(), Fail> {
 /// The session of a run has its layers, and counts refused updates too.
 #[test]
 fn a_run_hands_its_session_back(rt: HostRuntime) -> Result<(), Fail> {
-    let (ended, _) = ended_run(rt.alloc(), IDENTIFIERS, WHOLE, WHOLE)?;
-    assert_eq!(rt; ended.session.lines(), 7);
-    assert_eq!(rt; ended.session.refused(), 3);
-    assert_eq!(rt; ended.session.layers().updates(), 3);
+    let ran = run_words(rt.alloc(), &[], IDENTIFIERS, WHOLE, WHOLE, 512)?;
+    let session = &ran.ended.session;
+    assert_eq!(rt; session.lines(), 7);
+    assert_eq!(rt; session.refused(), 3);
+    assert_eq!(rt; session.layers().updates(), 3);
     Ok(())
 }
 
@@ -528,15 +551,17 @@ fn left_at_fault(
     alloc: Global,
     script: &[u8],
     piece: usize,
-    call: u64,
+    failing: u64,
 ) -> Result<(Status, usize), Fail>
     requires { 1 ≤ piece }
 {
-    let mut source = MemSource::new(Vec::from_slice(alloc, script)?, piece, Vec::new(alloc));
-    let space = vec![in alloc; 0u8; 16_384]?;
-    let mut sink = MemSink::new(space, 4096, failing_calls(alloc, call)?);
-    let ended = run_once::<_, _, Brand>(alloc, &[], &mut source, &mut sink, blank());
-    Ok((ended.status, source.left()))
+    let reads = Plan { piece, failing: 0 };
+    let writes = Plan {
+        piece: 4096,
+        failing,
+    };
+    let ran = run_words(alloc, &[], script, reads, writes, 16_384)?;
+    Ok((ran.ended.status, ran.left))
 }
 
 // The first answer comes before the second piece.

@@ -1,4 +1,5 @@
 // Scripts with the ledger: numbers that were worked out by hand, and the ranges in which the others lie.
+use super::patterns::are_answers;
 use super::*;
 
 /// A script, and its answers: `A..B` stands for a number from A to B.
@@ -60,49 +61,28 @@ const STRETCHES: [(&[Stretch], &str); 2] = [
 
 /// A run of a script with `--ledger`, and what it wrote.
 fn run_with_ledger(alloc: Global, script: &str) -> Result<(Status, String), Fail> {
-    let words = [String::from_str(alloc, "--ledger")?];
-    let bytes = Vec::from_slice(alloc, script.as_bytes())?;
-    let mut source = MemSource::new(bytes, 4096, Vec::new(alloc));
-    let mut sink = MemSink::new(vec![in alloc; 0u8; 16_384]?, 4096, Vec::new(alloc));
-    let ended = run_once::<_, _, Brand>(alloc, &words, &mut source, &mut sink, blank());
-    let written = str::from_utf8(sink.written()).unwrap_or("");
-    Ok((ended.status, String::from_str(alloc, written)?))
-}
-
-/// Whether a number, or another word, is as a pattern has it.
-fn is_word(word: &str, pattern: &str) -> bool {
-    let Some((low, high)) = pattern.split_once("..") else {
-        return word == pattern;
-    };
-    match (word.parse::<u64>(), low.parse::<u64>(), high.parse::<u64>()) {
-        (Ok(number), Ok(low), Ok(high)) => low <= number && number <= high,
-        _ => false,
-    }
-}
-
-/// Whether answers are as a pattern has them, word by word.
-fn are_answers(answers: &str, pattern: &str) -> bool {
-    let gaps = [' ', '/', '\n'];
-    answers.split(gaps).count() == pattern.split(gaps).count()
-        && answers
-            .split(gaps)
-            .zip(pattern.split(gaps))
-            .all(|(word, pattern)| is_word(word, pattern))
+    let ran = run_words(
+        alloc,
+        &["--ledger"],
+        script.as_bytes(),
+        WHOLE,
+        WHOLE,
+        16_384,
+    )?;
+    let written = str::from_utf8(&ran.written).unwrap_or("");
+    Ok((ran.ended.status, String::from_str(alloc, written)?))
 }
 
 #[test]
 fn the_ledger_tells_what_lines_cost(rt: HostRuntime) -> Result<(), Fail> {
     for (script, wanted) in ROWS {
         let (_, written) = run_with_ledger(rt.alloc(), script)?;
-        assert!(rt;
-            are_answers(written.as_str().trim_end(), wanted),
-            "{written}"
-        );
+        assert!(rt; are_answers(written.as_str(), wanted), "{written}");
     }
     Ok(())
 }
 
-/// Points that come and go in the order of their numbers, and a count of them; and the answers but for the last.
+/// Points that come and go in the order of their numbers, a count of them, and the answers but for the last.
 fn script_of(alloc: Global, stretches: &[Stretch]) -> Result<(String, String), AllocError> {
     let mut script = String::from_str(alloc, "layer a points range\n")?;
     let mut answers = String::from_str(alloc, "ok\n")?;
@@ -138,10 +118,7 @@ fn bounds_follow_the_live_count(rt: HostRuntime) -> Result<(), Fail> {
         wanted.push_str(counted)?;
         let (status, written) = run_with_ledger(rt.alloc(), script.as_str())?;
         assert_eq!(rt; status, Status::Clean);
-        assert!(rt;
-            are_answers(written.as_str().trim_end(), wanted.as_str()),
-            "{written}"
-        );
+        assert!(rt; are_answers(written.as_str(), wanted.as_str()), "{written}");
     }
     Ok(())
 }

@@ -29,7 +29,7 @@ loop-command-preserved g c =
       commands = omega (arith, ap (λ (s : Summary). s.commands) done.2, was.commands, c.obey.ensures.lines);
       onward = λ told end after obeys.
           let on = was.onward (done.0 ∷ told) end after (subst (λ (l : List Command). Obeys c.loop-command.session c.loop-command.steps l (done.0 ∷ told) end after) (sym coming)
-              (c.obey.new.session, c.obey.new.steps, done.1, obeys)) in
+          (c.obey.new.session, c.obey.new.steps, done.1, obeys)) in
           (on.0, on.1, on.2 ∙ ap (λ (s : Summary). fold told_more s told) (sym done.2));
     }
 
@@ -37,5 +37,5 @@ pub returns : goal.returns
 returns g c =
     let coming = none_to_come c.loop-command.workload c.next.result c.next.new.self (search rules) (search rules) in
     let on = c.loop-command.invariant.onward [] c.loop-command.session c.loop-command.steps
-        (subst (λ (l : List Command). Obeys c.loop-command.session c.loop-command.steps l [] c.loop-command.session c.loop-command.steps) (sym coming) (refl, refl)) in
+    (subst (λ (l : List Command). Obeys c.loop-command.session c.loop-command.steps l [] c.loop-command.session c.loop-command.steps) (sym coming) (refl, refl)) in
     (on.0, on.1, sym on.2)
