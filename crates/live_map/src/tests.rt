@@ -41,6 +41,7 @@ fn failing_calls(alloc: Global, call: u64) -> Result<Vec<u64>, AllocError>
 }
 
 /// How a run ended, what was written, and how many bytes weren't read.
+#[derive(Drop)]
 struct Ran {
     ended: Ended,
     written: Vec<u8>,

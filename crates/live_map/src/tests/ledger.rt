@@ -59,7 +59,7 @@ const STRETCHES: [(&[Stretch], &str); 2] = [
     ),
 ];
 
-/// A run of a script with `--ledger`, and what it wrote.
+/// A run of a script with `--ledger`, and what it wrote but for the last line feed.
 fn run_with_ledger(alloc: Global, script: &str) -> Result<(Status, String), Fail> {
     let ran = run_words(
         alloc,
@@ -70,7 +70,7 @@ fn run_with_ledger(alloc: Global, script: &str) -> Result<(Status, String), Fail
         16_384,
     )?;
     let written = str::from_utf8(&ran.written).unwrap_or("");
-    Ok((ran.ended.status, String::from_str(alloc, written)?))
+    Ok((ran.ended.status, String::from_str(alloc, written.trim_end())?))
 }
 
 #[test]
