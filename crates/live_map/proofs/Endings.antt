@@ -1,5 +1,5 @@
 -- What a run says of its endings.
-use Rattle.std.proofs.Common.{◌≡◌, ℕ, ◌+◌, ◌<◌, ◌≤◌, ◌⊎◌, inl, inr, refl, sym, ◌∙◌, Some, None, Ok, Err, List, ◌++◌, length, Option, ap, arith, length-append}
+use Rattle.std.proofs.Common.{◌≡◌, ℕ, ◌<◌, ◌≤◌, ◌⊎◌, inl, inr, refl, sym, ◌∙◌, Some, None, Ok, Err, List, length, Option, ap, arith, length-append}
 use Rattle.std.specs.Io.KnownBytes.{Consumes, IsAtEnd}
 use Rattle.map_io.specs.Faults.{Rose}
 use Rattle.map_io.specs.SinkTold.{SinkTold}

@@ -1,5 +1,5 @@
 -- What a run takes in, answers and writes.
-use Rattle.std.specs.Prelude.{◌≡◌, ◌≢◌, ℕ, ◌+◌, ◌-◌, ◌<◌, ◌≤◌, List, [], length, take, Option, Result, Ok, Err, Bool, true, false, codes}
+use Rattle.std.specs.Prelude.{◌≡◌, ℕ, ◌+◌, ◌-◌, ◌<◌, ◌≤◌, List, [], length, take, Option, Result, Ok, Err, Bool, false, codes}
 use Rattle.std.specs.Io.KnownBytes.{Consumes, IsAtEnd}
 use Rattle.query_laws.specs.StepLedger.{Counts}
 use Rattle.map_io.specs.SinkTold.{SinkTold, Delivers, CutOff}

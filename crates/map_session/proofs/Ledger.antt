@@ -122,7 +122,7 @@ said_adds_up : (old : SessionState) (before : Counts) (said : Parsed) (given : G
 said_adds_up old before said given new after e =
     let state = map_in old in
     let all = counted_cost (cost_told given.told) (work_said state said) (work_lacking state said given.told) before after e.counted (untold state said given e.answers) in
-    record { turns_counted = all.0; marks_counted = all.1; touches_counted = all.2; turns_told = all.3; marks_told = all.4; }
+    record { turns_counted = all.0; marks_counted = all.1; touches_counted = all.2; turns_told = all.3; marks_told = all.4 }
 
 -- ---- all of them
 

@@ -1,7 +1,7 @@
 -- Answering a text line by line.
-use Rattle.std.proofs.Common.{◌≡◌, ◌==◌, ℕ, suc, ◌+◌, ◌-◌, ◌<◌, ◌≤◌, true, not, nat_eq, Bool, List, [], ◌∷◌, ◌++◌, length, take, drop, get_or, map, arith, refl, sym, ap, ◌∙◌, subst, append_assoc, append-nil, add-zero, length-append, length-take-le, take-append-drop, take_at, le_of_lt, if◌then◌else◌}
+use Rattle.std.proofs.Common.{◌≡◌, ◌==◌, ℕ, suc, ◌+◌, ◌-◌, ◌<◌, ◌≤◌, true, not, nat_eq, Bool, List, [], ◌∷◌, ◌++◌, length, take, drop, get_or, arith, refl, sym, ap, ◌∙◌, subst, append-nil, add-zero, length-append, length-take-le, take-append-drop, take_at, le_of_lt, if◌then◌else◌}
 use Rattle.std.specs.Prelude.{count_by}
-use Rattle.std.proofs.lemmas.List.{drop_more, take_rest, get_or-take, map-append, take-map, get_or-map, length-map, get_or_at, take-append-le, get_or_append_left}
+use Rattle.std.proofs.lemmas.List.{drop_more, take_rest, get_or-take, get_or_at, take-append-le, get_or_append_left}
 use Rattle.std.proofs.lemmas.List.Sums.{sum_by-append, sum_by-cons}
 use Rattle.std.proofs.lemmas.Bool.{eqb-true, and_from, not_from_false, false_from_ne_true}
 use Rattle.std.specs.Io.KnownBytes.{Appends}
@@ -11,7 +11,7 @@ use Rattle.map_io.proofs.SinkLaws.{Delivers-nil}
 use Rattle.map_model.specs.State.{State}
 use Rattle.map_model.specs.Text.{lines, whole_lines, one_line}
 use Rattle.map_model.specs.Grammar.{parse}
-use Rattle.map_model.specs.Output.{Given, Answers, Output, Interrupted, written_for}
+use Rattle.map_model.specs.Output.{Given, Interrupted, written_for}
 use Rattle.map_model.proofs.TextLemmas.{lines_begin_whole}
 use Rattle.map_model.proofs.Outputs.{refusals-push}
 use Rattle.answer_text.specs.Pieces.{DeliversLines, CutOffInPieces}

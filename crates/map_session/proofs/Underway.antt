@@ -1,6 +1,6 @@
 -- Answering a text that comes in pieces.
 use Rattle.std.proofs.Common.{◌≡◌, ℕ, ◌+◌, ◌-◌, ◌≤◌, ◌<◌, ◌⊎◌, inl, inr, true, false, List, [], ◌∷◌, ◌++◌, length, take, nat_le, arith, refl, sym, ap, ◌∙◌, subst, append_assoc, append-nil, length-append, length-take-le, min}
-use Rattle.std.proofs.lemmas.List.{take_all, take-append-le, nil_from_length}
+use Rattle.std.proofs.lemmas.List.{take_all, take-append-le}
 use Rattle.std.proofs.Math.Seq.{take-append-add}
 use Rattle.std.proofs.lemmas.Bool.{cases_Bool}
 use Rattle.std.proofs.lemmas.Bool.Decides.{nat_tests}
@@ -12,7 +12,7 @@ use Rattle.map_model.proofs.TextLemmas.{whole_lines-line, whole_lines-rest, line
 use Rattle.script_lang.specs.Front.{longest_front}
 use Rattle.script_lang.proofs.Fronts.{parse-front}
 use Rattle.map_session.specs.Session.{SessionState, Executes, ExecutesLine}
-use Rattle.map_session.specs.Answering.{Moment, AnswersLine, StopsInLine, IsAnswered, IsStopped, IsStoppedBehind, unended, IsUnderway}
+use Rattle.map_session.specs.Answering.{Moment, AnswersLine, StopsInLine, IsAnswered, IsStoppedBehind, unended, IsUnderway}
 use Rattle.map_session.proofs.Lines.{no_lines, one_more, stopped}
 use Rattle.map_session.proofs.Unended.{one_line-append, unended_is_line, unended_ended, unended_on, whole_lines-more, lines-more}
 

@@ -1,9 +1,9 @@
 -- What comes after the last line feed of a text.
-use Rattle.std.proofs.Common.{◌≡◌, ◌==◌, ℕ, ◌⊎◌, inl, inr, true, false, cond, not, nat_eq, ◌&&◌, Bool, List, [], ◌∷◌, ◌++◌, refl, sym, ap, ◌∙◌, subst, append_assoc, append-nil, if◌then◌else◌}
+use Rattle.std.proofs.Common.{◌≡◌, ◌==◌, ℕ, inl, inr, true, false, cond, not, nat_eq, ◌&&◌, Bool, List, [], ◌∷◌, ◌++◌, refl, sym, ap, ◌∙◌, append_assoc, if◌then◌else◌}
 use Rattle.std.proofs.lemmas.Bool.{cases_Bool, and_parts, and_from, not-true, not_from_true, not_from_false}
 use Rattle.map_model.specs.Text.{lines, whole_lines, onto_first_if_any, one_line}
 use Rattle.std.specs.List.{onto_first}
-use Rattle.map_model.proofs.TextLemmas.{whole_lines-line, whole_lines-rest}
+use Rattle.map_model.proofs.TextLemmas.{whole_lines-rest}
 use Rattle.map_session.specs.Answering.{unended}
 
 -- ---- one line

@@ -1,5 +1,5 @@
 -- Lines of a text that a session answered.
-use Rattle.std.specs.Prelude.{◌≡◌, ◌==◌, ℕ, ◌+◌, ◌<◌, ◌≤◌, ◌++◌, Bool, List, [], ◌∷◌, length, take, map, count_by, slice_index_or, if◌then◌else◌}
+use Rattle.std.specs.Prelude.{◌≡◌, ◌==◌, ℕ, ◌+◌, ◌<◌, ◌≤◌, ◌++◌, Bool, List, [], ◌∷◌, length, take, count_by, slice_index_or, if◌then◌else◌}
 use Rattle.query_laws.specs.StepLedger.{Counts}
 use Rattle.map_io.specs.SinkTold.{SinkTold}
 use Rattle.map_model.specs.Text.{whole_lines, one_line, refusals}

@@ -70,7 +70,10 @@ fn run_with_ledger(alloc: Global, script: &str) -> Result<(Status, String), Fail
         16_384,
     )?;
     let written = str::from_utf8(&ran.written).unwrap_or("");
-    Ok((ran.ended.status, String::from_str(alloc, written.trim_end())?))
+    Ok((
+        ran.ended.status,
+        String::from_str(alloc, written.trim_end())?,
+    ))
 }
 
 #[test]

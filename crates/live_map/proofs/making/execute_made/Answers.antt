@@ -1,4 +1,4 @@
-use Rattle.std.proofs.Common.{rules, ◌≡◌, ◌∙◌, ◌+◌, ℕ, List, [], ◌∷◌, length, fold, refl, sym, ap, subst, arith}
+use Rattle.std.proofs.Common.{rules, ◌≡◌, ◌∙◌, List, [], ◌∷◌, length, fold, refl, sym, ap, subst, arith}
 use Rattle.map_model.specs.Command.{Command}
 use Rattle.map_session.specs.Session.{Obeys}
 use Rattle.script_lang.specs.Command.{command_of}

@@ -1,4 +1,4 @@
-use Rattle.std.proofs.Common.{◌≡◌, ◌+◌, ℕ, List, length, fold}
+use Rattle.std.proofs.Common.{◌≡◌, ◌+◌, List, length, fold}
 use Rattle.query_laws.specs.StepLedger.{Counts}
 use Rattle.map_model.specs.Output.{Told}
 use Rattle.map_session.specs.Session.{SessionState, Obeys}

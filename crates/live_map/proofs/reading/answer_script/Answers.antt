@@ -1,4 +1,4 @@
-use Rattle.std.proofs.Common.{◌≡◌, List, ℕ, [], refl, sym, subst, arith, ◌∙◌}
+use Rattle.std.proofs.Common.{List, ℕ, refl, sym, subst, arith, ◌∙◌}
 use Rattle.map_session.specs.Answering.{Moment, moment}
 use Rattle.live_map.specs.Run.{IsReading}
 use Rattle.live_map.proofs.Underway.{reading_at_first}

@@ -1,4 +1,4 @@
-use Rattle.std.proofs.Common.{◌≡◌, ◌∙◌, List, ℕ, Option, Some, map, sym, subst}
+use Rattle.std.proofs.Common.{List, ℕ, Option, map, subst}
 use Rattle.std.specs.String.{string_bytes}
 use Rattle.map_session.specs.Answering.{Moment, moment}
 use Rattle.live_map.specs.Run.{HasRun}

@@ -1,4 +1,4 @@
-use Rattle.std.proofs.Common.{◌≡◌, List, ℕ, [], sym, subst}
+use Rattle.std.proofs.Common.{List, ℕ, [], sym, subst}
 use Rattle.std.proofs.lemmas.Result.{err_from_is_err_and}
 use Rattle.map_session.specs.Answering.{Moment, moment, IsUnderway}
 use Rattle.map_session.proofs.Lines.{stopped_behind_in_text}

@@ -1,4 +1,4 @@
-use Rattle.std.proofs.Common.{rules, ◌≡◌, true, false, length, refl, sym, arith}
+use Rattle.std.proofs.Common.{true, false, refl}
 use Rattle.map_model.specs.Command.{Add, Drop, Ask}
 use Rattle.map_model.specs.Shape as model
 use Rattle.map_questions.specs.Any.{question_of}

@@ -1,4 +1,4 @@
-use Rattle.std.proofs.Common.{rules, ◌≡◌, ◌≤◌, List, ℕ, ◌++◌, take, length, ap, ◌∙◌, sym, arith}
+use Rattle.std.proofs.Common.{rules, List, ℕ, ◌++◌, take, ap, ◌∙◌, arith}
 use Rattle.script_lang.specs.Front.{longest_front}
 use Rattle.map_session.proofs.Underway.{filled_front}
 use Rattle.map_session.proofs.line_start.LineStart.push.Goals as goal

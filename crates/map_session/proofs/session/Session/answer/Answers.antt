@@ -1,4 +1,4 @@
-use Rattle.std.proofs.Common.{rules, arith, sym, ap, ◌∙◌, subst, refl, ◌≡◌, Ok, Some, option_map}
+use Rattle.std.proofs.Common.{rules, sym, ap, ◌∙◌, subst, refl, ◌≡◌, Ok, Some, option_map}
 use Rattle.map_model.specs.Grammar.{Parsed, parse}
 use Rattle.map_model.proofs.LawfulCommands.{IsCommand-parsed}
 use Rattle.script_lang.specs.Command.{command_of}

@@ -1,4 +1,4 @@
-use Rattle.std.proofs.Common.{rules, ◌≡◌, ◌+◌, ◌≤◌, ◌∙◌, Bool, true, false, Ok, Some, refl, ap, sym, subst, arith}
+use Rattle.std.proofs.Common.{◌≡◌, ◌≤◌, ◌∙◌, Bool, true, false, Ok, Some, refl, ap, subst, arith}
 use mir.Val.{bool_byte}
 use Rattle.map_model.specs.Index.{one_if}
 use Rattle.map_model.specs.Reply.{is_refusal}
