@@ -5,8 +5,11 @@ use crate::bench::Bench;
 use crate::trial::Trial;
 use crate::tried::Tried;
 use builder_trait::{Rows, RowsBuilder};
-use map_shapes::{CountIn, ListIn, Point};
-use query_laws::Item;
+use interval_stab::StabRows;
+use kd_nearest::KdRows;
+use map_questions::{Above, Near, NearK, Stab, StabCount, Top};
+use map_shapes::{CountIn, ListIn, Point, Segment};
+use priority_search::TopRows;
 use range_tree::RangeRows;
 use samples::{Failure, Generator, Spread};
 use std::sync::ledger::Ledger;
@@ -14,7 +17,10 @@ use std::time::Clock;
 
 /// A kind of part, by its rows: of seeded items, with the questions that it answers.
 pub trait Kind: Rows {
-    /// The next drawn item.
+    /// The word of its index.
+    const WORD: &'static str;
+
+    /// The next drawn item, with an identifier that belongs to the stamp.
     fn drawn(generator: &mut Generator, spread: Spread, stamp: u64) -> Self::Item;
 
     /// Asks each question of the kind.
@@ -25,11 +31,10 @@ pub trait Kind: Rows {
 }
 
 impl Kind for RangeRows {
-    /// Three draws, for x, y and the weight. The identifier is the stamp.
+    const WORD: &'static str = "range";
+
     fn drawn(generator: &mut Generator, spread: Spread, stamp: u64) -> Point {
-        let (x, y) = spread.place(generator);
-        let (id, w) = (stamp, generator.below(1024));
-        Point { id, x, y, w, stamp }
+        spread.point(generator, stamp)
     }
 
     fn ask_each<T: Tried<RowsBuilder<RangeRows>>, R: Clock, L: Ledger>(
@@ -38,5 +43,53 @@ impl Kind for RangeRows {
     ) -> Result<(), Failure> {
         trial.ask::<CountIn, R, L>(bench)?;
         trial.ask::<ListIn, R, L>(bench)
+    }
+}
+
+impl Kind for KdRows {
+    const WORD: &'static str = "near";
+
+    fn drawn(generator: &mut Generator, spread: Spread, stamp: u64) -> Point {
+        spread.point(generator, stamp)
+    }
+
+    fn ask_each<T: Tried<RowsBuilder<KdRows>>, R: Clock, L: Ledger>(
+        trial: &mut Trial<RowsBuilder<KdRows>, T>,
+        bench: &mut Bench<R, L>,
+    ) -> Result<(), Failure> {
+        trial.ask::<Near, R, L>(bench)?;
+        trial.ask::<NearK, R, L>(bench)
+    }
+}
+
+impl Kind for TopRows {
+    const WORD: &'static str = "top";
+
+    fn drawn(generator: &mut Generator, spread: Spread, stamp: u64) -> Point {
+        spread.point(generator, stamp)
+    }
+
+    fn ask_each<T: Tried<RowsBuilder<TopRows>>, R: Clock, L: Ledger>(
+        trial: &mut Trial<RowsBuilder<TopRows>, T>,
+        bench: &mut Bench<R, L>,
+    ) -> Result<(), Failure> {
+        trial.ask::<Top, R, L>(bench)?;
+        trial.ask::<Above, R, L>(bench)
+    }
+}
+
+impl Kind for StabRows {
+    const WORD: &'static str = "stab";
+
+    fn drawn(generator: &mut Generator, spread: Spread, stamp: u64) -> Segment {
+        spread.segment(generator, stamp)
+    }
+
+    fn ask_each<T: Tried<RowsBuilder<StabRows>>, R: Clock, L: Ledger>(
+        trial: &mut Trial<RowsBuilder<StabRows>, T>,
+        bench: &mut Bench<R, L>,
+    ) -> Result<(), Failure> {
+        trial.ask::<Stab, R, L>(bench)?;
+        trial.ask::<StabCount, R, L>(bench)
     }
 }

@@ -25,6 +25,16 @@ pub struct Plan {
 }
 
 impl Plan {
+    /// Of measures.
+    pub fn measured(seed: u64, size: usize, spread: Spread) -> Plan {
+        Plan {
+            seed,
+            spread,
+            size,
+            is_compared: false,
+        }
+    }
+
     /// Of comparisons, with items that lie densely.
     pub fn compared(seed: u64, size: usize) -> Plan {
         Plan {
