@@ -27,7 +27,7 @@ use trials::{
 const DIFFERS: u8 = 3;
 
 /// How many lines made scripts have.
-const MADE_LINES: u32 = 4_000;
+const MADE_LINES: u32 = 2_000;
 
 fn main(rt: HostRuntime) -> anyhow::Result<ExitCode> {
     let alloc = rt.alloc();

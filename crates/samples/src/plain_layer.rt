@@ -14,20 +14,31 @@ pub const STAMPS: u32 = 256;
 /// The most items that a line asks to recall.
 const RECALLED: u32 = 64;
 
-/// A line of a script, and its answer, each with its line feed.
+/// Lines of a script, and their answers, each with its line feed.
 #[derive(Drop)]
 pub struct Exchange {
-    pub line: String,
-    pub answer: String,
+    pub lines: String,
+    pub answers: String,
 }
 
 impl Exchange {
     /// Nothing yet.
     pub fn new(alloc: Global) -> Exchange {
         Exchange {
-            line: String::new(alloc),
-            answer: String::new(alloc),
+            lines: String::new(alloc),
+            answers: String::new(alloc),
         }
+    }
+
+    /// The bytes of the lines and of the answers.
+    pub fn as_bytes(&self) -> (&[u8], &[u8]) {
+        (self.lines.as_bytes(), self.answers.as_bytes())
+    }
+
+    /// Puts others behind them.
+    pub fn append(&mut self, others: &Exchange) -> Result<(), AllocError> {
+        self.lines.push_str(others.lines.as_str())?;
+        self.answers.push_str(others.answers.as_str())
     }
 }
 
@@ -47,22 +58,22 @@ impl<I: Shaped> PlainLayer<I> {
 
     /// The line that makes the layer, by its kind and indexes. It is answered `ok`.
     pub fn make(&self, words: &str, said: &mut Exchange) -> Result<(), AllocError> {
-        writeln!(said.line, "layer {} {words}", self.name)?;
-        said.answer.push_str("ok\n")
+        writeln!(said.lines, "layer {} {words}", self.name)?;
+        said.answers.push_str("ok\n")
     }
 
     /// The line that adds an item, unless its identifier is there.
     pub fn add(&mut self, item: I, said: &mut Exchange) -> Result<(), AllocError> {
         let (name, id) = (self.name, item.id());
         match item.shape() {
-            Shape::Point { x, y, w } => writeln!(said.line, "add {name} {id} {x} {y} {w}")?,
-            Shape::Segment { lo, hi, y } => writeln!(said.line, "seg {name} {id} {lo} {hi} {y}")?,
+            Shape::Point { x, y, w } => writeln!(said.lines, "add {name} {id} {x} {y} {w}")?,
+            Shape::Segment { lo, hi, y } => writeln!(said.lines, "seg {name} {id} {lo} {hi} {y}")?,
         }
         if self.items.iter().any(|other| other.id() == id) {
-            return writeln!(said.answer, "no duplicate {id}");
+            return writeln!(said.answers, "no duplicate {id}");
         }
         self.items.push(item)?;
-        said.answer.push_str("ok\n")
+        said.answers.push_str("ok\n")
     }
 
     /// The line of a drawn question.
@@ -73,10 +84,10 @@ impl<I: Shaped> PlainLayer<I> {
     ) -> Result<(), AllocError> {
         let alloc = *self.items.allocator();
         let question = Q::drawn(generator, SPREAD);
-        write!(said.line, "{} {}", Q::WORD, self.name)?;
-        push_numbers(&mut said.line, &question.arguments(alloc)?)?;
+        write!(said.lines, "{} {}", Q::WORD, self.name)?;
+        push_numbers(&mut said.lines, &question.arguments(alloc)?)?;
         let numbers = question.scan(alloc, &self.items)?;
-        push_answer(&mut said.answer, Q::WORD, &numbers)
+        push_answer(&mut said.answers, Q::WORD, &numbers)
     }
 
     /// A drawn line that any layer may get: of 16, ten drop, three get, two recall, and one asks for the size.
@@ -95,35 +106,35 @@ impl<I: Shaped> PlainLayer<I> {
     }
 
     fn drop(&mut self, id: u64, said: &mut Exchange) -> Result<(), AllocError> {
-        writeln!(said.line, "drop {} {id}", self.name)?;
+        writeln!(said.lines, "drop {} {id}", self.name)?;
         let before = self.items.len();
         self.items.retain(|item| item.id() != id);
         if self.items.len() == before {
-            return writeln!(said.answer, "no unknown {id}");
+            return writeln!(said.answers, "no unknown {id}");
         }
-        said.answer.push_str("ok\n")
+        said.answers.push_str("ok\n")
     }
 
     fn get(&self, id: u64, said: &mut Exchange) -> Result<(), AllocError> {
-        writeln!(said.line, "get {} {id}", self.name)?;
+        writeln!(said.lines, "get {} {id}", self.name)?;
         let found = self.items.iter().find(|item| item.id() == id);
         match found.map(|item| item.shape()) {
-            Some(Shape::Point { x, y, w }) => writeln!(said.answer, "get {x} {y} {w}"),
-            Some(Shape::Segment { lo, hi, y }) => writeln!(said.answer, "get {lo} {hi} {y}"),
-            None => writeln!(said.answer, "no unknown {id}"),
+            Some(Shape::Point { x, y, w }) => writeln!(said.answers, "get {x} {y} {w}"),
+            Some(Shape::Segment { lo, hi, y }) => writeln!(said.answers, "get {lo} {hi} {y}"),
+            None => writeln!(said.answers, "no unknown {id}"),
         }
     }
 
     fn recent(&self, k: usize, said: &mut Exchange) -> Result<(), AllocError> {
-        writeln!(said.line, "recent {} {k}", self.name)?;
+        writeln!(said.lines, "recent {} {k}", self.name)?;
         let last = self.items.iter().rev().take(k);
         let ids: Vec<u64> = last.map(|item| item.id()).collect(*self.items.allocator())?;
-        push_answer(&mut said.answer, "recent", &ids)
+        push_answer(&mut said.answers, "recent", &ids)
     }
 
     fn size(&self, said: &mut Exchange) -> Result<(), AllocError> {
-        writeln!(said.line, "size {}", self.name)?;
-        writeln!(said.answer, "size {}", self.items.len())
+        writeln!(said.lines, "size {}", self.name)?;
+        writeln!(said.answers, "size {}", self.items.len())
     }
 }
 

@@ -1,6 +1,6 @@
 //! Example scripts beside the answers that are expected.
 use crate::bench::Bench;
-use crate::reading::check_text;
+use crate::reading::check_pieces;
 use samples::Failure;
 use std::fs;
 use std::rt::Files;
@@ -36,5 +36,5 @@ fn check_example<R: Clock + Files + AllocGlobal, L: Ledger>(
     let script = fs::read(bench.rt, path.as_str())?;
     let path = format!(in alloc; "{folder}/{name}.out")?;
     let wanted = fs::read(bench.rt, path.as_str())?;
-    check_text(alloc, name, &script, &wanted, &mut bench.steps)
+    check_pieces(alloc, name, (&script, &wanted), &mut bench.steps)
 }

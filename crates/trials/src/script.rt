@@ -6,7 +6,6 @@ use map_io::{Failed, Sink};
 use map_session::{LineStart, MapSession};
 use samples::{Costs, Failure};
 use script_lang::split_word;
-use std::alloc::{AllocError, Global};
 use std::fs;
 use std::io::Read;
 use std::rt::Files;
@@ -50,7 +49,13 @@ pub fn measure_script<R: Clock + Files, L: Ledger>(
     path: &str,
 ) -> Result<(), Failure> {
     let mut file = fs::open(bench.rt, path)?;
-    let mut run = ScriptRun::new(bench.alloc)?;
+    let alloc = bench.alloc;
+    let words = WORDS.split_ascii_whitespace();
+    let mut run = ScriptRun {
+        session: MapSession::new(alloc, false),
+        begun: LineStart::new(),
+        table: words.map(|word| (word, Costs::new(alloc))).collect(alloc)?,
+    };
     let mut room = [0u8; PIECE];
     for _ in 0..u64::MAX {
         let given = file.read(&mut room)?;
@@ -69,15 +74,6 @@ pub fn measure_script<R: Clock + Files, L: Ledger>(
 }
 
 impl ScriptRun {
-    fn new(alloc: Global) -> Result<ScriptRun, AllocError> {
-        let words = WORDS.split_ascii_whitespace();
-        Ok(ScriptRun {
-            session: MapSession::new(alloc, false),
-            begun: LineStart::new(),
-            table: words.map(|word| (word, Costs::new(alloc))).collect(alloc)?,
-        })
-    }
-
     /// Takes the next bytes of the script, and runs the lines that end in them.
     fn take<R: Clock, L: Ledger>(
         &mut self,
@@ -103,25 +99,14 @@ impl ScriptRun {
         let begun = bench.begin()?;
         self.session.line(line, &mut NullSink, &mut bench.steps)?;
         if let Some((first, _)) = split_word(line) {
-            take_in(bench, begun, first, &mut self.table)?;
+            let is_update = matches!(first, b"add" | b"seg" | b"drop");
+            for (word, costs) in &mut self.table {
+                if word.as_bytes() == first || (is_update && *word == "update") {
+                    bench.take_in(begun, costs)?;
+                }
+            }
         }
         self.begun.clear();
         Ok(())
     }
-}
-
-/// Takes in what a line with this word cost.
-fn take_in<R: Clock, L: Ledger>(
-    bench: &Bench<R, L>,
-    begun: Option<Instant>,
-    first: &[u8],
-    table: &mut [(&str, Costs)],
-) -> Result<(), Failure> {
-    let is_update = matches!(first, b"add" | b"seg" | b"drop");
-    for (word, costs) in table {
-        if word.as_bytes() == first || (is_update && *word == "update") {
-            bench.take_in(begun, costs)?;
-        }
-    }
-    Ok(())
 }

@@ -13,6 +13,9 @@ use std::mem;
 use std::sync::ledger::Ledger;
 use std::time::Clock;
 
+/// The most updates after the first inserts where answers are compared.
+const COMPARED_UPDATES: usize = 128;
+
 /// How something is tried.
 #[derive(Clone, Copy)]
 pub struct Plan {
@@ -186,7 +189,7 @@ impl<K: Kind, T: Tried<RowsBuilder<K>>> Trial<RowsBuilder<K>, T> {
     /// Makes the updates, and asks each question, after each tenth update too where answers are compared.
     pub fn update<R: Clock, L: Ledger>(&mut self, bench: &mut Bench<R, L>) -> Result<(), Failure> {
         let updates = match self.plan.is_compared {
-            true => self.plan.size.saturating_mul(6),
+            true => self.plan.size.saturating_mul(6).min(COMPARED_UPDATES),
             false => self.plan.size.saturating_mul(3).min(T::UPDATES),
         };
         for number in 0..updates {
