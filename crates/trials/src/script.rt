@@ -48,7 +48,6 @@ pub fn measure_script<R: Clock + Files, L: Ledger>(
     bench: &mut Bench<R, L>,
     path: &str,
 ) -> Result<(), Failure> {
-    let mut file = fs::open(bench.rt, path)?;
     let alloc = bench.alloc;
     let words = WORDS.split_ascii_whitespace();
     let mut run = ScriptRun {
@@ -56,17 +55,7 @@ pub fn measure_script<R: Clock + Files, L: Ledger>(
         begun: LineStart::new(),
         table: words.map(|word| (word, Costs::new(alloc))).collect(alloc)?,
     };
-    let mut room = [0u8; PIECE];
-    for _ in 0..u64::MAX {
-        let given = file.read(&mut room)?;
-        if given == 0 {
-            break;
-        }
-        run.take(&room[..given], bench)?;
-    }
-    if !run.begun.is_empty() {
-        run.end_line(bench)?;
-    }
+    run.read(&mut fs::open(bench.rt, path)?, bench)?;
     for (word, costs) in &run.table {
         costs.tell(word, &mut bench.report)?;
     }
@@ -74,6 +63,26 @@ pub fn measure_script<R: Clock + Files, L: Ledger>(
 }
 
 impl ScriptRun {
+    /// Reads a script up to its end, and runs its lines.
+    fn read<F: Read, R: Clock, L: Ledger>(
+        &mut self,
+        file: &mut F,
+        bench: &mut Bench<R, L>,
+    ) -> Result<(), Failure> {
+        let mut room = [0u8; PIECE];
+        for _ in 0..u64::MAX {
+            let given = file.read(&mut room)?;
+            if given == 0 {
+                break;
+            }
+            self.take(&room[..given], bench)?;
+        }
+        if !self.begun.is_empty() {
+            self.end_line(bench)?;
+        }
+        Ok(())
+    }
+
     /// Takes the next bytes of the script, and runs the lines that end in them.
     fn take<R: Clock, L: Ledger>(
         &mut self,

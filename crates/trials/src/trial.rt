@@ -183,7 +183,7 @@ impl<K: Kind, T: Tried<RowsBuilder<K>>> Trial<RowsBuilder<K>, T> {
         }
         bench.take_in(begun, &mut self.costs)?;
         self.tell_costs("settle", bench)?;
-        K::ask_each(self, bench)
+        self.ask_each(bench)
     }
 
     /// Makes the updates, and asks each question, after each tenth update too where answers are compared.
@@ -196,11 +196,17 @@ impl<K: Kind, T: Tried<RowsBuilder<K>>> Trial<RowsBuilder<K>, T> {
             let change = self.drawn_change(T::DELETES);
             self.change(change, bench)?;
             if self.plan.is_compared && number % 10 == 0 {
-                K::ask_each(self, bench)?;
+                self.ask_each(bench)?;
             }
         }
         self.tell_costs("update", bench)?;
-        K::ask_each(self, bench)
+        self.ask_each(bench)
+    }
+
+    /// Asks each question of the kind.
+    fn ask_each<R: Clock, L: Ledger>(&mut self, bench: &mut Bench<R, L>) -> Result<(), Failure> {
+        self.ask::<K::First, R, L>(bench)?;
+        self.ask::<K::Second, R, L>(bench)
     }
 
     /// The next change, of eight of which so many are deletes on average: where an even number of items is compared, of the one at the
@@ -231,7 +237,7 @@ impl<K: Kind, T: Tried<RowsBuilder<K>>> Trial<RowsBuilder<K>, T> {
         if matches!(done, Err(Failure::NoMemory(_))) {
             bench.refused = bench.refused.wrapping_add(1);
             self.compare(bench.alloc)?;
-            K::ask_each(self, bench)?;
+            self.ask_each(bench)?;
             done = self.make(change, &mut bench.steps);
         }
         done?;
