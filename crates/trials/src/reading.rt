@@ -1,4 +1,6 @@
 //! Texts that sessions answer, at once and in pieces.
+ghost use Rattle.std.specs.Prelude.{◌<◌};
+
 use map_io::{MemSink, Sink};
 use map_session::{LineStart, MapSession, answer_begun, answer_lines, answer_piece};
 use query_laws::NoMemory;
