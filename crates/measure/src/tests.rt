@@ -1,7 +1,7 @@
 //! Words of the command line, and what the program ends with.
 mod differences;
 
-use crate::words::{Job, Work, command, job_of};
+use crate::words::{Job, KindName, Work, command, job_of};
 use crate::{DIFFERS, exit_code};
 use samples::{Failure, Spread};
 use std::process::ExitCode;
@@ -13,7 +13,11 @@ fn reads_words(rt: HostRuntime) -> Result<(), Fail> {
     for (words, work) in [
         (
             "measure part --spread row",
-            Work::Layer(Layer::Part, Spread::Row),
+            Work::Layer(Layer::Part, KindName::Range, Spread::Row),
+        ),
+        (
+            "measure index --kind stab --spread spanning",
+            Work::Layer(Layer::Index, KindName::Stab, Spread::Spanning),
         ),
         ("measure text", Work::Text),
         ("measure script a.livemap", Work::Script("a.livemap")),

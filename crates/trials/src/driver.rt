@@ -9,7 +9,7 @@ use crate::stacked::Stacked;
 use crate::trial::{Plan, Trial};
 use crate::tried::Tried;
 use builder_trait::RowsBuilder;
-use samples::{Failure, Spread};
+use samples::Failure;
 use std::fs;
 use std::rt::Files;
 use std::sync::ledger::Ledger;
@@ -26,20 +26,12 @@ pub enum Layer {
     Index,
 }
 
-/// Measures a layer over so many items of a kind.
+/// Measures a layer of a kind by a plan.
 pub fn measure_layer<K: Kind, R: Clock + Files + AllocGlobal, L: Ledger>(
     bench: &mut Bench<R, L>,
     layer: Layer,
-    seed: u64,
-    size: usize,
-    spread: Spread,
+    plan: Plan,
 ) -> Result<(), Failure> {
-    let plan = Plan {
-        seed,
-        spread,
-        size,
-        is_compared: false,
-    };
     match layer {
         Layer::Part => run_trial::<K, Marked<RowsBuilder<K>>, R, L>(bench, plan),
         Layer::Stack => run_trial::<K, Stacked<RowsBuilder<K>>, R, L>(bench, plan),
@@ -100,5 +92,6 @@ fn check_sizes<K: Kind, T: Tried<RowsBuilder<K>>, R: Clock + Files + AllocGlobal
             run_trial::<K, T, R, L>(bench, Plan::compared(seed, size))?;
         }
     }
-    Ok(bench.tell_seen(T::WORD)?)
+    let words = format!(in bench.alloc; "{} {}", K::WORD, T::WORD)?;
+    Ok(bench.tell_seen(words.as_str())?)
 }

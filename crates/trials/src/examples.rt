@@ -1,14 +1,13 @@
 //! Example scripts beside the answers that are expected.
 use crate::bench::Bench;
-use map_io::MemSink;
-use map_session::{MapSession, answer_lines};
-use samples::{Failure, expect_same};
+use crate::reading::check_pieces;
+use samples::Failure;
 use std::fs;
 use std::rt::Files;
 use std::sync::ledger::Ledger;
 use std::time::Clock;
 
-/// Runs each script `NAME.livemap` of a folder by a session of its own, and compares its answers with the file `NAME.out`.
+/// Runs each script `NAME.livemap` of a folder by sessions of its own, at once and in pieces, and compares the answers with the file `NAME.out`.
 ///
 /// Tells how many there are. `Differs` where the answers aren't those of the file.
 pub fn check_examples<R: Clock + Files + AllocGlobal + Clone + Drop, L: Ledger>(
@@ -37,13 +36,5 @@ fn check_example<R: Clock + Files + AllocGlobal, L: Ledger>(
     let script = fs::read(bench.rt, path.as_str())?;
     let path = format!(in alloc; "{folder}/{name}.out")?;
     let wanted = fs::read(bench.rt, path.as_str())?;
-    if script.len() >= 1 << 40 {
-        return Err(Failure::Unfit);
-    }
-    let space = vec![in alloc; 0u8; wanted.len()]?;
-    let mut sink = MemSink::new(space, usize::MAX, Vec::new(alloc));
-    let mut session = MapSession::new(alloc, false);
-    let done = answer_lines(&mut session, &script, &mut sink, &mut bench.steps);
-    let is_same = done.is_ok() && sink.written() == wanted.as_slice();
-    expect_same(alloc, name, &[u64::from(is_same)], &[1])
+    check_pieces(alloc, name, (&script, &wanted), &mut bench.steps)
 }

@@ -1,42 +1,71 @@
 //! The kinds of parts that are tried.
-ghost use Rattle.std.specs.Prelude.{◌≡◌};
-
-use crate::bench::Bench;
-use crate::trial::Trial;
-use crate::tried::Tried;
-use builder_trait::{Rows, RowsBuilder};
-use map_shapes::{CountIn, ListIn, Point};
-use query_laws::Item;
+use builder_trait::{AnsweringRows, Rows};
+use interval_stab::StabRows;
+use kd_nearest::KdRows;
+use map_questions::{Above, Near, NearK, Stab, StabCount, Top};
+use map_shapes::{CountIn, ListIn, Point, Segment};
+use priority_search::TopRows;
+use query_laws::Question;
 use range_tree::RangeRows;
-use samples::{Failure, Generator, Spread};
-use std::sync::ledger::Ledger;
-use std::time::Clock;
+use samples::{Generator, Scanned, Spread};
 
-/// A kind of part, by its rows: of seeded items, with the questions that it answers.
-pub trait Kind: Rows {
-    /// The next drawn item.
+/// A kind of part, by its rows: of seeded items, with two questions that it answers.
+pub trait Kind: Rows + AnsweringRows<Self::First> + AnsweringRows<Self::Second> {
+    /// The word of its index.
+    const WORD: &'static str;
+
+    type First: Question<Item = Self::Item> + Scanned;
+
+    type Second: Question<Item = Self::Item> + Scanned;
+
+    /// The next drawn item, with an identifier that belongs to the stamp.
     fn drawn(generator: &mut Generator, spread: Spread, stamp: u64) -> Self::Item;
-
-    /// Asks each question of the kind.
-    fn ask_each<T: Tried<RowsBuilder<Self>>, R: Clock, L: Ledger>(
-        trial: &mut Trial<RowsBuilder<Self>, T>,
-        bench: &mut Bench<R, L>,
-    ) -> Result<(), Failure>;
 }
 
 impl Kind for RangeRows {
-    /// Three draws, for x, y and the weight. The identifier is the stamp.
-    fn drawn(generator: &mut Generator, spread: Spread, stamp: u64) -> Point {
-        let (x, y) = spread.place(generator);
-        let (id, w) = (stamp, generator.below(1024));
-        Point { id, x, y, w, stamp }
-    }
+    const WORD: &'static str = "range";
 
-    fn ask_each<T: Tried<RowsBuilder<RangeRows>>, R: Clock, L: Ledger>(
-        trial: &mut Trial<RowsBuilder<RangeRows>, T>,
-        bench: &mut Bench<R, L>,
-    ) -> Result<(), Failure> {
-        trial.ask::<CountIn, R, L>(bench)?;
-        trial.ask::<ListIn, R, L>(bench)
+    type First = CountIn;
+
+    type Second = ListIn;
+
+    fn drawn(generator: &mut Generator, spread: Spread, stamp: u64) -> Point {
+        spread.point(generator, stamp)
+    }
+}
+
+impl Kind for KdRows {
+    const WORD: &'static str = "near";
+
+    type First = Near;
+
+    type Second = NearK;
+
+    fn drawn(generator: &mut Generator, spread: Spread, stamp: u64) -> Point {
+        spread.point(generator, stamp)
+    }
+}
+
+impl Kind for TopRows {
+    const WORD: &'static str = "top";
+
+    type First = Top;
+
+    type Second = Above;
+
+    fn drawn(generator: &mut Generator, spread: Spread, stamp: u64) -> Point {
+        spread.point(generator, stamp)
+    }
+}
+
+impl Kind for StabRows {
+    const WORD: &'static str = "stab";
+
+    type First = Stab;
+
+    type Second = StabCount;
+
+    fn drawn(generator: &mut Generator, spread: Spread, stamp: u64) -> Segment {
+        spread.segment(generator, stamp)
     }
 }

@@ -9,6 +9,7 @@ mod indexed;
 mod kind;
 mod made;
 mod marked;
+mod reading;
 mod script;
 mod stacked;
 mod text;

@@ -13,6 +13,9 @@ use std::mem;
 use std::sync::ledger::Ledger;
 use std::time::Clock;
 
+/// The most updates after the first inserts where answers are compared.
+const COMPARED_UPDATES: usize = 128;
+
 /// How something is tried.
 #[derive(Clone, Copy)]
 pub struct Plan {
@@ -25,6 +28,16 @@ pub struct Plan {
 }
 
 impl Plan {
+    /// Of measures.
+    pub fn measured(seed: u64, size: usize, spread: Spread) -> Plan {
+        Plan {
+            seed,
+            spread,
+            size,
+            is_compared: false,
+        }
+    }
+
     /// Of comparisons, with items that lie densely.
     pub fn compared(seed: u64, size: usize) -> Plan {
         Plan {
@@ -170,24 +183,30 @@ impl<K: Kind, T: Tried<RowsBuilder<K>>> Trial<RowsBuilder<K>, T> {
         }
         bench.take_in(begun, &mut self.costs)?;
         self.tell_costs("settle", bench)?;
-        K::ask_each(self, bench)
+        self.ask_each(bench)
     }
 
     /// Makes the updates, and asks each question, after each tenth update too where answers are compared.
     pub fn update<R: Clock, L: Ledger>(&mut self, bench: &mut Bench<R, L>) -> Result<(), Failure> {
         let updates = match self.plan.is_compared {
-            true => self.plan.size.saturating_mul(6),
+            true => self.plan.size.saturating_mul(6).min(COMPARED_UPDATES),
             false => self.plan.size.saturating_mul(3).min(T::UPDATES),
         };
         for number in 0..updates {
             let change = self.drawn_change(T::DELETES);
             self.change(change, bench)?;
             if self.plan.is_compared && number % 10 == 0 {
-                K::ask_each(self, bench)?;
+                self.ask_each(bench)?;
             }
         }
         self.tell_costs("update", bench)?;
-        K::ask_each(self, bench)
+        self.ask_each(bench)
+    }
+
+    /// Asks each question of the kind.
+    fn ask_each<R: Clock, L: Ledger>(&mut self, bench: &mut Bench<R, L>) -> Result<(), Failure> {
+        self.ask::<K::First, R, L>(bench)?;
+        self.ask::<K::Second, R, L>(bench)
     }
 
     /// The next change, of eight of which so many are deletes on average: where an even number of items is compared, of the one at the
@@ -218,7 +237,7 @@ impl<K: Kind, T: Tried<RowsBuilder<K>>> Trial<RowsBuilder<K>, T> {
         if matches!(done, Err(Failure::NoMemory(_))) {
             bench.refused = bench.refused.wrapping_add(1);
             self.compare(bench.alloc)?;
-            K::ask_each(self, bench)?;
+            self.ask_each(bench)?;
             done = self.make(change, &mut bench.steps);
         }
         done?;

@@ -4,7 +4,7 @@ ghost use Rattle.std.specs.Prelude.{◌≡◌};
 use map_shapes::CountIn;
 use query_laws::step_ledger::{SHARES, blank};
 use range_tree::{RangeBuilder, RangeRows};
-use samples::{Failure, Spread};
+use samples::{Failure, PlainMap, Spread};
 use std::fs;
 use std::marker::Brand;
 use std::sync::ledger::{Blank, Ledger};
@@ -22,8 +22,9 @@ fn try_parts<L: Ledger>(rt: &HostRuntime, blank: Blank) -> Result<[bool; 2], Fai
 {
     let mut bench = Bench::<HostRuntime, L>::new(rt, rt.alloc(), true, blank);
     check_kind::<RangeRows, HostRuntime, L>(&mut bench, 1, 17)?;
+    let plan = Plan::measured(1, 33, Spread::Column);
     for layer in [Layer::Part, Layer::Stack, Layer::Index] {
-        measure_layer::<RangeRows, HostRuntime, L>(&mut bench, layer, 1, 33, Spread::Column)?;
+        measure_layer::<RangeRows, HostRuntime, L>(&mut bench, layer, plan)?;
     }
     let plan = Plan::compared(1, 64);
     let mut trial = Trial::<RangeBuilder, Marked<RangeBuilder>>::new(rt.alloc(), plan)?;
@@ -34,7 +35,7 @@ fn try_parts<L: Ledger>(rt: &HostRuntime, blank: Blank) -> Result<[bool; 2], Fai
     Ok([count, update].map(|found| matches!(found, Err(Failure::Differs(_)))))
 }
 
-/// Tries scripts and text, and tells whether a wrong answer of an example differs, a list that has points before, and a line that the
+/// Tries scripts and text, and tells whether a wrong answer of an example differs, a map that has points before, and a line that the
 /// script language takes for no point.
 fn try_scripts<L: Ledger>(rt: &HostRuntime, blank: Blank) -> Result<[bool; 3], Failure>
     requires name { blank.name ≡ L.name }
@@ -50,9 +51,9 @@ fn try_scripts<L: Ledger>(rt: &HostRuntime, blank: Blank) -> Result<[bool; 3], F
     fs::write(rt, "examples/one.out", "no\n")?;
     let example = check_examples(&mut bench, "examples");
     fs::remove_dir_all(rt, "examples")?;
-    let mut points = Vec::new(rt.alloc());
-    check_made_script(&mut bench, &mut points, 0, 500)?;
-    let made = check_made_script(&mut bench, &mut points, 0, 500);
+    let mut map = PlainMap::new(rt.alloc());
+    check_made_script(&mut bench, &mut map, 0, 500)?;
+    let made = check_made_script(&mut bench, &mut map, 0, 500);
     measure_text(&mut bench, 1, 33)?;
     let line = String::from_str(rt.alloc(), "seg a 1 2 3 4")?;
     let text = compare_reading(&mut bench, &vec![in rt.alloc(); line]?);
