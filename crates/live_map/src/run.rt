@@ -59,16 +59,19 @@ pub struct Ended {
     pub session: MapSession,
 }
 
-/// Answers a script: the lines that end in what a read gave are answered before the next read.
+/// Does what the words after the program's name ask for: `[--ledger] [--make SEED] [--size N]`.
 ///
-/// The words are `[--ledger]`; with the ledger an accepted update and an answered question tell what they cost. Other words are
-/// answered by the usage line, those for a made script too, and nothing is read. A script is taken up to its end, to the first fault
-/// of the source, or to 67,108,864 bytes and one more. After a fault and after too long a script the lines that a line feed ended
-/// are answered. It stops at the first fault of the sink.
+/// Without a seed it answers a script: the lines that end in what a read gave are answered before the next read. With the ledger an
+/// accepted update and an answered question tell what they cost. A script is taken up to its end, to the first fault of the source, or to
+/// 67,108,864 bytes and one more. After a fault and after too long a script the lines that a line feed ended are answered. It keeps one
+/// piece of 4,096 bytes and the front of one line, and takes no memory for the text.
 ///
-/// It keeps one piece of 4,096 bytes and the front of one line, and takes no memory for the text.
+/// With a seed it executes the script that is made of it, of N rounds or else 1,000, and writes the summary of its answers. Nothing is read,
+/// and the ledger changes nothing.
 ///
-/// Each line takes at most what its command may, on the map before it: an update the bounds of its layer, a question the touches of one.
+/// Other words are answered by the usage line. `NoMemory` comes only while the words are read. It stops at the first fault of the sink.
+///
+/// Each line or command takes at most what it may, on the map before it: an update the bounds of its layer, a question the touches of one.
 pub fn run<S: Source, K: Sink, L: Ledger>(
     alloc: Global,
     words: &[String],
