@@ -16,7 +16,7 @@ const MOST: u64 = 1 << 39;
 const SHORT: usize = 64;
 
 /// Of a text up to this length, pieces are tried at each length.
-const SHORT_TEXT: usize = 256;
+const SHORT_TEXT: usize = 4_096;
 
 /// The length of pieces that are whole texts.
 pub const WHOLE: usize = usize::MAX;
