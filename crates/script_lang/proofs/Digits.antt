@@ -1,50 +1,47 @@
--- What std's `parse` reads of digits is the number of a field.
-use Rattle.std.proofs.Common.{◌≡◌, ℕ, ◌<◌, ◌-◌, ◌^◌, true, false, cond, ◌&&◌, leb, List, [], ◌∷◌, length, Some, None, Result, Ok, Err, IsAscii, MatchResult, unwrap_or, arith, refl, sym, ap, ◌∙◌, subst}
+-- A number, digit by digit.
+use Rattle.std.proofs.Common.{◌≡◌, ℕ, ◌+◌, ◌-◌, ◌*◌, ◌<◌, ◌≤◌, Bool, true, false, cond, ◌&&◌, List, [], ◌∷◌, length, get_or, take, Option, Ok, Err, arith, refl, sym, ap, ◌∙◌, take_all}
 use Rattle.std.specs.List.{list_all}
-use Rattle.std.specs.Char.{is_ascii_digit}
+use Rattle.std.specs.Char.{is_ascii_digit, digit_value}
 use Rattle.std.specs.Str.{all_ascii_digits}
 use Rattle.std.specs.Str.Parse.{digits_value}
-use Rattle.std.specs.Result.{OkIff, result_ok}
-use Rattle.std.proofs.lemmas.Bool.{and_parts, and_from, leb-true, le-leb, false_from_ne_true}
-use Rattle.std.proofs.lemmas.Str.Parse.{IsNumeralModel, numerals_by_value, tells_all_ascii_digits}
-use Rattle.std.proofs.lemmas.Fmt.{IsAscii-from_digits}
-use Rattle.map_model.specs.Words.{is_filled, is_number, number_field}
+use Rattle.std.proofs.lemmas.Bool.Decides.{nat_tests}
+use Rattle.std.proofs.lemmas.Int.Digits.{digits_value_more}
+use Rattle.std.proofs.lemmas.List.Folds.{list_all_more, list_all_at}
+use Rattle.map_model.specs.Words.{is_filled}
+use Rattle.script_lang.specs.declared.line_fault.LineFault.TheVariants as faults
+use Rattle.script_lang.specs.Numbers.{in_64_bits, digits_in}
 
-pub digits_tests_agree : (word : List ℕ) → list_all is_ascii_digit word ≡ all_ascii_digits word
+digits_tests_agree : (word : List ℕ) → list_all is_ascii_digit word ≡ all_ascii_digits word
 digits_tests_agree [] = refl
 digits_tests_agree (byte ∷ word) = ap (λ b. is_ascii_digit byte && b) (digits_tests_agree word)
-
-pub own : IsNumeralModel (λ ds. all_ascii_digits ds ≡ true) (digits_value 10)
-own = numerals_by_value (λ ds. all_ascii_digits ds ≡ true) tells_all_ascii_digits
-
-pub digits_ascii : (word : List ℕ) → all_ascii_digits word ≡ true → IsAscii word
-digits_ascii word h = IsAscii-from_digits word (own.to word h)
 
 filled : (word : List ℕ) → 0 < length word → is_filled word ≡ true
 filled [] h = absurd (omega arith)
 filled (byte ∷ word) h = refl
 
-has_length : (word : List ℕ) → is_filled word ≡ true → 0 < length word
-has_length [] h = absurd cc
-has_length (byte ∷ word) h = omega arith
+-- one digit more
+pub one_more : (word : List ℕ) (i : ℕ) → i < length word → is_ascii_digit (get_or word i 0) ≡ true → digits_value 10 (take (i + 1) word) ≡ digits_value 10 (take i word) * 10 + (get_or word i 0 - 48)
+one_more word i inside digit =
+    let worth : digit_value (get_or word i 0) ≡ get_or word i 0 - 48 = grind (arith, nat_tests) in
+    rw (digits_value_more 10 word i inside, worth) refl
 
-pub number_from_parse : {E : Type 0} (r : Result ℕ E) (word : List ℕ) → all_ascii_digits word ≡ true → OkIff r ((0 < length word) × (digits_value 10 word < 2 ^ 64)) (digits_value 10 word) → result_ok r ≡ number_field (2 ^ 64 - 1) word
-number_from_parse (Ok x) word digits h =
-    let fits : is_number (2 ^ 64 - 1) word ≡ true = and_from _ _ (and_from (is_filled word) (all_ascii_digits word) (filled word h.0.0) digits) (le-leb (digits_value 10 word) (2 ^ 64 - 1) (omega (arith, h.0.1))) in
-    ap (λ n. Some n) h.1 ∙ sym (ap (λ b. cond b (Some (digits_value 10 word)) None) fits)
-number_from_parse (Err e) word digits h =
-    let past : is_number (2 ^ 64 - 1) word ≡ false = false_from_ne_true _ (λ t.
-    let parts = and_parts (is_filled word && all_ascii_digits word) (leb (digits_value 10 word) (2 ^ 64 - 1)) t in
-    let within = leb-true (digits_value 10 word) (2 ^ 64 - 1) parts.1 in
-    h (has_length word (and_parts (is_filled word) (all_ascii_digits word) parts.0).0, omega (arith, within))) in
-    sym (ap (λ b. cond b (Some (digits_value 10 word)) None) past)
+pub all_more : (word : List ℕ) (i : ℕ) → i < length word → list_all is_ascii_digit (take i word) ≡ true → is_ascii_digit (get_or word i 0) ≡ true → list_all is_ascii_digit (take (i + 1) word) ≡ true
+all_more word i inside before digit = list_all_more is_ascii_digit word i 0 inside ∙ (λ j. before j && digit j)
 
--- what holds of the value of an `Ok` holds where `ok()` finds it
-pub found_ok : {X Y : Type 0} (r : Result X Y) (P : X → Type 0) (Q : Y → Type 0) (x : X) → MatchResult r P Q → result_ok r ≡ Some x → P x
-found_ok (Ok y) P Q x h e = subst P (ap (λ o. unwrap_or o x) e) h
-found_ok (Err e') P Q x h e = absurd cc
+-- a word with another byte
+pub other_byte : (word : List ℕ) (i : ℕ) → i < length word → is_ascii_digit (get_or word i 0) ≡ false → digits_in word ≡ Err faults.Number
+other_byte word i inside other =
+    ap (λ b. cond (is_filled word && b) (Ok (in_64_bits (digits_value 10 word))) (Err faults.Number)) (sym (digits_tests_agree word) ∙ list_all_at is_ascii_digit word i 0 inside other)
+    ∙ none (is_filled word)
+  where
+    none : (b : Bool) → cond (b && false) (Ok (in_64_bits (digits_value 10 word))) (Err faults.Number) ≡ Err faults.Number
+    none true = refl
+    none false = refl
 
--- no `Err` where each one is absurd
-pub found_none : {X Y : Type 0} (r : Result X Y) (P : X → Type 0) (Q : Y → Type 0) → MatchResult r P Q → ((y : Y) → Q y → ⊥) → result_ok r ≡ None → ⊥
-found_none (Ok y) P Q h no' e = cc
-found_none (Err y) P Q h no' e = no' y h
+-- a word of digits
+pub all_digits : (word : List ℕ) (i : ℕ) (value : Option ℕ) → 0 < length word → length word ≤ i → list_all is_ascii_digit (take i word) ≡ true → value ≡ in_64_bits (digits_value 10 (take i word)) → Ok value ≡ digits_in word
+all_digits word i value some past all is =
+    let whole = take_all i word past in
+    let digits : all_ascii_digits word ≡ true = sym (digits_tests_agree word) ∙ ap (list_all is_ascii_digit) (sym whole) ∙ all in
+    ap (λ v. Ok v) (is ∙ ap (λ w. in_64_bits (digits_value 10 w)) whole)
+    ∙ sym (λ j. cond (filled word some j && digits j) (Ok (in_64_bits (digits_value 10 word))) (Err faults.Number))

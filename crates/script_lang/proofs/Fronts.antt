@@ -1,11 +1,11 @@
 -- What a line says is told by its front.
-use Rattle.std.proofs.Common.{◌≡◌, ◌==◌, ℕ, ◌+◌, ◌-◌, ◌<◌, ◌≤◌, ◌⊎◌, Bool, true, false, List, [], ◌∷◌, length, take, Err, nat_lt, arith, refl, sym, ap, ◌∙◌, subst, inl, inr, length-take-le, if◌then◌else◌}
+use Rattle.std.proofs.Common.{◌≡◌, ◌==◌, ℕ, ◌+◌, ◌-◌, ◌<◌, ◌≤◌, ◌⊎◌, Bool, true, false, List, length, take, Err, nat_lt, arith, sym, ap, ◌∙◌, inl, inr, length-take-le, if◌then◌else◌}
 use Rattle.std.specs.Prelude.{slice_index}
 use Rattle.std.proofs.lemmas.Bool.{cases_Bool}
 use Rattle.std.proofs.lemmas.List.{take_all}
 use Rattle.std.proofs.lemmas.Bool.Decides.{nat_tests}
 use Rattle.map_model.specs.Words.{words, longest_line}
-use Rattle.map_model.specs.Grammar.{Parsed, parse, parse_text, parse_words, without_return}
+use Rattle.map_model.specs.Grammar.{parse, parse_words, without_return}
 use Rattle.map_model.specs.LineFault as faults
 use Rattle.script_lang.specs.Front.{longest_front}
 

@@ -1,18 +1,19 @@
 -- A line that passes each step is read as a command within its limits.
-use Rattle.std.proofs.Common.{◌≡◌, ℕ, ◌+◌, ◌≤◌, true, false, cond, not, nat_lt, List, length, Some, Ok, Err, arith, sym, ap, ◌∙◌}
+use Rattle.std.proofs.Common.{◌≡◌, ℕ, ◌+◌, ◌≤◌, true, false, cond, not, nat_lt, List, length, Some, Ok, Err, arith, refl, sym, ap, ◌∙◌}
 use Rattle.std.proofs.lemmas.Bool.Decides.{nat_tests}
 use Rattle.map_model.specs.Words.{words, name_field, longest_line}
 use Rattle.map_model.specs.Shape as shapes
 use Rattle.map_model.specs.Index.{IndexSet, index_count}
 use Rattle.map_model.specs.LineFault as faults
 use Rattle.map_model.specs.Form as model
-use Rattle.map_model.specs.Grammar.{Values, without_return, parse, parse_text, parse_words, command_of}
+use Rattle.map_model.specs.Grammar.{Values, parse, parse_text, parse_words, command_of}
 use Rattle.map_model.specs.Line.{InLimits}
 use Rattle.map_model.proofs.LawfulCommands.{IsCommand-parsed}
 use Rattle.script_lang.specs.declared.reading.Read.{Read}
 use Rattle.script_lang.specs.Form.{verb_of, form_of}
 use Rattle.script_lang.specs.Indexes.{layer_in}
-use Rattle.script_lang.specs.Read.{has_end, values_in, finished, layered, said}
+use Rattle.script_lang.specs.Read.{has_end, values_in, finished, layered, said, parse_printable}
+use Rattle.script_lang.proofs.Printable.{looked_at_last, line_last, command_prints, whole_line}
 
 abbrev pub rest_of : Read → List (List ℕ)
 rest_of read = words read.rest.now
@@ -21,11 +22,10 @@ rest_of read = words read.rest.now
 abbrev pub values : Read → List ℕ → shapes.Kind → IndexSet → Values
 values read name kind indexes = record (values_in name read.numbers) { kind = kind; indexes = indexes }
 
--- no step finds a fault; `text` is the line without its return
-pub record Passes (line text : List ℕ) (read : Read) (name : List ℕ) (kind : shapes.Kind) (indexes : IndexSet) : Type 0 where
-  pub cut : text ≡ without_return line
-  pub short : length text ≤ longest_line
-  pub said : said (Ok (Some read)) ≡ parse_words text (words text)
+-- no step finds a fault
+pub record Passes (line : List ℕ) (read : Read) (name : List ℕ) (kind : shapes.Kind) (indexes : IndexSet) : Type 0 where
+  pub short : length line ≤ longest_line
+  pub said : said (Ok (Some read)) ≡ parse_printable (words line)
   pub ended : has_end read.form.now.has_indexes (length (rest_of read)) ≡ true
   pub named : name_field read.name.now ≡ Some name
   pub digits : read.numbers.are_digits ≡ true
@@ -34,21 +34,24 @@ pub record Passes (line text : List ℕ) (read : Read) (name : List ℕ) (kind :
   pub layer : layer_in (rest_of read) ≡ Ok (kind, indexes)
   pub each_once : length (rest_of read) ≤ index_count indexes + 1
 
-pub in_limits : (line text : List ℕ) (read : Read) (name : List ℕ) (kind : shapes.Kind) (indexes : IndexSet) → Passes line text read name kind indexes → InLimits (command_of (verb_of read.form.now.verb) (values read name kind indexes))
-in_limits line text read name kind indexes h =
+pub in_limits : (line : List ℕ) (read : Read) (name : List ℕ) (kind : shapes.Kind) (indexes : IndexSet) → Passes line read name kind indexes → InLimits (command_of (verb_of read.form.now.verb) (values read name kind indexes))
+in_limits line read name kind indexes h =
     let verb = verb_of read.form.now.verb in
     let f = form_of read.form.now in
     let rest = rest_of read in
     let v = values_in name read.numbers in
     let command = command_of verb (values read name kind indexes) in
-    let short : nat_lt longest_line (length text) ≡ false = grind (arith, nat_tests, h.short) in
+    let short : nat_lt longest_line (length line) ≡ false = grind (arith, nat_tests, h.short) in
     let each_once : nat_lt (index_count indexes + 1) (length rest) ≡ false = grind (arith, nat_tests, h.each_once) in
-    let read_as : parse line ≡ Ok (Some command) =
-    sym (ap parse_text h.cut)
-    ∙ ap (λ b. cond b (Err faults.Line) (parse_words text (words text))) short
-    ∙ sym h.said
+    let said : parse_printable (words line) ≡ Ok (Some command) =
+    sym h.said
     ∙ ap (λ b. cond (not b) (Err faults.Fields) (finished verb f rest read.numbers (name_field read.name.now))) h.ended
     ∙ ap (finished verb f rest read.numbers) h.named
     ∙ (λ i. cond (not (h.digits i)) (Err faults.Number) (cond (not (h.in_range i)) (Err faults.Range) (cond (not (h.ordered i)) (Err faults.Order) (layered verb v (length rest) (h.layer i)))))
     ∙ ap (λ b. cond b (Err faults.Index) (Ok (Some command))) each_once in
+    let read_as : parse line ≡ Ok (Some command) =
+    ap parse_text (whole_line line (command_prints line command said))
+    ∙ ap (λ b. cond b (Err faults.Line) (parse_words line (words line))) short
+    ∙ sym (line_last line (words line) refl)
+    ∙ ap (looked_at_last line) said in
     (IsCommand-parsed line command read_as).in_limits

@@ -4,5 +4,6 @@ pub mod FieldWords
 pub mod IndexWords
 pub mod Walk
 pub mod SpacedWords
+pub mod Printable
 pub mod Lawful
 pub mod Fronts

@@ -13,7 +13,7 @@ use Rattle.map_model.specs.Shape as shapes
 use Rattle.map_model.specs.Index.{IndexSet, index_count}
 use Rattle.map_model.specs.LineFault as faults
 use Rattle.map_model.specs.Form as model
-use Rattle.map_model.specs.Grammar.{Values, Parsed, named, is_printable, is_digits, is_in_range, all_fields, has_words, with_value, with_values, command_of, takes_word, is_distinct, index_set, parse_indexes, parse_kind, parse_fields, parse_form, parse_verb, parse_words}
+use Rattle.map_model.specs.Grammar.{Values, Parsed, named, is_digits, is_in_range, all_fields, has_words, with_value, with_values, command_of, takes_word, is_distinct, index_set, parse_indexes, parse_kind, parse_fields, parse_form, parse_verb}
 use Rattle.map_shapes.specs.declared.kind.Kind.{Kind}
 use Rattle.map_shapes.specs.declared.kind.Kind.TheVariants.{Points, Segments}
 use Rattle.map_shapes.specs.Kind.{kind_of}
@@ -26,7 +26,7 @@ use Rattle.script_lang.specs.declared.line_fault.LineFault.{LineFault}
 use Rattle.script_lang.specs.declared.line_fault.LineFault.TheVariants as errors
 use Rattle.script_lang.specs.Form.{field_of, fields_of, form_of, is_coordinate, limits_of_field, verb_of}
 use Rattle.script_lang.specs.Numbers.{no_numbers, with_number, number_in, with_read, with_word, with_words}
-use Rattle.script_lang.specs.Read.{has_end, values_in, layered, ended, finished, walked}
+use Rattle.script_lang.specs.Read.{has_end, values_in, layered, ended, finished, walked, parse_printable}
 use Rattle.script_lang.specs.Indexes.{kind_in, no_index, with_index_words, kind_layer, layer_in}
 use Rattle.script_lang.proofs.IndexWords.{set_if, indexes_by_count}
 
@@ -259,13 +259,12 @@ few_coordinates f row =
 pub record Begins (line word : List ℕ) (all : List (List ℕ)) (f : Form) : Type 0 where
   pub front : grammar.words line ≡ word ∷ all
   pub told : starts_with nat_eq word (35 ∷ []) ≡ false
-  pub printable : list_all is_printable line ≡ true
   pub verb : Some (verb_of f.verb) ≡ model.verb_of word
   pub row : form_of f ≡ model.form (verb_of f.verb)
 
 -- the line says what the walk over its words meets
 pub walk_line : (line word name : List ℕ) (all words : List (List ℕ)) (f : Form) (found : ReadWords) → Begins line word all f → all ≡ name ∷ words → found ≡ with_words f.fields.now words no_numbers
-    → walked_words (verb_of f.verb) (form_of f) name found ≡ parse_words line (grammar.words line)
+    → walked_words (verb_of f.verb) (form_of f) name found ≡ parse_printable (grammar.words line)
 walk_line line word name all words f found b first is =
     let verb = verb_of f.verb in
     ap (walked_words verb (form_of f) name) is
@@ -273,6 +272,5 @@ walk_line line word name all words f found b first is =
     ∙ ap (λ (r : model.Form). parse_fields verb r name words) b.row
     ∙ sym (ap (parse_form verb (model.form verb)) first)
     ∙ ap (λ v. parse_verb v all) b.verb
-    ∙ sym (ap (λ p. cond (not p) (Err faults.Line) (parse_verb (model.verb_of word) all)) b.printable)
-    ∙ sym (ap (λ p. cond p (Ok None) (cond (not (list_all is_printable line)) (Err faults.Line) (parse_verb (model.verb_of word) all))) b.told)
-    ∙ sym (ap (parse_words line) b.front)
+    ∙ sym (ap (λ p. cond p (Ok None) (parse_verb (model.verb_of word) all)) b.told)
+    ∙ sym (ap parse_printable b.front)

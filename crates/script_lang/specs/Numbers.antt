@@ -1,5 +1,5 @@
 -- The numbers of words in their fields.
-use Rattle.std.specs.Prelude.{ℕ, ◌<◌, ◌≤◌, ◌&&◌, true, false, ⊤, List, [], ◌∷◌, ◌++◌, length, Option, Some, None, Result, Ok, Err, nat_le, if◌then◌else◌}
+use Rattle.std.specs.Prelude.{ℕ, ◌<◌, ◌≤◌, ◌^◌, ◌&&◌, true, false, ⊤, List, [], ◌∷◌, ◌++◌, length, Option, Some, None, Result, Ok, Err, nat_le, nat_lt, if◌then◌else◌}
 use Rattle.std.specs.Str.{all_ascii_digits}
 use Rattle.std.specs.Str.Parse.{digits_value}
 use Rattle.map_model.specs.Words.{is_filled}
@@ -27,6 +27,14 @@ abbrev pub with_number : Field → ℕ → Numbers → Numbers
 with_number Id n v = record v { id = n }
 with_number Coordinate n v = record v { places = v.places ++ n ∷ [] }
 with_number Amount n v = record v { amount = n }
+
+-- a number where it takes at most 64 bits
+abbrev pub in_64_bits : ℕ → Option ℕ
+in_64_bits n = if nat_lt n (2 ^ 64) then Some n else None
+
+-- the number that a word of digits writes
+abbrev pub digits_in : List ℕ → Result (Option ℕ) LineFault
+digits_in word = if is_filled word && all_ascii_digits word then Ok (in_64_bits (digits_value 10 word)) else Err faults.Number
 
 -- the number of a word, within limits
 abbrev pub number_in : ℕ → ℕ → List ℕ → Result ℕ LineFault

@@ -1,11 +1,12 @@
 -- What is left to look at once the words of a line are read along their form.
-use Rattle.std.specs.Prelude.{ℕ, ◌+◌, ◌==◌, Bool, not, List, length, Option, Some, None, Result, Ok, Err, nat_le, nat_lt, if◌then◌else◌}
+use Rattle.std.specs.Prelude.{ℕ, ◌+◌, ◌==◌, Bool, not, List, [], ◌∷◌, length, Option, Some, None, Result, Ok, Err, nat_le, nat_lt, if◌then◌else◌}
+use Rattle.std.specs.List.{starts_with}
 use Rattle.map_model.specs.Words.{words, name_field}
 use Rattle.map_model.specs.Index.{no_indexes, index_count}
 use Rattle.map_model.specs.Shape.{Points}
 use Rattle.map_model.specs.LineFault as faults
 use Rattle.map_model.specs.Form as model
-use Rattle.map_model.specs.Grammar.{Values, Parsed, command_of}
+use Rattle.map_model.specs.Grammar.{Values, Parsed, command_of, parse_verb}
 use Rattle.script_lang.specs.declared.line_fault.LineFault.{LineFault}
 use Rattle.script_lang.specs.declared.numbers.Numbers.{Numbers}
 use Rattle.script_lang.specs.declared.reading.Read.{Read}
@@ -37,6 +38,11 @@ finished verb f rest v (Some name) =
 
 abbrev pub walked : model.Verb → model.Form → List ℕ → Numbers → List (List ℕ) → Parsed
 walked verb f word v rest = if not (has_end f.has_indexes (length rest)) then Err faults.Fields else finished verb f rest v (name_field word)
+
+-- what the words of a line say where all its bytes are printable
+abbrev pub parse_printable : List (List ℕ) → Parsed
+parse_printable [] = Ok None
+parse_printable (word ∷ words) = if starts_with (λ a b. a == b) word (35 ∷ []) then Ok None else parse_verb (model.verb_of word) words
 
 -- what a line says of which so much is read
 abbrev pub said : Result (Option Read) LineFault → Parsed

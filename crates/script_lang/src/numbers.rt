@@ -1,16 +1,13 @@
 // The numbers of a line.
-ghost use Rattle.std.specs.Prelude.{◌≡◌, ◌+◌, ◌≤◌, ◌<◌, ◌-◌, ◌^◌, IfOk, length, count_by, option_map, true};
-ghost use Rattle.std.specs.List.{list_all};
-ghost use Rattle.std.specs.Char.{is_ascii_digit};
-ghost use Rattle.map_model.specs.Words.{words, number_field};
+ghost use Rattle.std.specs.Prelude.{◌≡◌, ℕ, ◌+◌, ◌*◌, ◌≤◌, ◌<◌, IfOk, length, count_by, option_map};
+ghost use Rattle.map_model.specs.Words.{words};
 ghost use Rattle.script_lang.specs.Form.{limits_of_field, is_coordinate};
-ghost use Rattle.script_lang.specs.Numbers.{Takes, HasRoom, with_number, number_in, with_word, with_words, no_numbers};
+ghost use Rattle.script_lang.specs.Numbers.{Takes, HasRoom, with_number, number_in, with_word, with_words, no_numbers, digits_in, in_64_bits};
 
 use crate::LineFault;
 use crate::coordinates::Coordinates;
 use crate::form::Field;
 use crate::words::split_word;
-use std::str;
 
 /// The numbers that a field takes.
 #[derive(Clone, Copy, Debug)]
@@ -94,26 +91,35 @@ pub fn parse_number(word: &[u8], limits: Limits) -> Result<u64, LineFault>
     ensures value { result ≡ number_in limits.least limits.greatest word.now }
     ensures within { IfOk result (λ n. (limits.least ≤ n) × (n ≤ limits.greatest)) }
 {
-    if word.is_empty() || !has_digits(word) {
-        return Err(LineFault::Number);
-    }
-    match decimal_value(word) {
+    match read_digits(word)? {
         Some(value) if limits.least <= value && value <= limits.greatest => Ok(value),
         Some(_) => Err(LineFault::Range),
         None => Err(LineFault::Range),
     }
 }
 
-/// The number that digits write: `None` where there is none, or where the number takes more than 64 bits.
-fn decimal_value(word: &[u8]) -> Option<u64>
-    ensures { list_all is_ascii_digit word.now ≡ true → result ≡ number_field (2 ^ 64 - 1) word.now }
+/// The number that the digits of a word write, in one pass: `None` where it takes more than 64 bits, and `Number` where the
+/// word has anything else, or nothing.
+fn read_digits(word: &[u8]) -> Result<Option<u64>, LineFault>
+    ensures { result ≡ digits_in word.now }
 {
-    let text = str::from_utf8(word).ok()?;
-    text.parse::<u64>().ok()
+    if word.is_empty() {
+        return Err(LineFault::Number);
+    }
+    let mut value = Some(0);
+    for &byte in word {
+        if !byte.is_ascii_digit() {
+            return Err(LineFault::Number);
+        }
+        value = with_digit(value, byte - b'0');
+    }
+    Ok(value)
 }
 
-fn has_digits(word: &[u8]) -> bool
-    ensures { result ≡ list_all is_ascii_digit word.now }
+/// A number with one more digit at its end: `None` where it takes more than 64 bits.
+fn with_digit(value: Option<u64>, digit: u8) -> Option<u64>
+    requires { digit < 10 }
+    ensures { (n : ℕ) → value ≡ in_64_bits n → result ≡ in_64_bits (n * 10 + digit) }
 {
-    word.iter().all(|byte| byte.is_ascii_digit())
+    value?.checked_mul(10)?.checked_add(u64::from(digit))
 }

@@ -1,8 +1,10 @@
 // A line, step by step.
-ghost use Rattle.std.specs.Prelude.{◌≡◌};
+ghost use Rattle.std.specs.Prelude.{◌≡◌, ◌≤◌, length};
+ghost use Rattle.std.specs.List.{list_all};
 ghost use Rattle.map_model.specs.Grammar as grammar;
 ghost use Rattle.script_lang.specs.Command.{parsed};
-ghost use Rattle.script_lang.specs.Read.{has_end};
+ghost use Rattle.map_model.specs.Words.{words, longest_line};
+ghost use Rattle.script_lang.specs.Read.{has_end, parse_printable};
 
 use crate::indexes::{index_count, read_layer};
 use crate::making::{Values, make_command};
@@ -20,7 +22,8 @@ pub const LONGEST_FRONT: usize = LONGEST_LINE + 2;
 /// What a line says that comes without its line feed: `None` where it says nothing, and else a command or the first
 /// fault that holds.
 ///
-/// It takes no memory, and looks at each byte a few times.
+/// It takes no memory. A pass finds the words, and another reads each of them; a third looks for bytes that aren't printable where
+/// they say a fault.
 pub fn parse(line: &[u8]) -> Result<Option<Command>, LineFault>
     ensures { parsed result ≡ grammar.parse line.now }
 {
@@ -28,6 +31,18 @@ pub fn parse(line: &[u8]) -> Result<Option<Command>, LineFault>
     if line.len() > LONGEST_LINE {
         return Err(LineFault::Line);
     }
+    let said = parse_printable(line);
+    if said.is_err() && !is_printable(line) {
+        return Err(LineFault::Line);
+    }
+    said
+}
+
+/// What a line says where all its bytes are printable, as they are wherever it says a command.
+fn parse_printable(line: &[u8]) -> Result<Option<Command>, LineFault>
+    requires { length line.now ≤ longest_line }
+    ensures { parsed result ≡ parse_printable (words line.now) }
+{
     let Some(read) = read_line(line)? else {
         return Ok(None);
     };
@@ -70,6 +85,14 @@ fn without_return(line: &[u8]) -> &[u8]
     } else {
         line
     }
+}
+
+/// Whether it has only tabs and bytes from the space to the tilde.
+fn is_printable(line: &[u8]) -> bool
+    ensures { result ≡ list_all grammar.is_printable line.now }
+{
+    line.iter()
+        .all(|byte| *byte == b'\t' || (b' ' <= *byte && *byte <= b'~'))
 }
 
 /// Whether so many words are a kind and one or more indexes, or none, where none follow.

@@ -1,10 +1,8 @@
 // The words of a line, read along the form of its command word.
 ghost use Rattle.std.specs.Prelude.{◌≡◌, ◌≤◌, MatchOption, IfOk, IfSome};
-ghost use Rattle.std.specs.List.{list_all};
 ghost use Rattle.map_model.specs.Words.{words};
-ghost use Rattle.map_model.specs.Grammar as grammar;
 ghost use Rattle.script_lang.specs.Form.{IsRow};
-ghost use Rattle.script_lang.specs.Read.{said};
+ghost use Rattle.script_lang.specs.Read.{said, parse_printable};
 
 use crate::LineFault;
 use crate::form::{Form, find_form};
@@ -20,9 +18,9 @@ pub struct Read<'a> {
     pub rest: &'a [u8],
 }
 
-/// Reads a line along the form of its command word: `None` where it says nothing.
+/// Reads a line along the form of its command word, whatever other bytes it has: `None` where it says nothing.
 pub fn read_line(line: &[u8]) -> Result<Option<Read<'_>>, LineFault>
-    ensures said { said result ≡ grammar.parse_words line.now (words line.now) }
+    ensures said { said result ≡ parse_printable (words line.now) }
     ensures row { IfOk result (λ found. IfSome found (λ read. IsRow read.form.now)) }
 {
     let Some((word, rest)) = split_word(line) else {
@@ -30,9 +28,6 @@ pub fn read_line(line: &[u8]) -> Result<Option<Read<'_>>, LineFault>
     };
     if word.starts_with(b"#") {
         return Ok(None);
-    }
-    if !is_printable(line) {
-        return Err(LineFault::Line);
     }
     let Some(form) = find_form(word) else {
         return Err(LineFault::Command);
@@ -49,12 +44,4 @@ pub fn read_line(line: &[u8]) -> Result<Option<Read<'_>>, LineFault>
         numbers,
         rest,
     }))
-}
-
-/// Whether it has only tabs and bytes from the space to the tilde.
-fn is_printable(line: &[u8]) -> bool
-    ensures { result ≡ list_all grammar.is_printable line.now }
-{
-    line.iter()
-        .all(|byte| *byte == b'\t' || (b' ' <= *byte && *byte <= b'~'))
 }

@@ -12,7 +12,6 @@ returns-in_default-read_numbers-clause-said c =
     let begins : Begins c.args.line.now c.in-Some.word.now (words c.in-Some.rest.now) f = record {
       front = c.in-Some.ensures.first;
       told = sym c.starts_with.ensures.value ∙ c.if-starts_with.false;
-      printable = sym c.is_printable.ensures ∙ c.if-not-is_printable.false;
       verb = c.in-Some-find_form.ensures.verb;
       row = c.in-Some-find_form.ensures.row;
     } in
@@ -24,7 +23,6 @@ returns-clause-said c =
     let begins : Begins c.args.line.now c.in-Some.word.now (words c.in-Some.rest.now) f = record {
       front = c.in-Some.ensures.first;
       told = sym c.starts_with.ensures.value ∙ c.if-starts_with.false;
-      printable = sym c.is_printable.ensures ∙ c.if-not-is_printable.false;
       verb = c.in-Some-find_form.ensures.verb;
       row = c.in-Some-find_form.ensures.row;
     } in

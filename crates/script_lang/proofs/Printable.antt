@@ -1,0 +1,251 @@
+-- A line that says a command has printable bytes alone.
+use Rattle.std.proofs.Common.{◌≡◌, ℕ, suc, ◌+◌, ◌-◌, Bool, true, false, cond, not, ◌&&◌, ◌||◌, nat_le, nat_eq, List, [], ◌∷◌, codes, length, take, drop, filter, Option, Some, None, Result, Ok, Err, bytes_eq, arith, refl, sym, ap, ◌∙◌, ◌⊎◌, inl, inr}
+use Rattle.std.specs.Prelude.{slice_index}
+use Rattle.std.specs.Result.{is_err}
+use Rattle.std.specs.List.{list_all, starts_with, slice_split, onto_first, find}
+use Rattle.std.specs.Str.{all_ascii_digits}
+use Rattle.std.specs.Char.{is_ascii_digit}
+use Rattle.std.proofs.lemmas.Bool.{and_parts, and_from, cases_Bool, eqb-true, true≢false}
+use Rattle.std.proofs.lemmas.Bool.Decides.{nat_tests}
+use Rattle.std.proofs.lemmas.Slice.Eq.{bytes_eq-Decides}
+use Rattle.map_model.specs.Words.{words, is_blank, is_filled, is_name, is_name_byte}
+use Rattle.map_model.specs.Shape.{Kind, Points, Segments}
+use Rattle.map_model.specs.LineFault.{LineFault}
+use Rattle.map_model.specs.LineFault as faults
+use Rattle.map_model.specs.Command.{Command}
+use Rattle.map_model.specs.Form.{Field, Form, form, is_ordered, verb_of, verbs}
+use Rattle.map_model.specs.Form as model
+use Rattle.map_model.specs.Grammar.{is_printable, is_digits, is_in_range, all_fields, has_words, Values, named, with_values, command_of, takes_word, is_distinct, Parsed, parse_indexes, parse_kind, parse_fields, parse_verb, parse_words, without_return}
+use Rattle.script_lang.specs.declared.command.Command as script
+use Rattle.script_lang.specs.declared.line_fault.LineFault as errors
+use Rattle.script_lang.specs.LineFault.{fault_of}
+use Rattle.script_lang.specs.Command.{parsed}
+use Rattle.script_lang.specs.Read.{parse_printable}
+
+abbrev prints : List ℕ → Bool
+prints = list_all is_printable
+
+-- ---- a text is printable where its words are
+
+blank_prints : (byte : ℕ) → is_blank byte ≡ true → is_printable byte ≡ true
+blank_prints byte blank = grind (arith, nat_tests, blank)
+
+both-shift : (a b c : Bool) → ((a && b) && c) ≡ (a && (b && c))
+both-shift true b c = refl
+both-shift false b c = refl
+
+first_prints : (byte : ℕ) (parts : List (List ℕ)) → list_all prints (onto_first byte parts) ≡ (is_printable byte && list_all prints parts)
+first_prints byte [] = both-shift (is_printable byte) true true
+first_prints byte (part ∷ parts) = both-shift (is_printable byte) (prints part) (list_all prints parts)
+
+parts_print : (text : List ℕ) → list_all prints (slice_split is_blank text) ≡ prints text
+parts_print [] = refl
+parts_print (byte ∷ text) = elim (cases_Bool (is_blank byte)) [
+  | inl blank ↦
+      ap (λ b. list_all prints (cond b ([] ∷ slice_split is_blank text) (onto_first byte (slice_split is_blank text)))) blank
+      ∙ parts_print text
+      ∙ sym (ap (λ b. b && prints text) (blank_prints byte blank))
+  | inr filled ↦
+      ap (λ b. list_all prints (cond b ([] ∷ slice_split is_blank text) (onto_first byte (slice_split is_blank text)))) filled
+      ∙ first_prints byte (slice_split is_blank text)
+      ∙ ap (λ b. is_printable byte && b) (parts_print text)
+]
+
+filled_print : (parts : List (List ℕ)) → list_all prints (filter is_filled parts) ≡ list_all prints parts
+filled_print [] = refl
+filled_print ([] ∷ parts) = filled_print parts
+filled_print ((byte ∷ part) ∷ parts) = ap (λ b. prints (byte ∷ part) && b) (filled_print parts)
+
+words_print : (text : List ℕ) → list_all prints (words text) ≡ prints text
+words_print text = filled_print (slice_split is_blank text) ∙ parts_print text
+
+-- ---- words that stand where they belong are printable
+
+digits_print : (word : List ℕ) → all_ascii_digits word ≡ true → prints word ≡ true
+digits_print [] h = refl
+digits_print (byte ∷ word) h =
+    let parts = and_parts (is_ascii_digit byte) (all_ascii_digits word) h in
+    and_from (is_printable byte) (prints word) (grind (arith, nat_tests, parts.0)) (digits_print word parts.1)
+
+name_bytes_print : (word : List ℕ) → list_all is_name_byte word ≡ true → prints word ≡ true
+name_bytes_print [] h = refl
+name_bytes_print (byte ∷ word) h =
+    let parts = and_parts (is_name_byte byte) (list_all is_name_byte word) h in
+    and_from (is_printable byte) (prints word) (grind (arith, nat_tests, parts.0)) (name_bytes_print word parts.1)
+
+name_prints : (word : List ℕ) → is_name word ≡ true → prints word ≡ true
+name_prints word h = name_bytes_print word (and_parts _ (list_all is_name_byte word) h).1
+
+same_prints : (word known : List ℕ) → bytes_eq word known ≡ true → prints known ≡ true → prints word ≡ true
+same_prints word known same h = ap prints ((bytes_eq-Decides word known).0 same) ∙ h
+
+verb_prints : (verb : model.Verb) → prints (form verb).word ≡ true
+unfolding form
+verb_prints model.Layer = refl
+verb_prints model.Add = refl
+verb_prints model.Seg = refl
+verb_prints model.Drop = refl
+verb_prints model.Count = refl
+verb_prints model.Sum = refl
+verb_prints model.ListIds = refl
+verb_prints model.Near = refl
+verb_prints model.Nearest = refl
+verb_prints model.Above = refl
+verb_prints model.Top = refl
+verb_prints model.Stab = refl
+verb_prints model.StabCount = refl
+verb_prints model.Get = refl
+verb_prints model.Size = refl
+verb_prints model.Recent = refl
+
+found_prints : (rows : List model.Verb) (word : List ℕ) (verb : model.Verb) → find (λ v. bytes_eq (form v).word word) rows ≡ Some verb → prints word ≡ true
+found_prints [] word verb e = cc
+found_prints (row ∷ rows) word verb e = elim (cases_Bool (bytes_eq (form row).word word)) [
+  | inl same ↦ sym (ap prints ((bytes_eq-Decides (form row).word word).0 same)) ∙ verb_prints row
+  | inr other ↦ found_prints rows word verb (sym (ap (λ b. cond b (Some row) (find (λ v. bytes_eq (form v).word word) rows)) other) ∙ e)
+]
+
+taken_prints : (kind : Kind) (word : List ℕ) → takes_word kind word ≡ true → prints word ≡ true
+taken_prints Segments word taken = same_prints word (codes "stab") taken refl
+taken_prints Points word taken = elim (cases_Bool (bytes_eq word (codes "range"))) [
+  | inl range ↦ same_prints word (codes "range") range refl
+  | inr not_range ↦ elim (cases_Bool (bytes_eq word (codes "near"))) [
+    | inl near ↦ same_prints word (codes "near") near refl
+    | inr not_near ↦ same_prints word (codes "top") (sym (λ i. not_range i || not_near i || bytes_eq word (codes "top")) ∙ taken) refl
+  ]
+]
+
+all_taken_print : (kind : Kind) (words : List (List ℕ)) → list_all (takes_word kind) words ≡ true → list_all prints words ≡ true
+all_taken_print kind [] h = refl
+all_taken_print kind (word ∷ words) h =
+    let parts = and_parts (takes_word kind word) (list_all (takes_word kind) words) h in
+    and_from (prints word) (list_all prints words) (taken_prints kind word parts.0) (all_taken_print kind words parts.1)
+
+-- words in their fields, and those behind them
+fields_print : (fields : List Field) (words : List (List ℕ)) → all_fields is_digits fields words ≡ true → list_all prints (drop (length fields) words) ≡ true → list_all prints words ≡ true
+fields_print [] words digits behind = behind
+fields_print (field ∷ fields) [] digits behind = refl
+fields_print (field ∷ fields) (word ∷ words) digits behind =
+    let parts = and_parts (is_digits field word) (all_fields is_digits fields words) digits in
+    and_from (prints word) (list_all prints words) (digits_print word (and_parts (is_filled word) (all_ascii_digits word) parts.0).1) (fields_print fields words parts.1 behind)
+
+-- ---- a command
+
+-- behind a step that finds no fault
+past : (b : Bool) (fault : LineFault) (rest : Parsed) (said : Option Command) → cond b (Err fault) rest ≡ Ok said → (b ≡ false) × (rest ≡ Ok said)
+past true fault rest said e = absurd (let never : Err fault ≡ Ok said = e in cc)
+past false fault rest said e = (refl, e)
+
+holds : (b : Bool) → not b ≡ false → b ≡ true
+holds true e = refl
+holds false e = absurd (true≢false e)
+
+indexes_print : (verb : model.Verb) (v : Values) (kind : Kind) (words : List (List ℕ)) (said : Option Command) → parse_indexes verb v kind words ≡ Ok said → list_all prints words ≡ true
+indexes_print verb v kind words said e = elim (cases_Bool (list_all (takes_word kind) words && is_distinct words)) [
+  | inl passed ↦ all_taken_print kind words (and_parts (list_all (takes_word kind) words) (is_distinct words) passed).0
+  | inr failed ↦ absurd (let never : Err faults.Index ≡ Ok said = sym (rw failed refl) ∙ e in cc)
+]
+
+kind_prints : (verb : model.Verb) (v : Values) (words : List (List ℕ)) (said : Option Command) → parse_kind verb v words ≡ Ok said → list_all prints words ≡ true
+kind_prints verb v [] said e = refl
+kind_prints verb v (word ∷ words) said e = elim (cases_Bool (bytes_eq word (codes "points"))) [
+  | inl points ↦
+      let read : parse_indexes verb v Points words ≡ Ok said = sym (ap (λ b. cond b (parse_indexes verb v Points words) (cond (bytes_eq word (codes "segments")) (parse_indexes verb v Segments words) (Err faults.Kind))) points) ∙ e in
+      and_from (prints word) (list_all prints words) (same_prints word (codes "points") points refl) (indexes_print verb v Points words said read)
+  | inr not_points ↦ elim (cases_Bool (bytes_eq word (codes "segments"))) [
+    | inl segments ↦
+        let read : parse_indexes verb v Segments words ≡ Ok said = sym (λ i. cond (not_points i) (parse_indexes verb v Points words) (cond (segments i) (parse_indexes verb v Segments words) (Err faults.Kind))) ∙ e in
+        and_from (prints word) (list_all prints words) (same_prints word (codes "segments") segments refl) (indexes_print verb v Segments words said read)
+    | inr neither ↦ absurd (let never : Err faults.Kind ≡ Ok said = sym (λ i. cond (not_points i) (parse_indexes verb v Points words) (cond (neither i) (parse_indexes verb v Segments words) (Err faults.Kind))) ∙ e in cc)
+  ]
+]
+
+none_behind : (n : ℕ) (words : List (List ℕ)) → nat_eq (length words) n ≡ true → list_all prints (drop n words) ≡ true
+none_behind n words all = ap (list_all prints) (drop_whole n words (eqb-true (length words) n all))
+  where
+    drop_whole : (n : ℕ) (words : List (List ℕ)) → length words ≡ n → drop n words ≡ []
+    drop_whole n words same = ap (λ k. drop k words) (sym same) ∙ ends words
+      where
+        ends : (ws : List (List ℕ)) → drop (length ws) ws ≡ []
+        ends [] = refl
+        ends (w ∷ ws) = ends ws
+
+end_prints : (verb : model.Verb) (v : Values) (f : Form) (words : List (List ℕ)) (said : Option Command) → has_words f words ≡ true → cond f.has_indexes (parse_kind verb v (drop (length f.fields) words)) (Ok (Some (command_of verb v))) ≡ Ok said → list_all prints (drop (length f.fields) words) ≡ true
+end_prints verb v f words said many e = elim (cases_Bool f.has_indexes) [
+  | inl follow ↦ kind_prints verb v (drop (length f.fields) words) said (sym (ap (λ b. cond b (parse_kind verb v (drop (length f.fields) words)) (Ok (Some (command_of verb v)))) follow) ∙ e)
+  | inr none ↦ none_behind (length f.fields) words (sym (ap (λ b. cond b (nat_le (length f.fields + 2) (length words)) (nat_eq (length words) (length f.fields))) none) ∙ many)
+]
+
+fields_said : (verb : model.Verb) (f : Form) (name : List ℕ) (words : List (List ℕ)) (said : Option Command) → parse_fields verb f name words ≡ Ok said → list_all prints (name ∷ words) ≡ true
+fields_said verb f name words said e =
+    let many = past (not (has_words f words)) faults.Fields _ said e in
+    let called = past (not (is_name name)) faults.Name _ said many.1 in
+    let digits = past (not (all_fields is_digits f.fields words)) faults.Number _ said called.1 in
+    let ranged = past (not (all_fields is_in_range f.fields words)) faults.Range _ said digits.1 in
+    let ordered = past (not (is_ordered f.order (with_values f.fields words (named name)).places)) faults.Order _ said ranged.1 in
+    let behind = end_prints verb (with_values f.fields words (named name)) f words said (holds (has_words f words) many.0) ordered.1 in
+    and_from (prints name) (list_all prints words) (name_prints name (holds (is_name name) called.0)) (fields_print f.fields words (holds (all_fields is_digits f.fields words) digits.0) behind)
+
+verb_said : (found : Option model.Verb) (words : List (List ℕ)) (said : Option Command) → parse_verb found words ≡ Ok said → list_all prints words ≡ true
+verb_said None words said e = absurd (let never : Err faults.Command ≡ Ok said = e in cc)
+verb_said (Some verb) [] said e = refl
+verb_said (Some verb) (name ∷ words) said e = fields_said verb (form verb) name words said e
+
+verb_known : (found : Option model.Verb) (word : List ℕ) (words : List (List ℕ)) (said : Option Command) → found ≡ verb_of word → parse_verb found words ≡ Ok said → prints word ≡ true
+verb_known None word words said is e = absurd (let never : Err faults.Command ≡ Ok said = e in cc)
+verb_known (Some verb) word words said is e = found_prints verbs word verb (sym is)
+
+-- ---- the whole line
+
+-- what is said where the bytes are looked at last
+abbrev pub looked_at_last : List ℕ → Parsed → Parsed
+looked_at_last line (Ok said) = Ok said
+looked_at_last line (Err fault) = cond (not (prints line)) (Err faults.Line) (Err fault)
+
+verb_last : (line : List ℕ) (p : Parsed) → ((said : Option Command) → p ≡ Ok said → prints line ≡ true) → looked_at_last line p ≡ cond (not (prints line)) (Err faults.Line) p
+verb_last line (Ok said) h = sym (ap (λ b. cond (not b) (Err faults.Line) (Ok said)) (h said refl))
+verb_last line (Err fault) h = refl
+
+-- It is enough to look at the bytes of a line where its words say a fault.
+pub line_last : (line : List ℕ) (found : List (List ℕ)) → words line ≡ found → looked_at_last line (parse_printable found) ≡ parse_words line found
+line_last line [] is = refl
+line_last line (word ∷ found) is =
+    let verb = verb_of word in
+    let told : Bool → Parsed = λ b. looked_at_last line (cond b (Ok None) (parse_verb verb found)) in
+    let said : Bool → Parsed = λ b. cond b (Ok None) (cond (not (prints line)) (Err faults.Line) (parse_verb verb found)) in
+    elim (cases_Bool (starts_with (λ a b. nat_eq a b) word (35 ∷ []))) [
+      | inl comment ↦ ap told comment ∙ sym (ap said comment)
+      | inr other ↦
+          ap told other
+          ∙ verb_last line (parse_verb verb found) (λ says e. sym (words_print line) ∙ ap (list_all prints) is ∙ and_from (prints word) (list_all prints found) (verb_known verb word found says refl e) (verb_said verb found says e))
+          ∙ sym (ap said other)
+    ]
+
+-- A line that says a command is printable, so no carriage return is at its end.
+pub command_prints : (line : List ℕ) (command : Command) → parse_printable (words line) ≡ Ok (Some command) → prints line ≡ true
+command_prints line command = of (words line) refl
+  where
+    of : (found : List (List ℕ)) → words line ≡ found → parse_printable found ≡ Ok (Some command) → prints line ≡ true
+    of [] is e = absurd (let never : Ok None ≡ Ok (Some command) = e in cc)
+    of (word ∷ found) is e = elim (cases_Bool (starts_with (λ a b. nat_eq a b) word (35 ∷ []))) [
+      | inl told ↦ absurd (let never : Ok None ≡ Ok (Some command) = sym (ap (λ b. cond b (Ok None) (parse_verb (verb_of word) found)) told) ∙ e in cc)
+      | inr untold ↦
+          let behind : parse_verb (verb_of word) found ≡ Ok (Some command) = sym (ap (λ b. cond b (Ok None) (parse_verb (verb_of word) found)) untold) ∙ e in
+          sym (words_print line) ∙ ap (list_all prints) is ∙ and_from (prints word) (list_all prints found) (verb_known (verb_of word) word found (Some command) refl behind) (verb_said (verb_of word) found (Some command) behind)
+    ]
+
+last_prints : (line : List ℕ) → prints line ≡ true → nat_eq (slice_index line (length line - 1)) 13 ≡ false
+last_prints [] h = refl
+last_prints (byte ∷ []) h = grind (arith, nat_tests, and_parts (is_printable byte) true h)
+last_prints (byte ∷ next ∷ line) h =
+    let at : length (byte ∷ next ∷ line) - 1 ≡ suc (length (next ∷ line) - 1) = omega arith in
+    ap (λ k. nat_eq (slice_index (byte ∷ next ∷ line) k) 13) at ∙ last_prints (next ∷ line) (and_parts (is_printable byte) (prints (next ∷ line)) h).1
+
+pub whole_line : (line : List ℕ) → prints line ≡ true → without_return line ≡ line
+whole_line line h = ap (λ b. cond b (take (length line - 1) line) line) (last_prints line h)
+
+-- what needs no second look, and what passes it
+pub said_stays : (line : List ℕ) (said : Result (Option script.Command) errors.LineFault) → (is_err said ≡ false) ⊎ (prints line ≡ true) → looked_at_last line (parsed said) ≡ parsed said
+said_stays line (Ok said) why = refl
+said_stays line (Err fault) (inl none) = absurd (true≢false none)
+said_stays line (Err fault) (inr printed) = ap (λ b. cond (not b) (Err faults.Line) (Err (fault_of fault))) printed
