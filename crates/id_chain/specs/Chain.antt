@@ -7,10 +7,11 @@ pub record Entry (I : Type 0) : Type 0 where
   pub handle : ℕ
   pub item : I
 
--- the entries in order of append, and how many appends need no further memory
+-- the entries in order of append, how many appends need no further memory, and the handle that the next one gives
 pub record ChainState (I : Type 0) : Type 0 where
   pub entries : List (Entry I)
   pub spare : ℕ
+  pub next_handle : ℕ
 
 abbrev pub entry_code : {I : Type 0} → Coded I → Coded (Entry I)
 entry_code {I} code =
@@ -19,10 +20,10 @@ entry_code {I} code =
 abbrev pub chain_code : {I : Type 0} → Coded I → Coded (ChainState I)
 chain_code {I} code =
     code_by
-    (List (Entry I) × ℕ)
-    (coded× (coded_list (entry_code code)) coded_ℕ)
-    (λ c. (c.entries, c.spare))
-    (λ p. record { entries = p.0; spare = p.1 })
+    (List (Entry I) × (ℕ × ℕ))
+    (coded× (coded_list (entry_code code)) (coded× coded_ℕ coded_ℕ))
+    (λ c. (c.entries, (c.spare, c.next_handle)))
+    (λ p. record { entries = p.0; spare = p.1.0; next_handle = p.1.1 })
     (λ _. refl)
 
 module _ {I : Type 0} where

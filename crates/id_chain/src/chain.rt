@@ -11,8 +11,8 @@ use std::marker::Model;
 
 /// Items in order of append, each linked to its neighbours.
 ///
-/// Contracts see the entries in order, each an item with its handle, and how many appends need no further memory. Only
-/// [`reserve`](Chain::reserve) takes memory, and no call moves an item. Every call but `reserve` takes the same short time
+/// Contracts see the entries in order, each an item with its handle, how many appends need no further memory, and which handle the next
+/// one gives. Only [`reserve`](Chain::reserve) takes memory, and no call moves an item. Every call but `reserve` takes the same short time
 /// however long the chain is; `reserve` copies the nodes where it grows.
 #[derive(Drop)]
 pub struct Chain<I: Copy> {
@@ -35,6 +35,7 @@ impl<I: Copy> Model for Chain<I> {
     ghost view = { λ c. record {
       entries = list_of c.nodes c.first;
       spare = c.nodes.capacity - slab_len c.nodes;
+      next_handle = c.nodes.vacant_key;
     } };
 
     ghost invariant = { λ c. Refines c.nodes c.first c.last (list_of c.nodes c.first) };
@@ -59,6 +60,7 @@ impl<I: Copy> Chain<I> {
         ensures room { OnOk result (additional ≤ self.new.spare) }
         ensures entries { self.new.entries ≡ self.old.entries }
         ensures spare { self.old.spare ≤ self.new.spare }
+        ensures next_handle { self.new.next_handle ≡ self.old.next_handle }
         ensures succeeds { additional ≤ self.old.spare → IsOk result }
         ensures had_room { additional ≤ self.old.spare → self.new ≡ self.old }
     {
@@ -75,9 +77,17 @@ impl<I: Copy> Chain<I> {
         self.nodes.capacity() - self.nodes.len()
     }
 
+    /// The handle that the next append gives, if no item is unlinked before it.
+    pub fn next_handle(&self) -> Handle
+        ensures { result ≡ self.now.next_handle }
+    {
+        Handle::at(self.nodes.vacant_key())
+    }
+
     /// Links an item at the end, under a handle that is not linked yet.
     pub fn append(&mut self, item: I) -> Handle
         requires { 1 ≤ self.old.spare }
+        ensures handle { result ≡ self.old.next_handle }
         ensures new_handle { is_linked result self.old.entries ≡ false }
         ensures entries { self.new.entries ≡ self.old.entries ++ record { handle = result; item = item } ∷ [] }
 

@@ -1,5 +1,5 @@
 -- What an add and a removal make of the map and the chain.
-use Rattle.std.proofs.Common.{◌≡◌, ℕ, ◌+◌, Bool, true, false, if◌then◌else◌, List, [], ◌∷◌, ◌++◌, Option, Some, None, refl, sym, ap, ◌∙◌, subst, arith, inl, inr}
+use Rattle.std.proofs.Common.{◌≡◌, ℕ, ◌+◌, true, false, if◌then◌else◌, List, [], ◌∷◌, ◌++◌, Option, Some, None, refl, sym, ap, ◌∙◌, subst, arith, inl, inr}
 use Rattle.std.specs.declared.cmp.Ordering.{Ordering}
 use Rattle.std.specs.declared.cmp.Ordering.TheVariants.{Less, Equal, Greater}
 use Rattle.std.proofs.lemmas.Bool.{cases_eq, false_from_ne_true}
@@ -13,7 +13,7 @@ use Rattle.id_chain.proofs.Entries.{Apart-parts, Apart-without, HandlesDiffer-ap
 use Rattle.id_chain.proofs.Stamps.{StampsRise-append, StampsRise-without}
 use Rattle.id_directory.specs.Directory.{DirectoryState, handle_of, without, IdsDiffer}
 use Rattle.id_directory.specs.Agreement.{is_pending, slot_of, Agrees}
-use Rattle.id_directory.proofs.Identifiers.{other_test, find_id, handle_of-other, handle_of-removed, IdsDiffer-without, handle_of-push, handle_of-pushed, IdsDiffer-push, same_by_handle}
+use Rattle.id_directory.proofs.Identifiers.{same_test, other_test, find_id, handle_of-other, handle_of-removed, IdsDiffer-without, handle_of-push, handle_of-pushed, IdsDiffer-push, same_by_handle}
 
 equal_answer : (o : Ordering) → is_eq o ≡ true → o ≡ Equal
 equal_answer Less test = absurd (cc)
@@ -23,12 +23,10 @@ equal_answer Greater test = absurd (cc)
 pub is_at-other : (id q : ℕ) → ¬ (id ≡ q) → is_at (nat_cmp id) q ≡ false
 is_at-other id q apart = false_from_ne_true _ (λ test. apart (exact_unsigned id q (equal_answer (nat_cmp id q) test)))
 
--- a slot with a handle is that of an item
-slot_handle : (found : Option ℕ) (waits : Bool) (handle : ℕ) → option_map_or (λ h. Some (Some h)) found (if waits then Some None else None) ≡ Some (Some handle)
-    → found ≡ Some handle
-slot_handle (Some h) waits handle slot = let inner : Some h ≡ Some handle = cc in inner
-slot_handle None true handle slot = let inner : None ≡ Some handle = cc in absurd (cc)
-slot_handle None false handle slot = absurd (cc)
+-- where no add is prepared a slot with a handle is that of an item
+slot_handle : (found : Option ℕ) (handle : ℕ) → option_map_or (λ h. Some h) found None ≡ Some handle → found ≡ Some handle
+slot_handle (Some h) handle slot = slot
+slot_handle None handle slot = absurd (cc)
 
 -- directories with the same parts are seen as one
 pub same_registered : {I : Type 0} (es fs : List (Entry I)) (m n : ℕ) (p q : Option ℕ) → es ≡ fs → m ≡ n → p ≡ q
@@ -36,35 +34,36 @@ pub same_registered : {I : Type 0} (es fs : List (Entry I)) (m n : ℕ) (p q : O
 same_registered es fs m n p q entries adds pending = rw (entries, adds, pending) refl
 
 module _ {I : Type 0} (id_of stamp : I → ℕ) where
-  pub handle_of-slot : (handles : BTreeMap ℕ (Option ℕ)) (es : List (Entry I)) (spare adds : ℕ) (pending : Option ℕ) (id handle : ℕ)
-      → Agrees id_of stamp handles es spare adds pending → get nat_cmp handles id ≡ Some (Some handle) → handle_of id_of id es ≡ Some handle
-  handle_of-slot handles es spare adds pending id handle agrees slot =
-      slot_handle (handle_of id_of id es) (is_pending id pending) handle (sym (agrees.found id) ∙ slot)
+  pub handle_of-slot : (handles : BTreeMap ℕ ℕ) (es : List (Entry I)) (spare next adds : ℕ) (pending : Option ℕ) (id handle : ℕ)
+      → Agrees id_of stamp handles es spare next adds pending → pending ≡ None → get nat_cmp handles id ≡ Some handle → handle_of id_of id es ≡ Some handle
+  handle_of-slot handles es spare next adds pending id handle agrees none slot =
+      let here : option_map_or (λ h. Some h) (handle_of id_of id es) None ≡ Some handle = sym (ap (λ p. slot_of id_of es next p id) none) ∙ sym (agrees.found id) ∙ slot in
+      slot_handle (handle_of id_of id es) handle here
 
   differ_without : (front : List (Entry I)) (e : Entry I) (back : List (Entry I)) → HandlesDiffer (front ++ e ∷ back) → HandlesDiffer (front ++ back)
   differ_without front e back differ = HandlesDiffer-append front back (Apart-without front e back (Apart-parts front (e ∷ back) differ))
 
-  pub Agrees-removed : (handles new : BTreeMap ℕ (Option ℕ)) (es : List (Entry I)) (spare spare' adds : ℕ) (pending : Option ℕ) (id handle : ℕ)
-      → Agrees id_of stamp handles es spare adds pending → pending ≡ None → handle_of id_of id es ≡ Some handle
+  pub Agrees-removed : (handles new : BTreeMap ℕ ℕ) (es : List (Entry I)) (spare spare' next next' adds : ℕ) (pending : Option ℕ) (id handle : ℕ)
+      → Agrees id_of stamp handles es spare next adds pending → pending ≡ None → handle_of id_of id es ≡ Some handle
       → UpdatesBy nat_cmp (nat_cmp id) handles new None
-      → Agrees id_of stamp new (without id_of id es) spare' adds pending
-  Agrees-removed handles new es spare spare' adds pending id handle agrees none found updates =
+      → Agrees id_of stamp new (without id_of id es) spare' next' adds pending
+  Agrees-removed handles new es spare spare' next next' adds pending id handle agrees none found updates =
       let at = find_id id_of id handle es found in
       let ids_differ : IdsDiffer id_of (at.front ++ at.e ∷ at.back) = let P : List (Entry I) → Type 0 = IdsDiffer id_of in subst P at.is.whole agrees.ids_differ in
       let handles_differ : HandlesDiffer (at.front ++ at.e ∷ at.back) = let P : List (Entry I) → Type 0 = HandlesDiffer in subst P at.is.whole agrees.handles_differ in
       let rising : StampsRise stamp 0 (at.front ++ at.e ∷ at.back) adds = let P : List (Entry I) → Type 0 = λ xs. StampsRise stamp 0 xs adds in subst P at.is.whole agrees.rising in
       let gone : handle_of id_of id (at.front ++ at.back) ≡ None =
       ap (λ i. handle_of id_of i (at.front ++ at.back)) (sym at.is.its_id) ∙ handle_of-removed id_of at.front at.e at.back ids_differ in
-      let slots : (q : ℕ) → get nat_cmp new q ≡ slot_of id_of (at.front ++ at.back) pending q = λ q. elim (cases_eq id q) [
+      let slots : (q : ℕ) → get nat_cmp new q ≡ slot_of id_of (at.front ++ at.back) next' pending q = λ q. elim (cases_eq id q) [
         | inl same ↦
             let here : handle_of id_of q (at.front ++ at.back) ≡ None = ap (λ i. handle_of id_of i (at.front ++ at.back)) (sym same) ∙ gone in
             rw (here, none) (ap (get nat_cmp new) (sym same) ∙ updates.1)
         | inr apart ↦
             let other : handle_of id_of q es ≡ handle_of id_of q (at.front ++ at.back) =
             ap (handle_of id_of q) at.is.whole ∙ handle_of-other id_of q at.front at.e at.back (λ same. apart (sym at.is.its_id ∙ same)) in
-            updates.2 q (is_at-other id q apart) ∙ agrees.found q ∙ ap (λ o. option_map_or (λ h. Some (Some h)) o (if is_pending q pending then Some None else None)) other
+            updates.2 q (is_at-other id q apart) ∙ agrees.found q ∙ ap (λ p. slot_of id_of es next p q) none ∙ ap (λ o. option_map_or (λ h. Some h) o None) other ∙ sym (ap (λ p. slot_of id_of (at.front ++ at.back) next' p q) none)
       ] in
-      let P : List (Entry I) → Type 0 = λ xs. Agrees id_of stamp new xs spare' adds pending in
+      let P : List (Entry I) → Type 0 = λ xs. Agrees id_of stamp new xs spare' next' adds pending in
       subst P (sym at.is.rest) (record {
         found = slots;
         ids_differ = IdsDiffer-without id_of at.front at.e at.back ids_differ;
@@ -74,23 +73,22 @@ module _ {I : Type 0} (id_of stamp : I → ℕ) where
         room = λ q is. let clash : None ≡ Some q = sym none ∙ is in absurd (cc);
       })
 
-  pub Agrees-added : (handles new : BTreeMap ℕ (Option ℕ)) (es : List (Entry I)) (spare spare' adds : ℕ) (pending : Option ℕ) (handle : ℕ) (item : I)
-      → Agrees id_of stamp handles es spare adds pending → pending ≡ Some (id_of item) → stamp item ≡ adds → is_linked handle es ≡ false
-      → UpdatesBy nat_cmp (nat_cmp (id_of item)) handles new (Some (Some handle))
-      → Agrees id_of stamp new (es ++ record { handle = handle; item = item } ∷ []) spare' (adds + 1) None
-  Agrees-added handles new es spare spare' adds pending handle item agrees is stamped unlinked updates =
+  pub Agrees-added : (handles : BTreeMap ℕ ℕ) (es : List (Entry I)) (spare spare' next next' adds : ℕ) (pending : Option ℕ) (handle : ℕ) (item : I)
+      → Agrees id_of stamp handles es spare next adds pending → pending ≡ Some (id_of item) → stamp item ≡ adds → is_linked handle es ≡ false → handle ≡ next
+      → Agrees id_of stamp handles (es ++ record { handle = handle; item = item } ∷ []) spare' next' (adds + 1) None
+  Agrees-added handles es spare spare' next next' adds pending handle item agrees is stamped unlinked given =
       let e : Entry I = record { handle = handle; item = item } in
       let absent = agrees.new_id (id_of item) is in
       record {
         found = λ q. elim (cases_eq (id_of item) q) [
           | inl same ↦
               let here : handle_of id_of q (es ++ e ∷ []) ≡ Some handle = ap (λ i. handle_of id_of i (es ++ e ∷ [])) (sym same) ∙ handle_of-pushed id_of es e absent in
-              rw here (ap (get nat_cmp new) (sym same) ∙ updates.1)
+              rw here (ap (get nat_cmp handles) (sym same) ∙ agrees.found (id_of item) ∙ (λ i. option_map_or (λ h. Some h) (absent i) (if is_pending (id_of item) (is i) then Some next else None)) ∙ rw (same_test (id_of item) (id_of item) refl) (ap (λ n. Some n) (sym given)))
           | inr apart ↦
               let other : handle_of id_of q (es ++ e ∷ []) ≡ handle_of id_of q es = handle_of-push id_of q es e apart in
               let waits : is_pending q pending ≡ false = rw is (other_test _ _ apart) in
-              let before_it : slot_of id_of es pending q ≡ option_map_or (λ h. Some (Some h)) (handle_of id_of q es) None = rw waits refl in
-              rw other (updates.2 q (is_at-other (id_of item) q apart) ∙ agrees.found q ∙ before_it)
+              let before_it : slot_of id_of es next pending q ≡ option_map_or (λ h. Some h) (handle_of id_of q es) None = rw waits refl in
+              rw other (agrees.found q ∙ before_it)
         ];
         ids_differ = IdsDiffer-push id_of es e absent agrees.ids_differ;
         handles_differ = HandlesDiffer-append es (e ∷ []) (record {
@@ -113,25 +111,22 @@ module _ {I : Type 0} (id_of stamp : I → ℕ) where
       ]
 
   -- all of a removal, with the slot that the map had and the entries that the chain keeps
-  pub Agrees-removed_at : (handles new : BTreeMap ℕ (Option ℕ)) (es es' : List (Entry I)) (spare spare' adds : ℕ) (pending : Option ℕ) (id handle : ℕ)
-      → Agrees id_of stamp handles es spare adds pending → pending ≡ None → get nat_cmp handles id ≡ Some (Some handle)
+  pub Agrees-removed_at : (handles new : BTreeMap ℕ ℕ) (es es' : List (Entry I)) (spare spare' next next' adds : ℕ) (pending : Option ℕ) (id handle : ℕ)
+      → Agrees id_of stamp handles es spare next adds pending → pending ≡ None → get nat_cmp handles id ≡ Some handle
       → UpdatesBy nat_cmp (nat_cmp id) handles new None
       → es' ≡ before handle es ++ after handle es
-      → Agrees id_of stamp new es' spare' adds pending
-  Agrees-removed_at handles new es es' spare spare' adds pending id handle agrees none slot updates kept =
-      let found = handle_of-slot handles es spare adds pending id handle agrees slot in
+      → Agrees id_of stamp new es' spare' next' adds pending
+  Agrees-removed_at handles new es es' spare spare' next next' adds pending id handle agrees none slot updates kept =
+      let found = handle_of-slot handles es spare next adds pending id handle agrees none slot in
       let same = same_by_handle id_of id handle es agrees.handles_differ found in
       let rest : es' ≡ without id_of id es = kept ∙ sym same.rest in
-      rw rest (Agrees-removed handles new es spare spare' adds pending id handle agrees none found updates)
+      rw rest (Agrees-removed handles new es spare spare' next next' adds pending id handle agrees none found updates)
 
-  -- all of an add, with the identifier and the entries as the calls give them
-  pub Agrees-added_at : (handles new : BTreeMap ℕ (Option ℕ)) (es es' : List (Entry I)) (spare spare' adds adds' : ℕ) (pending : Option ℕ) (handle filled id : ℕ) (item : I)
-      → Agrees id_of stamp handles es spare adds pending → pending ≡ Some (id_of item) → stamp item ≡ adds → is_linked handle es ≡ false
-      → id ≡ id_of item
-      → UpdatesBy nat_cmp (nat_cmp id) handles new (Some (Some filled))
-      → filled ≡ handle
+  -- all of an add, with the entries as the calls give them
+  pub Agrees-added_at : (handles : BTreeMap ℕ ℕ) (es es' : List (Entry I)) (spare spare' next next' adds adds' : ℕ) (pending : Option ℕ) (handle : ℕ) (item : I)
+      → Agrees id_of stamp handles es spare next adds pending → pending ≡ Some (id_of item) → stamp item ≡ adds → is_linked handle es ≡ false → handle ≡ next
       → es' ≡ es ++ record { handle = handle; item = item } ∷ []
       → adds' ≡ adds + 1
-      → Agrees id_of stamp new es' spare' adds' None
-  Agrees-added_at handles new es es' spare spare' adds adds' pending handle filled id item agrees is stamped unlinked its_id updates filled_is appended more =
-      rw (appended, more) (Agrees-added handles new es spare spare' adds pending handle item agrees is stamped unlinked (rw (its_id, filled_is) at updates))
+      → Agrees id_of stamp handles es' spare' next' adds' None
+  Agrees-added_at handles es es' spare spare' next next' adds adds' pending handle item agrees is stamped unlinked given appended more =
+      rw (appended, more) (Agrees-added handles es spare spare' next next' adds pending handle item agrees is stamped unlinked given)

@@ -1,10 +1,11 @@
 //! The directory itself.
-ghost use Rattle.std.specs.Prelude.{◌≡◌, ◌+◌, ◌<◌, ◌≤◌, ◌^◌, [], ◌∷◌, ◌++◌, Some, None, false, OnOk, OnErr, IsSome, take, reverse};
+ghost use Rattle.std.specs.Prelude.{◌≡◌, ◌+◌, ◌<◌, ◌≤◌, ◌^◌, [], ◌∷◌, ◌++◌, Some, None, false, IfOk, OnErr, IsSome, take, reverse, if◌then◌else◌};
+ghost use Rattle.std.specs.Option.{is_none};
 ghost use Rattle.id_chain.specs.Chain.{is_linked, HandlesDiffer, before, after};
 ghost use Rattle.id_chain.specs.StampsRise.{StampsRise};
 ghost use Rattle.id_directory.specs.Directory.{ids, handle_of, item_of, without, IdsDiffer};
 
-use crate::slots::{fill, take};
+use crate::slots::{put_new, take};
 use id_chain::{Chain, Handle};
 use map_shapes::Recent;
 use query_laws::{Named, NoMemory};
@@ -15,12 +16,13 @@ use std::marker::Model;
 /// Items that are found by identifier, and kept in order of append.
 ///
 /// An add is in two calls: [`prepare_add`](Directory::prepare_add) takes all memory that it needs, and
-/// [`add`](Directory::add) can't fail. Between them the identifier is pending, and no item has it yet.
+/// [`add`](Directory::add) can't fail. Between them the identifier is pending, and no item has it yet; the map has the handle that the
+/// chain gives next, so it is searched once.
 #[derive(Drop)]
 pub struct Directory<I: Named> {
     chain: Chain<I>,
-    // The handle of each item, and `None` at the pending identifier.
-    handles: BTreeMap<u64, Option<Handle>>,
+    // The handle of each item, and at the pending identifier the one that the chain gives next.
+    handles: BTreeMap<u64, Handle>,
     adds: u64,
     pending: Option<u64>,
     // For how many items the chain takes its memory at once.
@@ -38,7 +40,7 @@ impl<I: Named> Model for Directory<I> {
 
     ghost view = { λ d. record { entries = d.chain.entries; adds = d.adds; pending = d.pending } };
 
-    ghost invariant = { λ d. Agrees I.id I.stamp d.handles d.chain.entries d.chain.spare d.adds d.pending };
+    ghost invariant = { λ d. Agrees I.id I.stamp d.handles d.chain.entries d.chain.spare d.chain.next_handle d.adds d.pending };
 }
 
 impl<I: Named> Directory<I> {
@@ -60,25 +62,31 @@ impl<I: Named> Directory<I> {
     pub fn find(&self, id: u64) -> Option<Handle>
         ensures { result ≡ handle_of I.id id self.now.entries }
     {
-        match self.handles.get(&id) {
-            Some(Some(handle)) => Some(*handle),
-            _ => None,
+        let handle = self.handles.get(&id)?;
+        if self.pending == Some(id) {
+            return None;
         }
+        Some(*handle)
     }
 
-    /// Takes the memory for one add of an item with this identifier, which is pending then.
-    pub fn prepare_add(&mut self, id: u64) -> Result<(), NoMemory>
+    /// Takes the memory for one add of an item with this identifier, which is pending then. It is `false` where an item has the
+    /// identifier. No other call of an add looks for it again.
+    pub fn prepare_add(&mut self, id: u64) -> Result<bool, NoMemory>
         requires none_pending { self.old.pending ≡ None }
-        requires new_id { handle_of I.id id self.old.entries ≡ None }
-        ensures prepared { OnOk result (self.new ≡ record self.old { pending = Some id }) }
+        ensures is_new { IfOk result (λ is_new. is_new ≡ is_none (handle_of I.id id self.old.entries)) }
+        ensures prepared { IfOk result (λ is_new. self.new ≡ record self.old { pending = if is_new then Some id else None }) }
         ensures refused { OnErr result (self.new ≡ self.old) }
+        ensures absent { OnErr result (handle_of I.id id self.old.entries ≡ None) }
     {
-        if self.chain.spare() == 0 {
-            self.chain.reserve(self.most.max(1))?;
+        if !put_new(&mut self.handles, id, self.chain.next_handle())? {
+            return Ok(false);
         }
-        self.handles.insert(id, None)?;
+        if self.chain.spare() == 0 && self.chain.reserve(self.most.max(1)).is_err() {
+            take(&mut self.handles, id);
+            return Err(NoMemory);
+        }
         self.pending = Some(id);
-        Ok(())
+        Ok(true)
     }
 
     /// Gives up the prepared add.
@@ -105,7 +113,6 @@ impl<I: Named> Directory<I> {
         } }
     {
         let handle = self.chain.append(item);
-        fill(&mut self.handles, item.id(), handle);
         self.pending = None;
         self.adds += 1;
         handle
@@ -123,8 +130,8 @@ impl<I: Named> Directory<I> {
             → self.new.entries ≡ before handle self.old.entries ++ after handle self.old.entries }
     {
         match take(&mut self.handles, id) {
-            Some(Some(handle)) => self.chain.unlink(handle),
-            _ => unreachable!(),
+            Some(handle) => self.chain.unlink(handle),
+            None => unreachable!(),
         }
     }
 
