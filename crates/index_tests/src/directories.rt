@@ -13,10 +13,9 @@ fn put(directory: &mut Directory<Point>, id: u64, rt: &impl Abort) -> Result<Han
     requires { directory.old.pending ≡ None }
     ensures { OnOk result (directory.new.pending ≡ None) }
 {
-    assert!(rt; directory.find(id).is_none());
     let stamp = directory.adds();
     assert!(rt; stamp < 1_000_000);
-    directory.prepare_add(id)?;
+    assert!(rt; directory.prepare_add(id)?);
     Ok(directory.add(Point {
         id,
         x: 0,
@@ -29,7 +28,8 @@ fn put(directory: &mut Directory<Point>, id: u64, rt: &impl Abort) -> Result<Han
 #[test]
 fn finds_and_lists(rt: HostRuntime) -> Result<(), Fail> {
     let mut directory = Directory::new(rt.alloc(), 2);
-    directory.prepare_add(5)?;
+    assert!(rt; directory.prepare_add(5)?);
+    assert_eq!(rt; directory.find(5), None);
     directory.cancel_add();
     assert_eq!(rt; directory.find(5), None);
     let five = put(&mut directory, 5, &rt)?;
@@ -37,6 +37,7 @@ fn finds_and_lists(rt: HostRuntime) -> Result<(), Fail> {
     assert_eq!(rt; directory.adds(), 1);
     put(&mut directory, 6, &rt)?;
     let seven = put(&mut directory, 7, &rt)?;
+    assert!(rt; !directory.prepare_add(7)?);
     assert!(rt; directory.find(6).is_some());
     assert_eq!(rt; directory.remove(6).id, 6);
     assert_eq!(rt; directory.find(6), None);

@@ -1,8 +1,8 @@
 //! A layer of one kind.
 mod asking;
 
-ghost use Rattle.std.specs.Prelude.{◌≡◌, ◌+◌, ◌*◌, ◌<◌, ◌≤◌, ◌^◌, true, false, [], IfOk, bytes_eq, length};
-ghost use Rattle.std.specs.Option.{option_map};
+ghost use Rattle.std.specs.Prelude.{◌≡◌, ◌+◌, ◌*◌, ◌<◌, ◌≤◌, ◌^◌, true, false, [], IfOk, bytes_eq, length, if◌then◌else◌};
+ghost use Rattle.std.specs.Option.{option_map, is_some};
 ghost use Rattle.std.specs.Result.{is_ok};
 ghost use Rattle.query_laws.specs.StepLedger.{AtLapStart};
 ghost use Rattle.map_model.specs.Index.{one_if};
@@ -10,6 +10,8 @@ ghost use Rattle.map_model.specs.Answer.{latest};
 ghost use Rattle.map_model.specs.State as state;
 ghost use Rattle.map_model.specs.Cost.{bounds_at};
 ghost use Rattle.map_shapes.specs.Shape.{model_shape};
+ghost use Rattle.id_directory.specs.Directory.{handle_of};
+ghost use Rattle.layer_kinds.specs.declared.faults.UpdateFault.TheVariants as faults;
 ghost use Rattle.layer_kinds.specs.Shares.{count_of};
 ghost use Rattle.layer_kinds.specs.Layered.{items_of, IsAdd, IsRemoval};
 ghost use Rattle.layer_kinds.specs.Costs.{turns_of, marks_of, IsCost, IsTold};
@@ -125,13 +127,12 @@ impl<X: Indexes> KindLayer<X> {
     {
         let bounds = self.bounds();
         let id = item.id();
-        if self.directory.find(id).is_some() {
+        if self.directory.chain().len() >= MOST_ITEMS {
+            return Err(self.fault_when_full(id));
+        }
+        if !self.directory.prepare_add(id)? {
             return Err(UpdateFault::Duplicate(id));
         }
-        if self.directory.chain().len() >= MOST_ITEMS {
-            return Err(UpdateFault::Full);
-        }
-        self.directory.prepare_add(id)?;
         if self.indexes.prepare(self.directory.chain(), steps).is_err() {
             self.directory.cancel_add();
             return Err(UpdateFault::NoMemory);
@@ -139,6 +140,16 @@ impl<X: Indexes> KindLayer<X> {
         let handle = self.directory.add(item.stamped(self.directory.adds()));
         self.indexes.insert(self.directory.chain(), handle, steps);
         Ok(spent(bounds, steps))
+    }
+
+    /// Why a full layer takes no item with this identifier.
+    fn fault_when_full(&self, id: u64) -> UpdateFault
+        ensures { result ≡ (if is_some (handle_of X.Item.id id self.now.entries) then faults.Duplicate id else faults.Full) }
+    {
+        match self.directory.find(id) {
+            Some(_) => UpdateFault::Duplicate(id),
+            None => UpdateFault::Full,
+        }
     }
 
     /// Takes the item with an identifier out, and says what it cost.
