@@ -1,15 +1,18 @@
 -- The items of a layer, as the definitions have them, beside its directory.
-use Rattle.std.proofs.Common.{◌≡◌, ℕ, ◌≤◌, true, List, [], ◌∷◌, Some, None, length, map, take, refl, sym, ap, arith}
+use Rattle.std.proofs.Common.{◌≡◌, ℕ, ◌≤◌, Bool, true, false, if◌then◌else◌, List, [], ◌∷◌, Option, Some, None, Err, length, map, take, refl, sym, ap, ◌∙◌, subst, arith}
 use Rattle.std.specs.Prelude.{reverse}
-use Rattle.std.specs.Option.{is_some}
+use Rattle.std.specs.Option.{is_some, is_none}
 use Rattle.std.proofs.lemmas.Bool.Decides.{nat_tests}
 use Rattle.std.proofs.lemmas.Grind.{common_steps}
 use Rattle.std.proofs.lemmas.List.{length-map}
+use Rattle.map_shapes.specs.declared.spent.Spent.{Spent}
 use Rattle.id_chain.specs.Chain.{Entry, HandlesDiffer, is_linked, item_at}
 use Rattle.id_directory.specs.Directory.{ids, handle_of, without, IdsDiffer}
 use Rattle.map_model.specs.Answer.{latest}
-use Rattle.map_model.specs.State.{Item, is_live, shape_of, without_item}
-use Rattle.layer_kinds.specs.Layered.{items_of}
+use Rattle.map_model.specs.State.{Item, is_live, most_items, shape_of, without_item}
+use Rattle.layer_kinds.specs.declared.faults.UpdateFault.{UpdateFault}
+use Rattle.layer_kinds.specs.declared.faults.UpdateFault.TheVariants as faults
+use Rattle.layer_kinds.specs.Layered.{items_of, IsAdd}
 
 module _ {I : Type 0} (id_of : I → ℕ) (item_of : I → Item) (same : (x : I) → (item_of x).id ≡ id_of x) where
   -- an identifier is live exactly where the directory finds it
@@ -59,3 +62,27 @@ module _ {I : Type 0} (id_of : I → ℕ) (item_of : I → Item) (same : (x : I)
 
 pub as_many_items : {I : Type 0} (item_of : I → Item) (es : List (Entry I)) → length (items_of item_of es) ≡ length es
 as_many_items item_of es = length-map es (λ e. item_of e.item)
+
+some_of : {X : Type 0} (found : Option X) → is_none found ≡ false → is_some found ≡ true
+some_of None e = absurd cc
+some_of (Some x) e = refl
+
+module _ {I : Type 0} (id_of : I → ℕ) (item_of : I → Item) (same : (x : I) → (item_of x).id ≡ id_of x) (item : I) (es : List (Entry I)) (id : ℕ) (is : id ≡ id_of item) where
+  live_by : is_live (item_of item).id (items_of item_of es) ≡ is_some (handle_of id_of id es)
+  live_by = ap (λ n. is_live n (items_of item_of es)) (same item ∙ sym is) ∙ live_found id_of item_of same id es
+
+  -- an identifier that the directory has is a duplicate
+  pub duplicate_refused : (new : List (Entry I)) → new ≡ es → is_none (handle_of id_of id es) ≡ false
+      → (is_live (item_of item).id (items_of item_of es) ≡ true) × (id ≡ (item_of item).id) × (items_of item_of new ≡ items_of item_of es)
+  duplicate_refused new kept there = (live_by ∙ some_of (handle_of id_of id es) there, is ∙ sym (same item), ap (items_of item_of) kept)
+
+  -- a full layer takes no item, and tells first that the identifier is live
+  pub full_refused : most_items ≤ length es → (fault : UpdateFault) → fault ≡ (if is_some (handle_of id_of id es) then faults.Duplicate id else faults.Full)
+      → IsAdd {T = Spent} (items_of item_of es) (item_of item) (items_of item_of es) (Err fault)
+  full_refused full fault told =
+      subst (λ (f : UpdateFault). IsAdd {T = Spent} (items_of item_of es) (item_of item) (items_of item_of es) (Err f)) (sym told) (by_live (is_some (handle_of id_of id es)) live_by)
+    where
+      by_live : (b : Bool) → is_live (item_of item).id (items_of item_of es) ≡ b
+          → IsAdd {T = Spent} (items_of item_of es) (item_of item) (items_of item_of es) (Err (if b then faults.Duplicate id else faults.Full))
+      by_live true live = (live, is ∙ sym (same item), refl)
+      by_live false dead = (dead, omega (arith, full, as_many_items item_of es), refl)

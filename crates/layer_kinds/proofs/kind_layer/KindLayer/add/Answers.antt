@@ -1,5 +1,5 @@
-use Rattle.std.proofs.Common.{rules, ◌≡◌, ◌≤◌, ◌<◌, ◌^◌, ◌+◌, ◌*◌, ◌∙◌, true, false, ◌∷◌, ◌++◌, [], Err, length, ap, sym, subst, refl, arith}
-use Rattle.std.specs.Option.{is_some}
+use Rattle.std.proofs.Common.{rules, ◌≡◌, ◌≤◌, ◌<◌, ◌^◌, ◌+◌, ◌*◌, ◌∙◌, true, false, ◌∷◌, ◌++◌, [], Err, length, ap, sym, subst, arith}
+use Rattle.std.specs.Option.{is_some, is_none}
 use Rattle.std.proofs.lemmas.List.{length-append, map-append}
 use Rattle.id_directory.specs.Directory.{handle_of}
 use Rattle.map_model.specs.State.{is_live}
@@ -9,33 +9,21 @@ use Rattle.layer_kinds.specs.Shares.{count_of, IsShared, insert_turns, insert_ma
 use Rattle.layer_kinds.specs.Costs.{IsInBounds}
 use Rattle.layer_kinds.specs.Layered.{items_of, IsAdd}
 use Rattle.layer_kinds.proofs.WithinBounds.{IsTold-of, greatest-light, refused-cost, added-cost}
-use Rattle.layer_kinds.proofs.Items.{live_found, as_many_items}
+use Rattle.layer_kinds.proofs.Items.{live_found, as_many_items, duplicate_refused, full_refused}
 use Rattle.layer_kinds.proofs.kind_layer.KindLayer.add.Goals as goal
-
-pub returns-then-is_some-clause-added : goal.returns-then-is_some-clause-added
-returns-then-is_some-clause-added g c =
-    let id = g.X.Item.Named.id in
-    let item_of = g.X.Item.Shaped.item_of in
-    let laws = g.met.X.Item.Shaped.same_id in
-    let es = c.args.self.now.entries in
-    let found : is_some (handle_of id (id c.args.item) es) ≡ true = search rules in (
-      ap (λ k. is_live k (items_of item_of es)) (laws c.args.item) ∙ live_found id item_of laws (id c.args.item) es ∙ found,
-      c.id-id.ensures ∙ sym (laws c.args.item),
-      refl,
-    )
 
 pub returns-then-len-ge-MOST_ITEMS-clause-added : goal.returns-then-len-ge-MOST_ITEMS-clause-added
 returns-then-len-ge-MOST_ITEMS-clause-added g c =
-    let id = g.X.Item.Named.id in
-    let item_of = g.X.Item.Shaped.item_of in
-    let laws = g.met.X.Item.Shaped.same_id in
-    let es = c.args.self.now.entries in
-    let none : is_some (handle_of id (id c.args.item) es) ≡ false = search rules in
-    let long : c.len.result ≡ length es = search rules in (
-      ap (λ k. is_live k (items_of item_of es)) (laws c.args.item) ∙ live_found id item_of laws (id c.args.item) es ∙ none,
-      omega (arith, c.if-len-ge-MOST_ITEMS.true, long, as_many_items item_of es),
-      refl,
-    )
+    let long : c.len.result ≡ length c.args.self.now.entries = search rules in
+    full_refused g.X.Item.Named.id g.X.Item.Shaped.item_of g.met.X.Item.Shaped.same_id c.args.item c.args.self.now.entries c.id-id.result c.id-id.ensures
+    (omega (arith, c.if-len-ge-MOST_ITEMS.true, long)) c.fault_when_full.result c.fault_when_full.ensures
+
+pub returns-then-not-branch-clause-added : goal.returns-then-not-branch-clause-added
+returns-then-not-branch-clause-added g c =
+    let kept : c.prepare_add.new.self.entries ≡ c.args.self.now.entries = search rules in
+    let there : is_none (handle_of g.X.Item.Named.id c.id-id.result c.args.self.now.entries) ≡ false = search rules in
+    duplicate_refused g.X.Item.Named.id g.X.Item.Shaped.item_of g.met.X.Item.Shaped.same_id c.args.item c.args.self.now.entries c.id-id.result c.id-id.ensures
+    c.prepare_add.new.self.entries kept there
 
 pub returns-in_err-prepare_add-clause-added : goal.returns-in_err-prepare_add-clause-added
 returns-in_err-prepare_add-clause-added g c =
