@@ -1,6 +1,9 @@
 // Made scripts, beside numbers that another program has from a plain map.
 use super::patterns::are_answers;
 use super::*;
+use map_session::{MapSession, answer_lines};
+use query_laws::step_ledger::Steps;
+use workload_gen::Workload;
 
 /// Words, and what is written.
 const MADE: [(&[&str], &str); 4] = [
@@ -50,5 +53,33 @@ fn a_made_script_is_the_same_again(rt: HostRuntime) -> Result<(), Fail> {
     let cut = run_words(rt.alloc(), words, b"", WHOLE, WHOLE, 5)?;
     assert_eq!(rt; cut.ended.status, Status::WriteFault);
     assert_eq!(rt; cut.written.as_slice(), b"comma".as_slice());
+    Ok(())
+}
+
+/// The lines of a made script.
+fn made_lines(alloc: Global, seed: u64, rounds: u32) -> Result<Vec<u8>, Fail> {
+    let mut script = Vec::new(alloc);
+    for command in Workload::new(seed, rounds) {
+        script.extend_from_slice(&command.line(alloc)?)?;
+        script.push(b'\n')?;
+    }
+    Ok(script)
+}
+
+// The session answers the whole text at once, which reads nothing.
+#[test]
+fn a_script_is_answered_alike_in_any_pieces(rt: HostRuntime) -> Result<(), Fail> {
+    let alloc = rt.alloc();
+    let script = made_lines(alloc, 3, 200)?;
+    let mut session = MapSession::new(alloc, true);
+    let mut sink = MemSink::new(vec![in alloc; 0u8; 65_536]?, 4_096, Vec::new(alloc));
+    let mut steps = Steps::<Brand>::new(blank());
+    assert!(rt; script.len() < 65_536);
+    assert!(rt; answer_lines(&mut session, &script, &mut sink, &mut steps).is_ok());
+    for piece in 1..=64 {
+        let reads = Plan { piece, failing: 0 };
+        let ran = run_words(alloc, &["--ledger"], &script, reads, WHOLE, 65_536)?;
+        assert_eq!(rt; ran.written.as_slice(), sink.written());
+    }
     Ok(())
 }
