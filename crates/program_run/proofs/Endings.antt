@@ -9,8 +9,8 @@ use Rattle.map_session.proofs.Lines.{stopped_rose}
 use Rattle.program_words.specs.declared.job.Job.TheVariants.{Script, Made}
 use Rattle.program_words.specs.declared.job.WordsFault.TheVariants as faults
 use Rattle.query_laws.specs.StepLedger.{Counts}
-use Rattle.program_run.specs.declared.run.Status.{Status}
-use Rattle.program_run.specs.declared.run.Status.TheVariants.{Clean, Refusals, Usage, ReadFault, WriteFault, TooLong, NoMemory}
+use Rattle.program_run.specs.declared.ended.Status.{Status}
+use Rattle.program_run.specs.declared.ended.Status.TheVariants.{Clean, Refusals, Usage, ReadFault, WriteFault, TooLong, NoMemory}
 use Rattle.program_run.specs.Run.{script_limit, AnswersScript, AsksForScript, HasRun}
 
 -- ---- where nothing fails

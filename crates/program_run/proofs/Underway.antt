@@ -7,7 +7,7 @@ use Rattle.map_model.specs.Text.{lines, whole_lines}
 use Rattle.map_session.specs.Answering.{Moment, IsAnswered, IsStoppedBehind, IsUnderway}
 use Rattle.map_session.proofs.Lines.{stopped_behind_in_text}
 use Rattle.map_session.proofs.Underway.{underway_at_first, more_lines, stopped_earlier}
-use Rattle.program_run.specs.declared.run.Status.TheVariants.{Clean, Refusals, ReadFault, WriteFault, TooLong}
+use Rattle.program_run.specs.declared.ended.Status.TheVariants.{Clean, Refusals, ReadFault, WriteFault, TooLong}
 use Rattle.program_run.specs.Run.{script_limit, but_last_piece, AnswersScript, IsReading}
 
 pub reading_at_first : (rest : Option (List ℕ)) (start : Moment) → IsReading rest start 0 rest [] start

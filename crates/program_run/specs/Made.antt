@@ -7,8 +7,8 @@ use Rattle.map_session.specs.Session.{map_in, Obeys}
 use Rattle.map_session.specs.Answering.{Moment}
 use Rattle.workload_gen.specs.Made.{made, made_script}
 use Rattle.workload_gen.specs.Summary.{summary_of, summary_text}
-use Rattle.program_run.specs.declared.run.Status.{Status}
-use Rattle.program_run.specs.declared.run.Status.TheVariants.{Clean, Refusals, Usage, ReadFault, WriteFault, TooLong, NoMemory}
+use Rattle.program_run.specs.declared.ended.Status.{Status}
+use Rattle.program_run.specs.declared.ended.Status.TheVariants.{Clean, Refusals, Usage, ReadFault, WriteFault, TooLong, NoMemory}
 
 -- how many items the layer of made scripts has
 abbrev pub live_in : Option Layer → ℕ

@@ -12,8 +12,8 @@ use Rattle.program_words.specs.declared.job.WordsFault.{WordsFault}
 use Rattle.program_words.specs.declared.job.WordsFault.TheVariants as faults
 use Rattle.program_words.specs.Words.{AsksFor, Reads}
 use Rattle.program_run.specs.Made.{AnswersMade}
-use Rattle.program_run.specs.declared.run.Status.{Status}
-use Rattle.program_run.specs.declared.run.Status.TheVariants.{Clean, Refusals, Usage, ReadFault, WriteFault, TooLong, NoMemory}
+use Rattle.program_run.specs.declared.ended.Status.{Status}
+use Rattle.program_run.specs.declared.ended.Status.TheVariants.{Clean, Refusals, Usage, ReadFault, WriteFault, TooLong, NoMemory}
 
 -- a script has at most 64 MiB
 abbrev pub script_limit : ℕ

@@ -2,13 +2,13 @@
 //! that it ends with.
 #![tactic(auto)]
 
-mod end;
+mod ended;
+mod exit;
 mod making;
 mod reading;
-mod run;
 
-pub use end::{arguments, end};
-pub use run::{Ended, Status, run};
+pub use ended::{Ended, Status, run};
+pub use exit::{arguments, end};
 
 #[cfg(test)]
 mod tests;

@@ -7,7 +7,7 @@ mod made;
 mod patterns;
 mod town;
 
-use crate::end::{exit_code, exit_code_without_arguments, run_once, words_of};
+use crate::exit::{exit_code, exit_code_without_arguments, run_once, words_of};
 use crate::{Ended, Status};
 use map_io::{MemSink, MemSource};
 use query_laws::step_ledger::blank;

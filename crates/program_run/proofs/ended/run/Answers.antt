@@ -3,7 +3,7 @@ use Rattle.std.specs.String.{string_bytes}
 use Rattle.map_session.specs.Answering.{Moment, moment}
 use Rattle.program_run.specs.Run.{HasRun}
 use Rattle.program_run.proofs.Endings.{complete_run, limited_run}
-use Rattle.program_run.proofs.run.run.Goals as goal
+use Rattle.program_run.proofs.ended.run.Goals as goal
 
 pub returns-clause-ended : goal.returns-clause-ended
 returns-clause-ended g c = (c.read_words-job.result, c.read_words-job.ensures, c.run_job.ensures.ended)
