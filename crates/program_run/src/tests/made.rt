@@ -1,8 +1,11 @@
 // Made scripts, beside numbers that another program has from a plain map.
+ghost use Rattle.std.specs.Prelude.{◌≡◌, ◌<◌, length};
+
 use super::patterns::are_answers;
 use super::*;
 use map_session::{MapSession, answer_lines};
-use query_laws::step_ledger::Steps;
+use query_laws::step_ledger::{SHARES, Steps};
+use std::sync::ledger::{Blank, Ledger};
 use workload_gen::Workload;
 
 /// Words, and what is written.
@@ -66,20 +69,33 @@ fn made_lines(alloc: Global, seed: u64, rounds: u32) -> Result<Vec<u8>, Fail> {
     Ok(script)
 }
 
-// The session answers the whole text at once, which reads nothing.
+/// What the session itself answers to a whole text, which reads nothing, with the ledger.
+fn answers_to_whole<L: Ledger>(alloc: Global, script: &[u8], blank: Blank) -> Result<Vec<u8>, Fail>
+    requires name { blank.name ≡ L.name }
+    requires parts { blank.parts ≡ L.parts }
+    requires shares { blank.parts ≡ SHARES }
+    requires short { length script.now < 65536 }
+{
+    let mut session = MapSession::new(alloc, true);
+    let mut sink = MemSink::new(vec![in alloc; 0u8; 65_536]?, 4_096, Vec::new(alloc));
+    let mut steps = Steps::<L>::new(blank);
+    if answer_lines(&mut session, script, &mut sink, &mut steps).is_err() {
+        return Ok(Vec::new(alloc));
+    }
+    Ok(Vec::from_slice(alloc, sink.written())?)
+}
+
 #[test]
 fn a_script_is_answered_alike_in_any_pieces(rt: HostRuntime) -> Result<(), Fail> {
     let alloc = rt.alloc();
     let script = made_lines(alloc, 3, 200)?;
-    let mut session = MapSession::new(alloc, true);
-    let mut sink = MemSink::new(vec![in alloc; 0u8; 65_536]?, 4_096, Vec::new(alloc));
-    let mut steps = Steps::<Brand>::new(blank());
     assert!(rt; script.len() < 65_536);
-    assert!(rt; answer_lines(&mut session, &script, &mut sink, &mut steps).is_ok());
+    let wanted = answers_to_whole::<Brand>(alloc, &script, blank())?;
+    assert!(rt; wanted.starts_with(b"ok\nok turns "));
     for piece in 1..=64 {
         let reads = Plan { piece, failing: 0 };
         let ran = run_words(alloc, &["--ledger"], &script, reads, WHOLE, 65_536)?;
-        assert_eq!(rt; ran.written.as_slice(), sink.written());
+        assert_eq!(rt; ran.written, wanted);
     }
     Ok(())
 }
