@@ -5,23 +5,20 @@ mod words;
 
 ghost use Rattle.std.specs.Prelude.{◌≡◌};
 
-use crate::words::{Job, KindName, Work, command, job_of};
+use crate::words::{Job, KINDS, KindName, LAYERS, Work, command, job_of};
 use interval_stab::StabRows;
 use kd_nearest::KdRows;
 use priority_search::TopRows;
 use query_laws::step_ledger::{SHARES, blank};
 use range_tree::RangeRows;
-use samples::{Failure, PlainMap};
+use samples::{Failure, PlainMap, Spread};
 use std::env;
 use std::marker::Brand;
 use std::process::ExitCode;
 use std::rt::Files;
 use std::sync::ledger::{Blank, Ledger};
 use std::time::Clock;
-use trials::{
-    Bench, Layer, Plan, check_examples, check_kind, check_made_script, measure_layer,
-    measure_script, measure_text,
-};
+use trials::{Bench, Layer, Plan, check_examples, check_made_script, measure_script, try_layer};
 
 /// The exit status where a comparison differs. Other failures have 1, and wrong words 2.
 const DIFFERS: u8 = 3;
@@ -80,44 +77,48 @@ fn run_job<R: Clock + Files + AllocGlobal + Clone + Drop, L: Ledger>(
     let Job { seed, size, .. } = *job;
     match job.work {
         Work::Layer(layer, kind, spread) => {
-            measure_kind(bench, kind, layer, Plan::measured(seed, size, spread))
+            try_kind(bench, kind, layer, Plan { seed, spread, size })
         }
-        Work::Text => measure_text(bench, seed, size),
         Work::Script(path) => measure_script(bench, path),
         Work::Check(examples) => {
-            check_kinds(bench, seed, size)?;
-            check_made_script(bench, &mut PlainMap::new(bench.alloc), seed, MADE_LINES)?;
-            measure_text(bench, seed, size)?;
-            examples.map_or(Ok(()), |folder| check_examples(bench, folder))
+            let spread = Spread::Dense;
+            check_kinds(bench, Plan { seed, spread, size })?;
+            let mut map = PlainMap::new(bench.alloc);
+            check_made_script(bench, &mut map, seed, MADE_LINES)?;
+            match examples {
+                Some(folder) => check_examples(bench, folder),
+                None => Ok(()),
+            }
         }
     }
 }
 
-/// Measures a layer of a kind by a plan.
-fn measure_kind<R: Clock + Files + AllocGlobal, L: Ledger>(
+/// Tries each layer of each kind by a plan.
+fn check_kinds<R: Clock + Files + AllocGlobal, L: Ledger>(
+    bench: &mut Bench<R, L>,
+    plan: Plan,
+) -> Result<(), Failure> {
+    for (_, kind) in KINDS {
+        for (_, layer) in LAYERS {
+            try_kind(bench, kind, layer, plan)?;
+        }
+    }
+    Ok(())
+}
+
+/// Tries a layer of a kind by a plan.
+fn try_kind<R: Clock + Files + AllocGlobal, L: Ledger>(
     bench: &mut Bench<R, L>,
     kind: KindName,
     layer: Layer,
     plan: Plan,
 ) -> Result<(), Failure> {
     match kind {
-        KindName::Range => measure_layer::<RangeRows, R, L>(bench, layer, plan),
-        KindName::Near => measure_layer::<KdRows, R, L>(bench, layer, plan),
-        KindName::Top => measure_layer::<TopRows, R, L>(bench, layer, plan),
-        KindName::Stab => measure_layer::<StabRows, R, L>(bench, layer, plan),
+        KindName::Range => try_layer::<RangeRows, R, L>(bench, layer, plan),
+        KindName::Near => try_layer::<KdRows, R, L>(bench, layer, plan),
+        KindName::Top => try_layer::<TopRows, R, L>(bench, layer, plan),
+        KindName::Stab => try_layer::<StabRows, R, L>(bench, layer, plan),
     }
-}
-
-/// Compares layers of each kind with plain lists, of up to so many items.
-fn check_kinds<R: Clock + Files + AllocGlobal, L: Ledger>(
-    bench: &mut Bench<R, L>,
-    seed: u64,
-    most: usize,
-) -> Result<(), Failure> {
-    check_kind::<RangeRows, R, L>(bench, seed, most)?;
-    check_kind::<KdRows, R, L>(bench, seed, most)?;
-    check_kind::<TopRows, R, L>(bench, seed, most)?;
-    check_kind::<StabRows, R, L>(bench, seed, most)
 }
 
 #[cfg(test)]

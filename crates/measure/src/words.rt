@@ -4,18 +4,18 @@ use samples::Spread;
 use std::alloc::{AllocError, Global};
 use trials::Layer;
 
-/// The most items or lines: 2^20.
+/// The most items: 2^20.
 const MOST: i64 = 1_048_576;
 
 /// Each layer, after its word.
-const LAYERS: [(&str, Layer); 3] = [
+pub const LAYERS: [(&str, Layer); 3] = [
     ("part", Layer::Part),
     ("stack", Layer::Stack),
     ("index", Layer::Index),
 ];
 
 /// Each kind of part, after its word.
-const KINDS: [(&str, KindName); 4] = [
+pub const KINDS: [(&str, KindName); 4] = [
     ("range", KindName::Range),
     ("near", KindName::Near),
     ("top", KindName::Top),
@@ -46,15 +46,13 @@ pub enum KindName {
 pub enum Work<'a> {
     /// What a layer costs, of so many items of a kind.
     Layer(Layer, KindName, Spread),
-    /// What reading so many lines and writing so many replies costs.
-    Text,
     /// What the commands of a script cost.
     Script(&'a str),
-    /// Parts, stacks and indexes of each kind, sessions, text, and the scripts of a folder beside their answers.
+    /// Parts, stacks and indexes of each kind, sessions, and the scripts of a folder beside their answers.
     Check(Option<&'a str>),
 }
 
-/// The work, the seed of all random numbers, how many items or lines there are, and whether times are told.
+/// The work, the seed of all random numbers, how many items there are, and whether times are told.
 #[derive(Clone, Copy, Debug, PartialEq, Eq)]
 pub struct Job<'a> {
     pub work: Work<'a>,
@@ -68,14 +66,13 @@ pub fn command<'a>(alloc: Global) -> Result<Command<'a>, AllocError> {
     let file = arg!(in alloc; <file> "The script");
     let examples = arg!(in alloc; --examples <FOLDER> "Compare each NAME.livemap with NAME.out");
     let script = subcommand(alloc, "script", "Tell of a script's commands")?.arg(file)?;
-    let check = subcommand(alloc, "check", "Compare with plain lists and std")?.arg(examples)?;
+    let check = subcommand(alloc, "check", "Compare with plain lists")?.arg(examples)?;
     Command::new(alloc, "measure")
         .about("Measures the parts of Livemap and checks them")
         .subcommand_required(true)
         .subcommand(for_layers(alloc, "part", "Try one part")?)?
         .subcommand(for_layers(alloc, "stack", "Try a stack of parts")?)?
         .subcommand(for_layers(alloc, "index", "Try an index of parts")?)?
-        .subcommand(subcommand(alloc, "text", "Read and write lines")?)?
         .subcommand(script)?
         .subcommand(check)
 }
@@ -96,7 +93,7 @@ fn subcommand<'a>(alloc: Global, name: &'a str, about: &'a str) -> Result<Comman
     let seed = arg!(in alloc; --seed <SEED> "The seed of all random numbers")
         .value_parser(value_parser!(u64))
         .default_value("1");
-    let size = arg!(in alloc; --size <SIZE> "The number of items or lines")
+    let size = arg!(in alloc; --size <SIZE> "The number of items")
         .value_parser(value_parser!(u32).range(0..=MOST))
         .default_value("257");
     Command::new(alloc, name)
@@ -110,7 +107,6 @@ fn subcommand<'a>(alloc: Global, name: &'a str, about: &'a str) -> Result<Comman
 pub fn job_of<'a>(matches: &ArgMatches<'a>) -> Option<Job<'a>> {
     let (word, matches) = matches.subcommand()?;
     let work = match word {
-        "text" => Work::Text,
         "script" => Work::Script(matches.get_str("file")?),
         "check" => Work::Check(matches.get_str("examples")),
         layer => Work::Layer(

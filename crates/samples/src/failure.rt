@@ -1,7 +1,7 @@
 //! Why a trial ends early.
 use map_io::WriteFault;
 use query_laws::NoMemory;
-use std::alloc::{AllocError, AllocFailed, Global};
+use std::alloc::{AllocError, AllocFailed};
 use std::io;
 use thiserror::Error;
 
@@ -32,13 +32,4 @@ impl<T: Drop> From<AllocFailed<T>> for Failure {
     fn from(_refused: AllocFailed<T>) -> Failure {
         Failure::NoMemory(NoMemory)
     }
-}
-
-/// Compares numbers that are found with those that are wanted, and where they differ tells of what they are.
-pub fn expect_same(alloc: Global, of: &str, found: &[u64], wanted: &[u64]) -> Result<(), Failure> {
-    if found == wanted {
-        return Ok(());
-    }
-    let text = format!(in alloc; "{of}: {found:?}, and {wanted:?} by the plain way")?;
-    Err(Failure::Differs(text))
 }

@@ -3,20 +3,15 @@
 
 mod costs;
 mod failure;
-mod plain_layer;
 mod plain_map;
-mod report;
-mod scanned;
+mod questions;
+mod seeded;
 mod spread;
 
 pub use costs::Costs;
-pub use failure::{Failure, expect_same};
-pub use plain_layer::{Exchange, PlainLayer};
-pub use plain_map::PlainMap;
-pub use report::Report;
-pub use scanned::Scanned;
+pub use failure::Failure;
+pub use plain_map::{Exchange, PlainMap};
+pub use questions::{drawn_question, numbers};
+pub use seeded::Seeded;
 pub use spread::Spread;
 pub use workload_gen::Generator;
-
-#[cfg(test)]
-mod tests;

@@ -1,26 +1,23 @@
-//! Where seeded items lie.
+//! Where seeded items lie, and where they are asked for.
 ghost use Rattle.std.specs.Prelude.{◌≤◌, ◌<◌, ◌^◌};
 
-use map_shapes::{Point, Rect, Segment};
+use map_shapes::Rect;
 use workload_gen::Generator;
 
 /// Coordinates are below this, as in made scripts.
-const SIDE: u32 = 1_048_576;
+pub const SIDE: u32 = 1_048_576;
 
 /// Coordinates are below this where many are equal.
 const FEW: u32 = 16;
 
-/// How wide and high a region is, and how long a segment at most: some 6 % of the side, as in made scripts.
-const EXTENT: u32 = 65_535;
-
 /// A square with this side has one hundredth of the area.
 const TENTH: u32 = SIDE / 10;
 
-/// The place that all segments contain where they span one.
-const MIDDLE: u32 = SIDE / 2;
+/// Segments are at most so long, and sixteen times as long where they begin in the last sixteenth of the side.
+const LENGTH: u32 = 2_000;
 
-/// Weights are below this.
-const WEIGHTS: u32 = 1024;
+/// The last sixteenth of the side begins here.
+const LAST: u32 = SIDE / 16 * 15;
 
 /// Where seeded items lie.
 #[derive(Clone, Copy, Debug, PartialEq, Eq)]
@@ -29,7 +26,7 @@ pub enum Spread {
     Dense,
     /// Anywhere in a square.
     Square,
-    /// In one column: all have one abscissa.
+    /// In one column: all points have one abscissa, all segments one lower end.
     Column,
     /// In one row: all have one ordinate.
     Row,
@@ -37,7 +34,7 @@ pub enum Spread {
     Cluster,
     /// On the diagonal of a square.
     Diagonal,
-    /// Anywhere in a square; but all segments contain one place.
+    /// Anywhere in a square; but one hundredth of the segments spans it, on average.
     Spanning,
 }
 
@@ -62,44 +59,52 @@ impl Spread {
         }
     }
 
-    /// A region whose lower corner is a place where an item may lie. Where items lie densely, its extent is drawn first.
-    pub fn rect(self, generator: &mut Generator) -> Rect {
+    /// A square whose lower corner is a place where an item may lie, with so many thousandths of the side. Where items lie densely its
+    /// extent is drawn.
+    pub fn square(self, generator: &mut Generator, thousandths: u32) -> Rect {
         let extent = match self {
             Spread::Dense => generator.below(FEW),
-            _ => EXTENT,
+            _ => (SIDE / 1_000).saturating_mul(thousandths).min(SIDE),
         };
         let (x1, y1) = self.place(generator);
         let (x2, y2) = (x1 + extent, y1 + extent);
         Rect { x1, y1, x2, y2 }
     }
 
-    /// A point with the identifier that belongs to a stamp: a place, and a draw for its weight.
-    pub fn point(self, generator: &mut Generator, stamp: u64) -> Point {
-        let (x, y) = self.place(generator);
-        let (id, w) = (Spread::id(stamp), generator.below(WEIGHTS));
-        Point { id, x, y, w, stamp }
+    /// A length that a segment which begins at `x` may have.
+    pub fn length(self, generator: &mut Generator, x: u32) -> u32
+        ensures { result < 2 ^ 20 }
+    {
+        generator.below(match self {
+            Spread::Dense => FEW,
+            _ if x < LAST => LENGTH,
+            _ => 16 * LENGTH,
+        })
     }
 
-    /// A segment with the identifier that belongs to a stamp: a place, and a draw for its length.
-    pub fn segment(self, generator: &mut Generator, stamp: u64) -> Segment {
-        let id = Spread::id(stamp);
-        let (x, y) = self.place(generator);
-        let (lo, hi) = match self {
-            Spread::Dense => (x, x + generator.below(FEW)),
-            Spread::Spanning => (x / 2, MIDDLE + generator.below(MIDDLE)),
-            _ => (x, x + generator.below(EXTENT + 1)),
+    /// A height that some `hits` points reach in a strip of 6 % of the side which ends at `x2`, of 65,536. In a row all reach it.
+    pub fn height(self, x2: u32, hits: u32) -> u32
+        ensures { result < 2 ^ 31 }
+    {
+        let (top, each) = match self {
+            Spread::Dense => (FEW, 1),
+            Spread::Column => (SIDE, 16),
+            Spread::Row => (0, 0),
+            Spread::Diagonal => (x2.min(SIDE), 16),
+            _ => (SIDE, 267),
         };
-        Segment {
-            id,
-            lo,
-            hi,
-            y,
-            stamp,
-        }
+        top.saturating_sub(each * hits.min(SIDE))
     }
 
-    /// The identifier that belongs to a stamp, and to no other: identifiers are in another order than stamps.
-    pub fn id(stamp: u64) -> u64 {
-        stamp.reverse_bits()
+    /// A place under some `hits` segments of 65,536, which are few or 1,000, beside those that span the square.
+    pub fn stabbed(self, generator: &mut Generator, hits: u32) -> u32
+        ensures { result < 2 ^ 31 }
+    {
+        match self {
+            Spread::Dense => generator.below(2 * FEW),
+            Spread::Column => (LENGTH - 1).saturating_sub(hits / 33),
+            _ if hits < 1_000 => generator.below(LAST),
+            _ => SIDE - 1 - generator.below(SIDE - LAST - 16 * LENGTH),
+        }
     }
 }

@@ -2,7 +2,7 @@
 ghost use Rattle.std.specs.Prelude.{◌≡◌};
 
 use query_laws::step_ledger::{SHARES, Steps};
-use samples::{Costs, Failure, Report};
+use samples::{Costs, Failure};
 use std::alloc::{AllocError, Global};
 use std::sync::ledger::{Blank, Ledger};
 use std::time::{Clock, Instant};
@@ -15,7 +15,8 @@ pub struct Bench<'a, R: Clock, L: Ledger> {
     pub alloc: Global,
     pub is_timed: bool,
     pub steps: Steps<L>,
-    pub report: Report,
+    /// What is told, line by line.
+    pub report: String,
     /// How many updates, answers and refusals of memory trials saw since it was told last, each modulo 2^64.
     pub updates: u64,
     pub answers: u64,
@@ -33,7 +34,7 @@ impl<'a, R: Clock, L: Ledger> Bench<'a, R, L> {
             alloc,
             is_timed,
             steps: Steps::new(blank),
-            report: Report::new(alloc),
+            report: String::new(alloc),
             updates: 0,
             answers: 0,
             refused: 0,
@@ -66,10 +67,12 @@ impl<'a, R: Clock, L: Ledger> Bench<'a, R, L> {
     }
 
     /// Tells what was seen, and begins anew.
-    pub fn tell_seen(&mut self, word: &str) -> Result<(), AllocError> {
-        let updates = ("updates", mem::take(&mut self.updates));
-        let answers = ("answers", mem::take(&mut self.answers));
-        let refused = ("refused", mem::take(&mut self.refused));
-        self.report.tell(word, &[updates, answers, refused])
+    pub fn tell_seen(&mut self, words: &str) -> Result<(), AllocError> {
+        let (updates, answers) = (mem::take(&mut self.updates), mem::take(&mut self.answers));
+        let refused = mem::take(&mut self.refused);
+        writeln!(
+            self.report,
+            "{words} updates {updates} answers {answers} refused {refused}"
+        )
     }
 }

@@ -39,7 +39,7 @@ impl<B: Builder> Model for Indexed<B> {
 impl<B: Builder> Tried<B> for Indexed<B> {
     const WORD: &'static str = "index";
 
-    const UPDATES: usize = 180_000;
+    const UPDATES: (&'static str, usize) = ("update", 180_000);
 
     const DELETES: u32 = 4;
 
@@ -72,23 +72,19 @@ impl<B: Builder> Tried<B> for Indexed<B> {
         Ok(())
     }
 
-    fn places(&self) -> usize {
-        self.handles.len()
-    }
-
     /// The last handle comes to the place of the item's, except at the front.
     fn delete<L: Ledger>(
         &mut self,
-        place: usize,
+        drawn: usize,
         steps: &mut Steps<L>,
     ) -> Result<Option<B::Item>, Failure> {
         self.index.prepare(&self.chain, steps)?;
-        if place >= self.handles.len() {
+        if self.handles.is_empty() {
             return Ok(None);
         }
-        let handle = match place {
+        let handle = match drawn % self.handles.len() {
             0 => self.handles.remove(0),
-            _ => self.handles.swap_remove(place),
+            place => self.handles.swap_remove(place),
         };
         if !self.chain.has(handle) {
             return Ok(None);
@@ -97,20 +93,19 @@ impl<B: Builder> Tried<B> for Indexed<B> {
         Ok(Some(self.chain.unlink(handle)))
     }
 
-    fn live(&self) -> u64 {
-        self.index.live()
-    }
-
-    fn put<Q: Question<Item = B::Item>, L: Ledger>(
+    fn answer<Q: Question<Item = B::Item>, L: Ledger>(
         &self,
-        asking: &mut Asking<B::Part, Q>,
+        alloc: Global,
+        question: &Q,
         steps: &mut Steps<L>,
-    ) -> Result<(), NoMemory>
+    ) -> Result<Q::Answer, NoMemory>
     where
         B::Part: Answers<Q>,
     {
+        let mut asking = Asking::<B::Part, Q>::new(alloc, question);
         // It says that the parts can be counted.
         self.index.parts();
-        self.index.ask::<Q, L>(asking, steps)
+        self.index.ask::<Q, L>(&mut asking, steps)?;
+        Ok(asking.finish()?.into_answer())
     }
 }

@@ -1,17 +1,20 @@
-//! A part whose items are marked.
-ghost use Rattle.std.specs.Prelude.{◌≡◌, ◌<◌, IfSome};
-ghost use Rattle.builder_trait.specs.Parts.{OwnsStamp};
+//! A part that is built at once, and whose items are marked.
+ghost use Rattle.std.specs.Prelude.{◌≡◌, ◌<◌, ◌≤◌, ◌^◌, true, false, IfOk, OnOk, IsTrue, length};
+ghost use Rattle.std.specs.List.Sorted.{IsPermutation};
+ghost use Rattle.builder_trait.specs.Builders.{begun};
+ghost use Rattle.trials.specs.Filling.{comes_after};
 
-use crate::building::built;
 use crate::tried::Tried;
 use builder_trait::{Answers, Asking, Builder, Part};
 use query_laws::step_ledger::Steps;
 use query_laws::{Item, NoMemory, Order, Question};
 use samples::Failure;
-use std::alloc::Global;
+use std::alloc::{AllocError, Global};
+use std::cmp::Ordering;
+use std::marker::Model;
 use std::sync::ledger::Ledger;
 
-/// Items, and once they are all there the part that is built of them.
+/// Items in order of insert, and once they are all there the part that is built of them.
 #[derive(Drop)]
 pub struct Marked<B: Builder> {
     alloc: Global,
@@ -19,26 +22,21 @@ pub struct Marked<B: Builder> {
     part: Option<B::Part>,
 }
 
-/// The item at a place of a part, if no other has its stamp.
-fn own_item<P: Part, L: Ledger>(part: &P, place: usize, steps: &mut Steps<L>) -> Option<P::Item>
-    ensures { IfSome result (λ item. OwnsStamp P.Item.stamp item (P.contents part.now).items) }
-{
-    if place >= part.len() {
-        return None;
-    }
-    let item = part.item(Order::First, place, steps);
-    for other in 0..part.len() {
-        if other != place && part.item(Order::First, other, steps).stamp() == item.stamp() {
-            return None;
-        }
-    }
-    Some(item)
+impl<B: Builder> Model for Marked<B> {
+    ghost use Rattle.std.specs.Prelude.{List};
+    ghost use Rattle.trials.specs.Marked.{IsMarked};
+
+    ghost Value = { List B.Item };
+
+    ghost view = { λ m. m.items.items };
+
+    ghost invariant = { λ m. IsMarked B.Part.Part.contents B.Item.stamp m.part m.items.items };
 }
 
 impl<B: Builder> Tried<B> for Marked<B> {
     const WORD: &'static str = "part";
 
-    const UPDATES: usize = 256;
+    const UPDATES: (&'static str, usize) = ("mark", 256);
 
     /// A part takes no items once it is built.
     const DELETES: u32 = 8;
@@ -52,8 +50,10 @@ impl<B: Builder> Tried<B> for Marked<B> {
     }
 
     fn insert<L: Ledger>(&mut self, item: B::Item, _steps: &mut Steps<L>) -> Result<(), Failure> {
-        self.items.push(item)?;
-        Ok(())
+        if self.part.is_some() || item.stamp() != self.items.len() as u64 {
+            return Err(Failure::Unfit);
+        }
+        Ok(self.items.push(item)?)
     }
 
     /// Builds the part.
@@ -62,42 +62,143 @@ impl<B: Builder> Tried<B> for Marked<B> {
         Ok(())
     }
 
-    fn places(&self) -> usize {
-        self.items.len()
-    }
-
     /// Marks the item, which may be marked already.
     fn delete<L: Ledger>(
         &mut self,
-        place: usize,
+        drawn: usize,
         steps: &mut Steps<L>,
     ) -> Result<Option<B::Item>, Failure> {
         let Some(part) = &mut self.part else {
             return Ok(None);
         };
-        let item = own_item(part, place, steps).ok_or(Failure::Unfit)?;
-        let was_live = part.mark(&item, steps);
-        Ok(was_live.then_some(item))
-    }
-
-    fn live(&self) -> u64 {
-        match &self.part {
-            Some(part) => part.live() as u64,
-            None => self.items.len() as u64,
+        if self.items.is_empty() {
+            return Ok(None);
         }
+        let item = self.items[drawn % self.items.len()];
+        Ok(part.mark(&item, steps).then_some(item))
     }
 
-    fn put<Q: Question<Item = B::Item>, L: Ledger>(
+    fn answer<Q: Question<Item = B::Item>, L: Ledger>(
         &self,
-        asking: &mut Asking<B::Part, Q>,
+        alloc: Global,
+        question: &Q,
         steps: &mut Steps<L>,
-    ) -> Result<(), NoMemory>
+    ) -> Result<Q::Answer, NoMemory>
     where
         B::Part: Answers<Q>,
     {
-        match &self.part {
-            Some(part) => asking.part(part, steps),
-            None => Ok(()),
+        let mut asking = Asking::<B::Part, Q>::new(alloc, question);
+        if let Some(part) = &self.part {
+            asking.part(part, steps)?;
+        }
+        Ok(asking.finish()?.into_answer())
+    }
+}
+
+/// The part of all items, which may come in any order.
+fn built<B: Builder, L: Ledger>(
+    alloc: Global,
+    items: &[B::Item],
+    steps: &mut Steps<L>,
+) -> Result<B::Part, Failure>
+    ensures { IfOk result (λ part. IsPermutation items.now (B.Part.Part.contents part).items) }
+{
+    let mut items = Vec::from_slice(alloc, items)?;
+    items.sort_unstable_by(|a, b| compare(Order::First, a, b));
+    let places = reordered(alloc, &items)?;
+    if places.len() != items.len() {
+        return Err(Failure::Unfit);
+    }
+    let mut builder = room_for::<B>(alloc, items.len())?;
+    put_in_first(&mut builder, &items, steps)?;
+    put_in_second(&mut builder, &items, &places, steps)?;
+    builder.seal();
+    let left = builder.left();
+    builder.turns(left, steps);
+    Ok(builder.finish())
+}
+
+/// The places of sorted items, in the second order.
+fn reordered<I: Item>(alloc: Global, items: &[I]) -> Result<Vec<usize>, AllocError> {
+    let entries = items.iter().enumerate();
+    let mut entries: Vec<(usize, I)> = entries.map(|(place, item)| (place, *item)).collect(alloc)?;
+    entries.sort_unstable_by(|a, b| compare(Order::Second, &a.1, &b.1));
+    entries.iter().map(|entry| entry.0).collect(alloc)
+}
+
+/// How two items stand in an order.
+fn compare<I: Item>(order: Order, a: &I, b: &I) -> Ordering {
+    b.before(order, a).cmp(&a.before(order, b))
+}
+
+/// Whether an item may be put after the last one that was put in an order.
+fn is_after<I: Item>(order: Order, last: Option<I>, item: &I) -> bool
+    ensures { result ≡ comes_after (I.before order) last item.now }
+{
+    match last {
+        Some(last) => last.before(order, item),
+        None => true,
+    }
+}
+
+/// A builder of the least level with room for so many items.
+///
+/// `Unfit` where no builder has it.
+fn room_for<B: Builder>(alloc: Global, n: usize) -> Result<B, Failure>
+    ensures begun { IfOk result (λ builder. B.progress builder ≡ begun (B.progress builder).at_level) }
+    ensures room { IfOk result (λ builder. n ≤ 2 ^ (B.progress builder).at_level) }
+{
+    for level in 0..32 {
+        if n <= 1 << level {
+            return Ok(B::room(alloc, level)?);
         }
     }
+    Err(Failure::Unfit)
+}
+
+/// Puts sorted items in the first order.
+fn put_in_first<B: Builder, L: Ledger>(
+    builder: &mut B,
+    items: &[B::Item],
+    steps: &mut Steps<L>,
+) -> Result<(), Failure>
+    requires begun { B.progress builder.old ≡ begun (B.progress builder.old).at_level }
+    requires room { length items.now ≤ 2 ^ (B.progress builder.old).at_level }
+    ensures put { OnOk result (B.progress builder.new ≡ record (B.progress builder.old) { items = items.now }) }
+{
+    let mut last = None;
+    for (place, item) in items.iter().enumerate() {
+        if !is_after(Order::First, last, item) {
+            return Err(Failure::Unfit);
+        }
+        builder.put(Order::First, *item, place, steps);
+        last = Some(*item);
+    }
+    Ok(())
+}
+
+/// Puts the items at some places in the second order.
+fn put_in_second<B: Builder, L: Ledger>(
+    builder: &mut B,
+    items: &[B::Item],
+    places: &[usize],
+    steps: &mut Steps<L>,
+) -> Result<(), Failure>
+    requires begun { B.progress builder.old ≡ record (begun (B.progress builder.old).at_level) { items = items.now } }
+    ensures open { OnOk result ((B.progress builder.new).is_sealed ≡ false) }
+    ensures same { OnOk result ((B.progress builder.new).items ≡ items.now) }
+    ensures count { OnOk result (length (B.progress builder.new).reordered ≡ length places.now) }
+{
+    let mut last = None;
+    for place in places {
+        let Some(item) = items.get(*place) else {
+            return Err(Failure::Unfit);
+        };
+        if !is_after(Order::Second, last, item) {
+            return Err(Failure::Unfit);
+        }
+        builder.put(Order::Second, *item, *place, steps);
+        last = Some(*item);
+    }
+    Ok(())
 }

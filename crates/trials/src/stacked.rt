@@ -34,7 +34,7 @@ impl<B: Builder> Model for Stacked<B> {
 impl<B: Builder> Tried<B> for Stacked<B> {
     const WORD: &'static str = "stack";
 
-    const UPDATES: usize = 0;
+    const UPDATES: (&'static str, usize) = ("update", 0);
 
     const DELETES: u32 = 3;
 
@@ -56,39 +56,34 @@ impl<B: Builder> Tried<B> for Stacked<B> {
         Ok(())
     }
 
-    fn places(&self) -> usize {
-        self.items.len()
-    }
-
     fn delete<L: Ledger>(
         &mut self,
-        place: usize,
+        drawn: usize,
         steps: &mut Steps<L>,
     ) -> Result<Option<B::Item>, Failure> {
-        if self.stack.weight() >= MOST || place >= self.items.len() {
+        if self.stack.weight() >= MOST || self.items.is_empty() {
             return Ok(None);
         }
         self.stack.prepare()?;
-        let item = self.items[place];
+        let item = self.items[drawn % self.items.len()];
         self.stack.delete(&item, steps);
         self.items.retain(|other| other.stamp() != item.stamp());
         Ok(Some(item))
     }
 
-    fn live(&self) -> u64 {
-        self.stack.live()
-    }
-
-    fn put<Q: Question<Item = B::Item>, L: Ledger>(
+    fn answer<Q: Question<Item = B::Item>, L: Ledger>(
         &self,
-        asking: &mut Asking<B::Part, Q>,
+        alloc: Global,
+        question: &Q,
         steps: &mut Steps<L>,
-    ) -> Result<(), NoMemory>
+    ) -> Result<Q::Answer, NoMemory>
     where
         B::Part: Answers<Q>,
     {
+        let mut asking = Asking::<B::Part, Q>::new(alloc, question);
         // It says that the parts can be counted.
         self.stack.parts();
-        self.stack.ask::<Q, L>(asking, steps)
+        self.stack.ask::<Q, L>(&mut asking, steps)?;
+        Ok(asking.finish()?.into_answer())
     }
 }

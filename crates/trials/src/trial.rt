@@ -1,180 +1,151 @@
-//! The driver of parts, stacks and indexes.
+//! Parts, stacks and indexes of any kind, measured and compared.
 ghost use Rattle.std.specs.Prelude.{◌≡◌};
 
 use crate::bench::Bench;
-use crate::kind::Kind;
-use crate::tried::Tried;
-use builder_trait::{Answers, Asking, Builder, RowsBuilder};
+use crate::indexed::Indexed;
+use crate::marked::Marked;
+use crate::stacked::Stacked;
+use crate::tried::{Kind, Tried};
+use builder_trait::RowsBuilder;
 use query_laws::step_ledger::Steps;
-use query_laws::{Item, NoMemory, Question};
-use samples::{Costs, Failure, Generator, Scanned, Spread, expect_same};
+use query_laws::{Item, NoMemory};
+use samples::{Costs, Failure, Generator, Seeded, Spread, drawn_question, numbers};
 use std::alloc::Global;
-use std::mem;
+use std::rt::Files;
 use std::sync::ledger::Ledger;
 use std::time::Clock;
+use std::{fs, mem};
 
 /// The most updates after the first inserts where answers are compared.
 const COMPARED_UPDATES: usize = 128;
 
-/// How something is tried.
+/// How often each question is asked where answers are compared, where costs are told, and for how many of these a list is scanned too.
+const COMPARED: usize = 2;
+
+const ASKED: usize = 1_024;
+
+const SCANNED: usize = 16;
+
+/// How something is tried. Where the items lie densely, answers are compared with those of a plain list, and elsewhere costs are told.
 #[derive(Clone, Copy)]
 pub struct Plan {
     pub seed: u64,
     pub spread: Spread,
     /// The first inserts.
     pub size: usize,
-    /// Whether answers are compared with those of a plain list. Costs are told where they aren't.
-    pub is_compared: bool,
 }
 
-impl Plan {
-    /// Of measures.
-    pub fn measured(seed: u64, size: usize, spread: Spread) -> Plan {
-        Plan {
-            seed,
-            spread,
-            size,
-            is_compared: false,
-        }
-    }
+/// What is tried.
+#[derive(Clone, Copy, Debug, PartialEq, Eq)]
+pub enum Layer {
+    /// A part, its questions and its marks.
+    Part,
+    /// A stack, and its questions.
+    Stack,
+    /// An index, of which some items go and others come, up to three times as many.
+    Index,
+}
 
-    /// Of comparisons, with items that lie densely.
-    pub fn compared(seed: u64, size: usize) -> Plan {
-        Plan {
-            seed: seed.wrapping_add(size as u64),
-            spread: Spread::Dense,
-            size,
-            is_compared: true,
-        }
+/// Tries a layer of a kind. Where items lie densely it is compared with a plain list, at each size up to that of the plan which is at most
+/// 1 away from a power of two, and elsewhere measured.
+pub fn try_layer<K: Kind, R: Clock + Files + AllocGlobal, L: Ledger>(
+    bench: &mut Bench<R, L>,
+    layer: Layer,
+    plan: Plan,
+) -> Result<(), Failure> {
+    match layer {
+        Layer::Part => try_sizes::<K, Marked<RowsBuilder<K>>, R, L>(bench, plan),
+        Layer::Stack => try_sizes::<K, Stacked<RowsBuilder<K>>, R, L>(bench, plan),
+        Layer::Index => try_sizes::<K, Indexed<RowsBuilder<K>>, R, L>(bench, plan),
     }
 }
 
-/// What is tried, beside a plain list of its live items, which is empty where nothing is compared.
+fn try_sizes<K: Kind, T: Tried<RowsBuilder<K>>, R: Clock + Files + AllocGlobal, L: Ledger>(
+    bench: &mut Bench<R, L>,
+    plan: Plan,
+) -> Result<(), Failure> {
+    if plan.spread != Spread::Dense {
+        return run_trial::<K, T, R, L>(bench, plan);
+    }
+    for size in 0..=plan.size {
+        let mut near = size.saturating_sub(1)..=size.saturating_add(1);
+        if near.any(|n| n.is_power_of_two()) {
+            let seed = plan.seed.wrapping_add(size as u64);
+            let plan = Plan { seed, size, ..plan };
+            let mut done = run_trial::<K, T, R, L>(bench, plan);
+            if matches!(done, Err(Failure::NoMemory(_))) {
+                // For the trial's own lists: once more, from the beginning.
+                bench.refused = bench.refused.wrapping_add(1);
+                done = run_trial::<K, T, R, L>(bench, plan);
+            }
+            done?;
+        }
+    }
+    let words = format!(in bench.alloc; "{} {}", K::WORD, T::WORD)?;
+    Ok(bench.tell_seen(words.as_str())?)
+}
+
+/// Tries something by a plan, and tells how much memory it holds where times are wanted and nothing is compared.
+fn run_trial<K: Kind, T: Tried<RowsBuilder<K>>, R: Clock + Files + AllocGlobal, L: Ledger>(
+    bench: &mut Bench<R, L>,
+    plan: Plan,
+) -> Result<(), Failure> {
+    let before = bytes_held(bench)?;
+    let mut trial = Trial::<K, T>::new(bench.alloc, plan)?;
+    trial.fill(bench)?;
+    let bytes = bytes_held(bench)?.saturating_sub(before);
+    if bytes > 0 && plan.spread != Spread::Dense {
+        let each = bytes / (plan.size as u64).max(1);
+        writeln!(bench.report, "{} bytes {bytes} each {each}", T::WORD)?;
+    }
+    trial.update(bench)
+}
+
+/// How many bytes of memory the process holds, which the system tells in pages of 4,096, where times are wanted, and 0 otherwise.
+fn bytes_held<R: Clock + Files + AllocGlobal, L: Ledger>(
+    bench: &Bench<R, L>,
+) -> Result<u64, Failure> {
+    if !bench.is_timed {
+        return Ok(0);
+    }
+    let line = fs::read_to_string(bench.rt, "/proc/self/statm")?;
+    let pages = line.as_str().split_ascii_whitespace().nth(1);
+    let pages: u64 = pages.unwrap_or("0").parse().unwrap_or(0);
+    Ok(pages.saturating_mul(4_096))
+}
+
+/// What is tried, beside a plain list of its items.
 #[derive(Drop)]
-pub struct Trial<B: Builder, T: Tried<B>> {
-    pub set: T,
-    pub items: Vec<B::Item>,
-    pub plan: Plan,
+pub struct Trial<K: Kind, T: Tried<RowsBuilder<K>>> {
+    set: T,
+    /// The items that were inserted, but `None` for each that was deleted: so each is at the place of its stamp.
+    pub items: Vec<Option<K::Item>>,
+    plan: Plan,
     generator: Generator,
-    inserted: u64,
     costs: Costs,
 }
 
-/// A change of what is tried.
-#[derive(Clone, Copy)]
-enum Change<I> {
-    Insert(I),
-    Delete(usize),
-}
-
-impl<B: Builder, T: Tried<B>> Trial<B, T> {
+impl<K: Kind, T: Tried<RowsBuilder<K>>> Trial<K, T> {
     /// Nothing was inserted yet.
-    pub fn new(alloc: Global, plan: Plan) -> Result<Trial<B, T>, NoMemory> {
+    pub fn new(alloc: Global, plan: Plan) -> Result<Trial<K, T>, NoMemory> {
         Ok(Trial {
             set: T::new(alloc, plan.size)?,
-            items: Vec::new(alloc),
+            items: Vec::with_capacity(alloc, plan.size)?,
             plan,
             generator: Generator::new(plan.seed),
-            inserted: 0,
             costs: Costs::new(alloc),
         })
     }
 
-    /// Asks drawn questions of a type. `Differs` where an answer isn't that of the plain list.
-    pub fn ask<Q: Question<Item = B::Item> + Scanned, R: Clock, L: Ledger>(
-        &mut self,
-        bench: &mut Bench<R, L>,
-    ) -> Result<(), Failure>
-    where
-        B::Part: Answers<Q>,
-    {
-        let asked = if self.plan.is_compared { 2 } else { 256 };
-        for _ in 0..asked {
-            let question = Q::drawn(&mut self.generator, self.plan.spread);
-            match self.put(&question, bench) {
-                Err(Failure::NoMemory(_)) => bench.refused = bench.refused.wrapping_add(1),
-                done => done?,
-            }
-        }
-        self.tell_costs(Q::WORD, bench)
+    fn is_compared(&self) -> bool {
+        self.plan.spread == Spread::Dense
     }
 
-    /// Puts a question, and compares the answer.
-    fn put<Q: Question<Item = B::Item> + Scanned, R: Clock, L: Ledger>(
-        &mut self,
-        question: &Q,
-        bench: &mut Bench<R, L>,
-    ) -> Result<(), Failure>
-    where
-        B::Part: Answers<Q>,
-    {
-        let begun = bench.begin()?;
-        let mut asking = Asking::<B::Part, Q>::new(bench.alloc, question);
-        self.set.put(&mut asking, &mut bench.steps)?;
-        let answer = asking.finish()?.into_answer();
-        bench.take_in(begun, &mut self.costs)?;
-        let numbers = Q::numbers(bench.alloc, answer)?;
-        if self.plan.is_compared {
-            let wanted = question.scan(bench.alloc, &self.items)?;
-            expect_same(bench.alloc, Q::WORD, &numbers, &wanted)?;
-        }
-        bench.answers = bench.answers.wrapping_add(1);
-        Ok(())
-    }
-
-    /// Tells what calls cost since it was told last, where nothing is compared.
-    fn tell_costs<R: Clock, L: Ledger>(
-        &mut self,
-        word: &str,
-        bench: &mut Bench<R, L>,
-    ) -> Result<(), Failure> {
-        let costs = mem::replace(&mut self.costs, Costs::new(bench.alloc));
-        if !self.plan.is_compared {
-            let words = format!(in bench.alloc; "{} {word}", T::WORD)?;
-            costs.tell(words.as_str(), &mut bench.report)?;
-        }
-        Ok(())
-    }
-
-    /// Makes a change once, and that of the plain list.
-    fn make<L: Ledger>(
-        &mut self,
-        change: Change<B::Item>,
-        steps: &mut Steps<L>,
-    ) -> Result<(), Failure> {
-        self.items.reserve(1)?;
-        match change {
-            Change::Insert(item) => {
-                self.set.insert(item, steps)?;
-                if self.plan.is_compared {
-                    self.items.push(item)?;
-                }
-            }
-            Change::Delete(place) => {
-                if let Some(item) = self.set.delete(place, steps)? {
-                    self.items.retain(|other| other.stamp() != item.stamp());
-                }
-            }
-        }
-        Ok(())
-    }
-
-    /// Compares how many items are live.
-    fn compare(&self, alloc: Global) -> Result<(), Failure> {
-        if !self.plan.is_compared {
-            return Ok(());
-        }
-        let wanted = self.items.len() as u64;
-        expect_same(alloc, "live", &[self.set.live()], &[wanted])
-    }
-}
-
-impl<K: Kind, T: Tried<RowsBuilder<K>>> Trial<RowsBuilder<K>, T> {
     /// Inserts the first items, and asks each question.
     pub fn fill<R: Clock, L: Ledger>(&mut self, bench: &mut Bench<R, L>) -> Result<(), Failure> {
         for _ in 0..self.plan.size {
-            let change = self.drawn_change(0);
-            self.change(change, bench)?;
+            let item = self.drawn_item(0);
+            self.change(item, bench)?;
         }
         self.tell_costs("insert", bench)?;
         let begun = bench.begin()?;
@@ -186,63 +157,149 @@ impl<K: Kind, T: Tried<RowsBuilder<K>>> Trial<RowsBuilder<K>, T> {
         self.ask_each(bench)
     }
 
-    /// Makes the updates, and asks each question, after each tenth update too where answers are compared.
+    /// Makes the updates. Where answers are compared, it asks each question after each tenth.
     pub fn update<R: Clock, L: Ledger>(&mut self, bench: &mut Bench<R, L>) -> Result<(), Failure> {
-        let updates = match self.plan.is_compared {
+        let updates = match self.is_compared() {
             true => self.plan.size.saturating_mul(6).min(COMPARED_UPDATES),
-            false => self.plan.size.saturating_mul(3).min(T::UPDATES),
+            false => self.plan.size.saturating_mul(3).min(T::UPDATES.1),
         };
         for number in 0..updates {
-            let change = self.drawn_change(T::DELETES);
-            self.change(change, bench)?;
-            if self.plan.is_compared && number % 10 == 0 {
+            let item = self.drawn_item(T::DELETES);
+            self.change(item, bench)?;
+            if self.is_compared() && number % 10 == 0 {
                 self.ask_each(bench)?;
             }
         }
-        self.tell_costs("update", bench)?;
-        self.ask_each(bench)
+        self.tell_costs(T::UPDATES.0, bench)
     }
 
-    /// Asks each question of the kind.
-    fn ask_each<R: Clock, L: Ledger>(&mut self, bench: &mut Bench<R, L>) -> Result<(), Failure> {
-        self.ask::<K::First, R, L>(bench)?;
-        self.ask::<K::Second, R, L>(bench)
-    }
-
-    /// The next change, of eight of which so many are deletes on average: where an even number of items is compared, of the one at the
-    /// front, and else of any. With nothing to delete it changes nothing.
-    fn drawn_change(&mut self, deletes: u32) -> Change<K::Item> {
-        if self.generator.below(8) >= deletes {
-            let stamp = self.inserted;
-            self.inserted = stamp.wrapping_add(1);
-            return Change::Insert(K::drawn(&mut self.generator, self.plan.spread, stamp));
+    /// Asks each question of the kind, so often as the plan wants. `Differs` where an answer isn't that of a scan.
+    pub fn ask_each<R: Clock, L: Ledger>(
+        &mut self,
+        bench: &mut Bench<R, L>,
+    ) -> Result<(), Failure> {
+        let live: Vec<K::Item> = self.items.iter().flatten().copied().collect(bench.alloc)?;
+        for (word, class) in K::ASKED {
+            self.ask(word, *class, &live, bench)?;
         }
-        let places = u32::try_from(self.set.places()).unwrap_or(0);
-        if places == 0 || (self.plan.is_compared && self.plan.size % 2 == 0) {
-            return Change::Delete(0);
-        }
-        Change::Delete(self.generator.below(places) as usize)
+        Ok(())
     }
 
-    /// Makes a change. Where memory is refused, it compares, and asks for it once more.
+    fn ask<R: Clock, L: Ledger>(
+        &mut self,
+        word: &str,
+        class: u32,
+        live: &[K::Item],
+        bench: &mut Bench<R, L>,
+    ) -> Result<(), Failure> {
+        let (asked, scanned) = match (self.is_compared(), bench.is_timed) {
+            (true, _) => (COMPARED, COMPARED),
+            (false, true) => (ASKED, SCANNED),
+            (false, false) => (ASKED, 0),
+        };
+        for number in 0..asked {
+            let scanned = (number < scanned).then_some(live);
+            match self.put(word, class, scanned, bench) {
+                Err(Failure::NoMemory(_)) => bench.refused = bench.refused.wrapping_add(1),
+                done => done?,
+            }
+        }
+        let words = format!(in bench.alloc; "{word} {class}")?;
+        self.tell_costs(words.as_str(), bench)
+    }
+
+    /// Puts a drawn question, and compares the answer with that of a scan.
+    fn put<R: Clock, L: Ledger>(
+        &mut self,
+        word: &str,
+        class: u32,
+        scanned: Option<&[K::Item]>,
+        bench: &mut Bench<R, L>,
+    ) -> Result<(), Failure> {
+        let question = drawn_question(word, class, self.plan.spread, &mut self.generator);
+        let begun = bench.begin()?;
+        let answer = K::ask(bench.alloc, &self.set, &question, &mut bench.steps)?;
+        bench.take_in(begun, &mut self.costs)?;
+        bench.answers = bench.answers.wrapping_add(1);
+        if let Some(items) = scanned {
+            let begun = bench.begin()?;
+            let wanted = Seeded::scan(bench.alloc, &question, items)?;
+            self.costs.push_scan(bench.since(begun)?)?;
+            let found = numbers(bench.alloc, answer)?;
+            if found != wanted {
+                let text = format!(in bench.alloc; "{word}: {found:?}, and {wanted:?} by a scan")?;
+                return Err(Failure::Differs(text));
+            }
+        }
+        Ok(())
+    }
+
+    /// Tells what calls cost since it was told last, where nothing is compared.
+    fn tell_costs<R: Clock, L: Ledger>(
+        &mut self,
+        words: &str,
+        bench: &mut Bench<R, L>,
+    ) -> Result<(), Failure> {
+        let mut costs = mem::replace(&mut self.costs, Costs::new(bench.alloc));
+        if !self.is_compared() {
+            let words = format!(in bench.alloc; "{} {words}", T::WORD)?;
+            costs.tell(words.as_str(), &mut bench.report)?;
+        }
+        Ok(())
+    }
+
+    /// An item to insert, or `None` for a delete: so many of eight, on average.
+    fn drawn_item(&mut self, deletes: u32) -> Option<K::Item> {
+        if self.generator.below(8) < deletes {
+            return None;
+        }
+        let stamp = self.items.len() as u64;
+        Some(Seeded::drawn(&mut self.generator, self.plan.spread, stamp))
+    }
+
+    /// Inserts an item, or deletes a drawn one. Where memory is refused, it compares, and asks for it once more.
     ///
     /// `NoMemory` where it is refused again.
     fn change<R: Clock, L: Ledger>(
         &mut self,
-        change: Change<K::Item>,
+        item: Option<K::Item>,
         bench: &mut Bench<R, L>,
     ) -> Result<(), Failure> {
         let begun = bench.begin()?;
-        let mut done = self.make(change, &mut bench.steps);
+        let mut done = self.make(item, bench);
         if matches!(done, Err(Failure::NoMemory(_))) {
             bench.refused = bench.refused.wrapping_add(1);
-            self.compare(bench.alloc)?;
             self.ask_each(bench)?;
-            done = self.make(change, &mut bench.steps);
+            done = self.make(item, bench);
         }
         done?;
         bench.take_in(begun, &mut self.costs)?;
         bench.updates = bench.updates.wrapping_add(1);
-        self.compare(bench.alloc)
+        Ok(())
+    }
+
+    /// Makes a change once, and that of the plain list. Where an even number of items is compared, it deletes the one at the front.
+    fn make<R: Clock, L: Ledger>(
+        &mut self,
+        item: Option<K::Item>,
+        bench: &mut Bench<R, L>,
+    ) -> Result<(), Failure> {
+        self.items.reserve(1)?;
+        if let Some(item) = item {
+            self.set.insert(item, &mut bench.steps)?;
+            return Ok(self.items.push(Some(item))?);
+        }
+        let is_front = self.is_compared() && self.plan.size % 2 == 0;
+        let drawn = if is_front {
+            0
+        } else {
+            self.generator.draw() as usize
+        };
+        let deleted = self.set.delete(drawn, &mut bench.steps)?;
+        let place = deleted.map_or(usize::MAX, |item| item.stamp() as usize);
+        if let Some(slot) = self.items.get_mut(place) {
+            *slot = None;
+        }
+        Ok(())
     }
 }

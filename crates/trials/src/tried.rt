@@ -1,12 +1,18 @@
-//! What is tried: items that come and go, and answer questions.
-ghost use Rattle.std.specs.Prelude.{◌≡◌, false, IfOk};
-
-use builder_trait::{Answers, Asking, Builder};
+//! What is tried: items of a kind that come and go, and answer questions.
+use builder_trait::{Answers, Builder, Rows, RowsBuilder};
+use interval_stab::StabRows;
+use kd_nearest::KdRows;
+use map_questions::{AnyAnswer, AnyQuestion};
+use priority_search::TopRows;
 use query_laws::step_ledger::Steps;
 use query_laws::{NoMemory, Question};
-use samples::Failure;
+use range_tree::RangeRows;
+use samples::{Failure, Seeded};
 use std::alloc::Global;
 use std::sync::ledger::Ledger;
+
+/// Words of questions with their classes.
+pub type Asked = &'static [(&'static str, u32)];
 
 /// Items that come and go, and answer questions. The stamp of each is the number of inserts before its own.
 ///
@@ -14,8 +20,8 @@ use std::sync::ledger::Ledger;
 pub trait Tried<B: Builder>: Drop + Sized {
     const WORD: &'static str;
 
-    /// The most updates after the first inserts where nothing is compared.
-    const UPDATES: usize;
+    /// What an update is called, and the most after the first inserts where nothing is compared.
+    const UPDATES: (&'static str, usize);
 
     /// Of eight updates so many are deletes, on average.
     const DELETES: u32;
@@ -30,28 +36,127 @@ pub trait Tried<B: Builder>: Drop + Sized {
         Ok(())
     }
 
-    /// How many places there are, of which one is picked for a delete.
-    fn places(&self) -> usize;
-
-    /// Deletes the item at a place, and gives it, if one is live there.
+    /// Deletes the item that a drawn number picks, the front one by 0, and gives it, if one is live there.
     fn delete<L: Ledger>(
         &mut self,
-        place: usize,
+        drawn: usize,
         steps: &mut Steps<L>,
     ) -> Result<Option<B::Item>, Failure>;
 
-    /// How many items are live.
-    fn live(&self) -> u64;
-
-    /// Puts a question to all parts.
-    fn put<Q: Question<Item = B::Item>, L: Ledger>(
+    /// The answer to a question that is put to all parts.
+    fn answer<Q: Question<Item = B::Item>, L: Ledger>(
         &self,
-        asking: &mut Asking<B::Part, Q>,
+        alloc: Global,
+        question: &Q,
         steps: &mut Steps<L>,
-    ) -> Result<(), NoMemory>
+    ) -> Result<Q::Answer, NoMemory>
     where
-        B::Part: Answers<Q>,
-        requires going { asking.old.is_given_up ≡ false }
-        requires first { asking.old.parts ≡ 0 }
-        ensures { IfOk result (λ _. asking.new.is_given_up ≡ false) };
+        B::Part: Answers<Q>;
+}
+
+/// A kind of part, by its rows.
+pub trait Kind: Rows<Item: Seeded> {
+    /// The word of its index.
+    const WORD: &'static str;
+
+    /// The questions that it is asked.
+    const ASKED: Asked;
+
+    /// Puts a question to something of the kind. `Unfit` where the kind doesn't answer it.
+    fn ask<T: Tried<RowsBuilder<Self>>, L: Ledger>(
+        alloc: Global,
+        set: &T,
+        question: &AnyQuestion,
+        steps: &mut Steps<L>,
+    ) -> Result<AnyAnswer, Failure>;
+}
+
+impl Kind for RangeRows {
+    const WORD: &'static str = "range";
+
+    const ASKED: Asked = &[("count", 60), ("sum", 60), ("list", 60)];
+
+    fn ask<T: Tried<RowsBuilder<RangeRows>>, L: Ledger>(
+        alloc: Global,
+        set: &T,
+        question: &AnyQuestion,
+        steps: &mut Steps<L>,
+    ) -> Result<AnyAnswer, Failure> {
+        Ok(match question {
+            AnyQuestion::CountIn(q) => AnyAnswer::Counted(set.answer(alloc, q, steps)?),
+            AnyQuestion::SumIn(q) => AnyAnswer::Summed(set.answer(alloc, q, steps)?),
+            AnyQuestion::ListIn(q) => AnyAnswer::Listed(set.answer(alloc, q, steps)?),
+            _ => return Err(Failure::Unfit),
+        })
+    }
+}
+
+impl Kind for KdRows {
+    const WORD: &'static str = "near";
+
+    const ASKED: Asked = &[
+        ("near", 1),
+        ("nearest", 1),
+        ("nearest", 2),
+        ("nearest", 10),
+        ("nearest", 64),
+    ];
+
+    fn ask<T: Tried<RowsBuilder<KdRows>>, L: Ledger>(
+        alloc: Global,
+        set: &T,
+        question: &AnyQuestion,
+        steps: &mut Steps<L>,
+    ) -> Result<AnyAnswer, Failure> {
+        Ok(match question {
+            AnyQuestion::Near(q) => AnyAnswer::Nearest(set.answer(alloc, q, steps)?),
+            AnyQuestion::NearK(q) => AnyAnswer::NearestFew(set.answer(alloc, q, steps)?),
+            _ => return Err(Failure::Unfit),
+        })
+    }
+}
+
+impl Kind for TopRows {
+    const WORD: &'static str = "top";
+
+    const ASKED: Asked = &[
+        ("top", 5),
+        ("top", 60),
+        ("top", 500),
+        ("above", 1),
+        ("above", 10),
+        ("above", 1_000),
+    ];
+
+    fn ask<T: Tried<RowsBuilder<TopRows>>, L: Ledger>(
+        alloc: Global,
+        set: &T,
+        question: &AnyQuestion,
+        steps: &mut Steps<L>,
+    ) -> Result<AnyAnswer, Failure> {
+        Ok(match question {
+            AnyQuestion::Top(q) => AnyAnswer::Highest(set.answer(alloc, q, steps)?),
+            AnyQuestion::Above(q) => AnyAnswer::ListedAbove(set.answer(alloc, q, steps)?),
+            _ => return Err(Failure::Unfit),
+        })
+    }
+}
+
+impl Kind for StabRows {
+    const WORD: &'static str = "stab";
+
+    const ASKED: Asked = &[("stab", 62), ("stab", 1_000), ("stabcount", 62)];
+
+    fn ask<T: Tried<RowsBuilder<StabRows>>, L: Ledger>(
+        alloc: Global,
+        set: &T,
+        question: &AnyQuestion,
+        steps: &mut Steps<L>,
+    ) -> Result<AnyAnswer, Failure> {
+        Ok(match question {
+            AnyQuestion::Stab(q) => AnyAnswer::Stabbed(set.answer(alloc, q, steps)?),
+            AnyQuestion::StabCount(q) => AnyAnswer::StabCounted(set.answer(alloc, q, steps)?),
+            _ => return Err(Failure::Unfit),
+        })
+    }
 }

@@ -1,4 +1,4 @@
-use Rattle.std.proofs.Common.{rules, ◌≡◌, ◌<◌, length, sym, subst, arith}
+use Rattle.std.proofs.Common.{rules, ◌≡◌, ◌<◌, ◌%◌, length, sym, subst, arith}
 use Rattle.std.proofs.lemmas.Fn.{filter_same}
 use Rattle.std.proofs.lemmas.List.Sorted.{Contains-permutation}
 use Rattle.query_laws.proofs.Permutations.{IsPermutation-from_Permuted, Permuted-sym}
@@ -12,8 +12,10 @@ delete-requires-clause-live g c =
     let p = c.prepare.ensures in
     let h : IsStackOf g.B.Part.Part.contents g.B.Item.Item.stamp c.prepare.new.self.levels c.self.inside.items.items =
     IsStackOf-same p.weight p.items p.live c.self.invariant in
-    let within : c.args.place < length c.self.inside.items.items = omega (arith, c.if-place-len.false, c.len.ensures) in
-    Contains-permutation _ _ c.index.result.now (IsPermutation-from_Permuted (Permuted-sym h.live)) (c.args.place, within, sym c.index.ensures)
+    let items = c.self.inside.items.items in
+    let k = c.args.drawn % c.len.result in
+    let within : k < length items = search rules in
+    Contains-permutation _ _ c.index.result.now (IsPermutation-from_Permuted (Permuted-sym h.live)) (k, within, sym c.index.ensures)
 
 pub invariant_of-self-2 : goal.invariant_of-self-2
 invariant_of-self-2 g c =

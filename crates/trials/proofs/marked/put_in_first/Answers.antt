@@ -4,7 +4,7 @@ use Rattle.query_laws.specs.declared.item.Order.TheVariants.{First}
 use Rattle.builder_trait.specs.Builders.{Progress, with_put}
 use Rattle.trials.specs.Filling.{Leads}
 use Rattle.trials.proofs.Filling.{Leads-push}
-use Rattle.trials.proofs.building.put_in_first.Goals as goal
+use Rattle.trials.proofs.marked.put_in_first.Goals as goal
 
 pub loop-place-preserved : goal.loop-place-preserved
 loop-place-preserved g c =

@@ -1,7 +1,7 @@
 use Rattle.std.proofs.Common.{◌≡◌, take}
 use Rattle.query_laws.specs.declared.item.Order.TheVariants.{First}
 use Rattle.trials.specs.Filling.{Leads}
-use Rattle.trials.proofs.building.put_in_first.Given as goal
+use Rattle.trials.proofs.marked.put_in_first.Given as goal
 
 abbrev pub invariant-loop-place : goal.invariant-loop-place
 invariant-loop-place g l = record {

@@ -1,0 +1,115 @@
+//! Items that are drawn, and lists of them that are scanned.
+use crate::spread::{SIDE, Spread};
+use map_questions::{AnyQuestion, Near, NearK};
+use map_shapes::{Found, Point, Segment, Shaped};
+use std::alloc::{AllocError, Global};
+use std::cmp::Reverse;
+use workload_gen::Generator;
+
+/// An item that is drawn, and by which a plain list can be scanned.
+pub trait Seeded: Shaped {
+    /// One with the identifier that belongs to a stamp, whose bits it has the other way round.
+    fn drawn(generator: &mut Generator, spread: Spread, stamp: u64) -> Self;
+
+    /// The numbers of an answer over some items (`numbers`). To questions about other items there are none.
+    fn scan(alloc: Global, question: &AnyQuestion, items: &[Self]) -> Result<Vec<u64>, AllocError>;
+}
+
+impl Seeded for Point {
+    fn drawn(generator: &mut Generator, spread: Spread, stamp: u64) -> Point {
+        let (x, y) = spread.place(generator);
+        let (id, w) = (stamp.reverse_bits(), generator.below(1_024));
+        Point { id, x, y, w, stamp }
+    }
+
+    fn scan(alloc: Global, question: &AnyQuestion, items: &[Self]) -> Result<Vec<u64>, AllocError> {
+        match question {
+            AnyQuestion::CountIn(q) => {
+                let inside = items.iter().filter(|point| point.is_inside(&q.0));
+                Vec::from_slice(alloc, &[inside.count() as u64])
+            }
+            AnyQuestion::SumIn(q) => {
+                let inside = items.iter().filter(|point| point.is_inside(&q.0));
+                let sum = inside.fold(0u64, |sum, point| sum.saturating_add(u64::from(point.w)));
+                Vec::from_slice(alloc, &[sum])
+            }
+            AnyQuestion::ListIn(q) => {
+                let inside = items.iter().filter(|point| point.is_inside(&q.0));
+                Ok(sorted(inside.map(|point| point.id).collect(alloc)?))
+            }
+            AnyQuestion::Above(q) => {
+                let above = items.iter().filter(|point| q.has(point));
+                Ok(sorted(above.map(|point| point.id).collect(alloc)?))
+            }
+            AnyQuestion::Top(q) => {
+                let within = items.iter().filter(|point| q.has(point));
+                let highest = within.min_by_key(|point| (Reverse(point.y), point.id));
+                let pairs = highest
+                    .iter()
+                    .flat_map(|point| [point.id, u64::from(point.y)]);
+                pairs.collect(alloc)
+            }
+            AnyQuestion::Near(Near { x, y }) => {
+                let (k, x, y) = (1, *x, *y);
+                nearest(alloc, &NearK { k, x, y }, items)
+            }
+            AnyQuestion::NearK(q) => nearest(alloc, q, items),
+            AnyQuestion::Stab(_) | AnyQuestion::StabCount(_) => Ok(Vec::new(alloc)),
+        }
+    }
+}
+
+impl Seeded for Segment {
+    fn drawn(generator: &mut Generator, spread: Spread, stamp: u64) -> Segment {
+        let (x, y) = spread.place(generator);
+        let (lo, hi) = match spread {
+            Spread::Spanning if generator.below(100) == 0 => (0, SIDE),
+            _ => (x, x + spread.length(generator, x)),
+        };
+        let id = stamp.reverse_bits();
+        Segment {
+            id,
+            lo,
+            hi,
+            y,
+            stamp,
+        }
+    }
+
+    fn scan(alloc: Global, question: &AnyQuestion, items: &[Self]) -> Result<Vec<u64>, AllocError> {
+        match question {
+            AnyQuestion::Stab(q) => {
+                let over = items.iter().filter(|segment| q.has(segment));
+                Ok(sorted(over.map(|segment| segment.id).collect(alloc)?))
+            }
+            AnyQuestion::StabCount(q) => {
+                let over = items.iter().filter(|segment| q.has(segment));
+                Vec::from_slice(alloc, &[over.count() as u64])
+            }
+            _ => Ok(Vec::new(alloc)),
+        }
+    }
+}
+
+/// The nearest points, by one list of the nearest so far.
+fn nearest(alloc: Global, question: &NearK, points: &[Point]) -> Result<Vec<u64>, AllocError> {
+    let mut found: Vec<(u64, u64)> = Vec::with_capacity(alloc, question.k)?;
+    for point in points {
+        let Found { dist, id } = question.found(point);
+        let place = found.partition_point(|kept| *kept < (dist, id));
+        if place < question.k {
+            found.truncate(question.k - 1);
+            found.insert(place, (dist, id))?;
+        }
+    }
+    found
+        .iter()
+        .flat_map(|(dist, id)| [*id, *dist])
+        .collect(alloc)
+}
+
+/// In ascending order.
+fn sorted(mut numbers: Vec<u64>) -> Vec<u64> {
+    numbers.sort_unstable();
+    numbers
+}
