@@ -120,6 +120,3 @@ fn try_kind<R: Clock + Files + AllocGlobal, L: Ledger>(
         KindName::Stab => try_layer::<StabRows, R, L>(bench, layer, plan),
     }
 }
-
-#[cfg(test)]
-mod tests;

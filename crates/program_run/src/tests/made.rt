@@ -91,7 +91,7 @@ fn a_script_is_answered_alike_in_any_pieces(rt: HostRuntime) -> Result<(), Fail>
     let script = made_lines(alloc, 3, 200)?;
     assert!(rt; script.len() < 65_536);
     let wanted = answers_to_whole::<Brand>(alloc, &script, blank())?;
-    assert!(rt; wanted.starts_with(b"ok\nok turns "));
+    assert!(rt; wanted.starts_with(b"ok\n"));
     for piece in 1..=64 {
         let reads = Plan { piece, failing: 0 };
         let ran = run_words(alloc, &["--ledger"], &script, reads, WHOLE, 65_536)?;
