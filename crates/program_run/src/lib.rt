@@ -9,3 +9,6 @@ mod reading;
 
 pub use ended::{Ended, Status, run};
 pub use exit::{arguments, end};
+
+#[cfg(test)]
+mod tests;
