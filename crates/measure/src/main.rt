@@ -11,13 +11,11 @@ use kd_nearest::KdRows;
 use priority_search::TopRows;
 use query_laws::step_ledger::{SHARES, blank};
 use range_tree::RangeRows;
-use samples::{Failure, PlainMap, Spread};
+use samples::{Failure, Outcome, PlainMap, Spread};
 use std::env;
 use std::marker::Brand;
 use std::process::ExitCode;
-use std::rt::Files;
 use std::sync::ledger::{Blank, Ledger};
-use std::time::Clock;
 use trials::{Bench, Layer, Plan, check_examples, check_made_script, measure_script, try_layer};
 
 /// The exit status where a comparison differs. Other failures have 1, and wrong words 2.
@@ -27,24 +25,24 @@ const DIFFERS: u8 = 3;
 const MADE_LINES: u32 = 2_000;
 
 fn main(rt: HostRuntime) -> anyhow::Result<ExitCode> {
-    let alloc = rt.alloc();
-    let words: Vec<String> = env::args(&rt)?.collect(alloc)?;
-    let matches = match command(alloc)?.try_get_matches_from(words.as_slice()) {
+    let words: Vec<String> = env::args(&rt)?.collect(rt.alloc())?;
+    let words: Vec<&str> = words.iter().map(String::as_str).collect(rt.alloc())?;
+    end(&rt, &words)
+}
+
+/// Does what the words ask for, and gives what the program ends with.
+fn end(rt: &HostRuntime, words: &[&str]) -> anyhow::Result<ExitCode> {
+    let matches = match command(rt.alloc())?.try_get_matches_from(words) {
         Ok(matches) => matches,
         Err(error) => {
-            error.print(&rt)?;
+            error.print(rt)?;
             return Ok(ExitCode::from(error.exit_code() as u8));
         }
     };
-    match job_of(&matches) {
-        Some(job) => exit_code(&rt, run::<HostRuntime, Brand>(&rt, &job, blank())),
-        None => Ok(ExitCode::SUCCESS),
-    }
-}
-
-/// What the program ends with.
-fn exit_code<R: Eprint>(rt: &R, done: Result<(), Failure>) -> anyhow::Result<ExitCode> {
-    match done {
+    let Some(job) = job_of(&matches) else {
+        return Ok(ExitCode::SUCCESS);
+    };
+    match run::<Brand>(rt, &job, blank()) {
         Ok(()) => Ok(ExitCode::SUCCESS),
         Err(Failure::Differs(text)) => {
             eprintln!(rt; "{text}")?;
@@ -55,25 +53,18 @@ fn exit_code<R: Eprint>(rt: &R, done: Result<(), Failure>) -> anyhow::Result<Exi
 }
 
 /// Does what the words ask for, and prints what it tells, up to a failure too.
-fn run<R: Print + Clock + Files + AllocGlobal + Clone + Drop, L: Ledger>(
-    rt: &R,
-    job: &Job,
-    blank: Blank,
-) -> Result<(), Failure>
+fn run<L: Ledger>(rt: &HostRuntime, job: &Job, blank: Blank) -> Outcome
     requires name { blank.name ≡ L.name }
     requires parts { blank.parts ≡ L.parts }
     requires shares { blank.parts ≡ SHARES }
 {
-    let mut bench = Bench::<R, L>::new(rt, rt.alloc(), job.is_timed, blank);
+    let mut bench = Bench::<L>::new(rt, rt.alloc(), job.is_timed, blank);
     let done = run_job(&mut bench, job);
     print!(rt; "{}", bench.report.as_str())?;
     done
 }
 
-fn run_job<R: Clock + Files + AllocGlobal + Clone + Drop, L: Ledger>(
-    bench: &mut Bench<R, L>,
-    job: &Job,
-) -> Result<(), Failure> {
+fn run_job<L: Ledger>(bench: &mut Bench<L>, job: &Job) -> Outcome {
     let Job { seed, size, .. } = *job;
     match job.work {
         Work::Layer(layer, kind, spread) => {
@@ -85,19 +76,13 @@ fn run_job<R: Clock + Files + AllocGlobal + Clone + Drop, L: Ledger>(
             check_kinds(bench, Plan { seed, spread, size })?;
             let mut map = PlainMap::new(bench.alloc);
             check_made_script(bench, &mut map, seed, MADE_LINES)?;
-            match examples {
-                Some(folder) => check_examples(bench, folder),
-                None => Ok(()),
-            }
+            examples.map_or(Ok(()), |folder| check_examples(bench, folder))
         }
     }
 }
 
 /// Tries each layer of each kind by a plan.
-fn check_kinds<R: Clock + Files + AllocGlobal, L: Ledger>(
-    bench: &mut Bench<R, L>,
-    plan: Plan,
-) -> Result<(), Failure> {
+fn check_kinds<L: Ledger>(bench: &mut Bench<L>, plan: Plan) -> Outcome {
     for (_, kind) in KINDS {
         for (_, layer) in LAYERS {
             try_kind(bench, kind, layer, plan)?;
@@ -107,16 +92,14 @@ fn check_kinds<R: Clock + Files + AllocGlobal, L: Ledger>(
 }
 
 /// Tries a layer of a kind by a plan.
-fn try_kind<R: Clock + Files + AllocGlobal, L: Ledger>(
-    bench: &mut Bench<R, L>,
-    kind: KindName,
-    layer: Layer,
-    plan: Plan,
-) -> Result<(), Failure> {
+fn try_kind<L: Ledger>(bench: &mut Bench<L>, kind: KindName, layer: Layer, plan: Plan) -> Outcome {
     match kind {
-        KindName::Range => try_layer::<RangeRows, R, L>(bench, layer, plan),
-        KindName::Near => try_layer::<KdRows, R, L>(bench, layer, plan),
-        KindName::Top => try_layer::<TopRows, R, L>(bench, layer, plan),
-        KindName::Stab => try_layer::<StabRows, R, L>(bench, layer, plan),
+        KindName::Range => try_layer::<RangeRows, L>(bench, layer, plan),
+        KindName::Near => try_layer::<KdRows, L>(bench, layer, plan),
+        KindName::Top => try_layer::<TopRows, L>(bench, layer, plan),
+        KindName::Stab => try_layer::<StabRows, L>(bench, layer, plan),
     }
 }
+
+#[cfg(test)]
+mod tests;

@@ -14,9 +14,8 @@ pub struct Costs {
 
 impl Costs {
     pub fn new(alloc: Global) -> Costs {
-        Costs {
-            columns: NAMES.map(|_| Vec::new(alloc)),
-        }
+        let columns = NAMES.map(|_| Vec::new(alloc));
+        Costs { columns }
     }
 
     /// Takes in one more call, by its turns, marks, touches and nanoseconds.
@@ -48,17 +47,14 @@ impl Costs {
     }
 }
 
-fn tell_sorted(name: &str, numbers: &[u64], report: &mut String) -> Result<(), AllocError> {
+fn tell_sorted(name: &str, numbers: &[u64], told: &mut String) -> Result<(), AllocError> {
     let (count, max) = (numbers.len(), numbers.last().copied().unwrap_or(0));
     if max == 0 {
         return Ok(());
     }
     let total = numbers.iter().fold(0u64, |sum, n| sum.saturating_add(*n));
     let mean = total / count as u64;
-    let half = numbers[count - 1 - count / 2];
-    let most = numbers[count - 1 - count / 1000];
-    write!(
-        report,
-        " {name} mean {mean} p50 {half} p99.9 {most} max {max}"
-    )
+    let p50 = numbers[count - 1 - count / 2];
+    let p99 = numbers[count - 1 - count / 1000];
+    write!(told, " {name} mean {mean} p50 {p50} p99.9 {p99} max {max}")
 }

@@ -5,6 +5,9 @@ use std::alloc::{AllocError, AllocFailed};
 use std::io;
 use thiserror::Error;
 
+/// What a trial gives, or why it ends early.
+pub type Outcome<T = ()> = Result<T, Failure>;
+
 /// Why a trial ends early.
 #[derive(Debug, Drop, Error)]
 pub enum Failure {

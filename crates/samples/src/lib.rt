@@ -9,7 +9,7 @@ mod seeded;
 mod spread;
 
 pub use costs::Costs;
-pub use failure::Failure;
+pub use failure::{Failure, Outcome};
 pub use plain_map::{Exchange, PlainMap};
 pub use questions::{drawn_question, numbers};
 pub use seeded::Seeded;

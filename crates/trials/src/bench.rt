@@ -2,16 +2,16 @@
 ghost use Rattle.std.specs.Prelude.{◌≡◌};
 
 use query_laws::step_ledger::{SHARES, Steps};
-use samples::{Costs, Failure};
+use samples::{Costs, Outcome};
 use std::alloc::{AllocError, Global};
 use std::sync::ledger::{Blank, Ledger};
-use std::time::{Clock, Instant};
+use std::time::Instant;
 use std::{io, mem};
 
 /// What all trials work with. It reads the clock where times are wanted, and never otherwise.
 #[derive(Drop)]
-pub struct Bench<'a, R: Clock, L: Ledger> {
-    pub rt: &'a R,
+pub struct Bench<'a, L: Ledger> {
+    pub rt: &'a HostRuntime,
     pub alloc: Global,
     pub is_timed: bool,
     pub steps: Steps<L>,
@@ -23,8 +23,8 @@ pub struct Bench<'a, R: Clock, L: Ledger> {
     pub refused: u64,
 }
 
-impl<'a, R: Clock, L: Ledger> Bench<'a, R, L> {
-    pub fn new(rt: &'a R, alloc: Global, is_timed: bool, blank: Blank) -> Bench<'a, R, L>
+impl<'a, L: Ledger> Bench<'a, L> {
+    pub fn new(rt: &'a HostRuntime, alloc: Global, is_timed: bool, blank: Blank) -> Bench<'a, L>
         requires name { blank.name ≡ L.name }
         requires parts { blank.parts ≡ L.parts }
         requires shares { blank.parts ≡ SHARES }
@@ -60,7 +60,7 @@ impl<'a, R: Clock, L: Ledger> Bench<'a, R, L> {
     }
 
     /// Takes in what a call cost, which began then with a lap of the steps.
-    pub fn take_in(&self, begun: Option<Instant>, costs: &mut Costs) -> Result<(), Failure> {
+    pub fn take_in(&self, begun: Option<Instant>, costs: &mut Costs) -> Outcome {
         let steps = &self.steps;
         let (turns, marks, touches) = (steps.lap_turns(), steps.lap_marks(), steps.lap_touches());
         Ok(costs.push([turns, marks, touches, self.since(begun)?])?)

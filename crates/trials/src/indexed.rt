@@ -1,13 +1,14 @@
 //! An index of items, beside their chain.
 ghost use Rattle.std.specs.Prelude.{◌≡◌, ◌<◌, ◌≤◌};
 
+use crate::bench::Bench;
 use crate::tried::Tried;
 use builder_trait::{Answers, Asking, Builder, Part};
 use global_rebuild::Index;
 use id_chain::{Chain, Handle};
 use query_laws::step_ledger::Steps;
 use query_laws::{Item, NoMemory, Question};
-use samples::Failure;
+use samples::{Failure, Outcome};
 use std::alloc::Global;
 use std::marker::Model;
 use std::sync::ledger::Ledger;
@@ -54,7 +55,7 @@ impl<B: Builder> Tried<B> for Indexed<B> {
         })
     }
 
-    fn insert<L: Ledger>(&mut self, item: B::Item, steps: &mut Steps<L>) -> Result<(), Failure> {
+    fn insert<L: Ledger>(&mut self, item: B::Item, steps: &mut Steps<L>) -> Outcome {
         let stamp = item.stamp();
         if self.chain.len() >= MOST || stamp != self.stamps || stamp >= MOST as u64 {
             return Err(Failure::Unfit);
@@ -73,16 +74,12 @@ impl<B: Builder> Tried<B> for Indexed<B> {
     }
 
     /// The last handle comes to the place of the item's, except at the front.
-    fn delete<L: Ledger>(
-        &mut self,
-        drawn: usize,
-        steps: &mut Steps<L>,
-    ) -> Result<Option<B::Item>, Failure> {
+    fn delete<L: Ledger>(&mut self, pick: usize, steps: &mut Steps<L>) -> Outcome<Option<B::Item>> {
         self.index.prepare(&self.chain, steps)?;
         if self.handles.is_empty() {
             return Ok(None);
         }
-        let handle = match drawn % self.handles.len() {
+        let handle = match pick % self.handles.len() {
             0 => self.handles.remove(0),
             place => self.handles.swap_remove(place),
         };
@@ -95,17 +92,16 @@ impl<B: Builder> Tried<B> for Indexed<B> {
 
     fn answer<Q: Question<Item = B::Item>, L: Ledger>(
         &self,
-        alloc: Global,
         question: &Q,
-        steps: &mut Steps<L>,
-    ) -> Result<Q::Answer, NoMemory>
+        bench: &mut Bench<L>,
+    ) -> Outcome<Q::Answer>
     where
         B::Part: Answers<Q>,
     {
-        let mut asking = Asking::<B::Part, Q>::new(alloc, question);
+        let mut asking = Asking::<B::Part, Q>::new(bench.alloc, question);
         // It says that the parts can be counted.
         self.index.parts();
-        self.index.ask::<Q, L>(&mut asking, steps)?;
+        self.index.ask::<Q, L>(&mut asking, &mut bench.steps)?;
         Ok(asking.finish()?.into_answer())
     }
 }

@@ -4,11 +4,12 @@ ghost use Rattle.std.specs.List.Sorted.{IsPermutation};
 ghost use Rattle.builder_trait.specs.Builders.{begun};
 ghost use Rattle.trials.specs.Filling.{comes_after};
 
+use crate::bench::Bench;
 use crate::tried::Tried;
 use builder_trait::{Answers, Asking, Builder, Part};
 use query_laws::step_ledger::Steps;
 use query_laws::{Item, NoMemory, Order, Question};
-use samples::Failure;
+use samples::{Failure, Outcome};
 use std::alloc::{AllocError, Global};
 use std::cmp::Ordering;
 use std::marker::Model;
@@ -49,7 +50,7 @@ impl<B: Builder> Tried<B> for Marked<B> {
         })
     }
 
-    fn insert<L: Ledger>(&mut self, item: B::Item, _steps: &mut Steps<L>) -> Result<(), Failure> {
+    fn insert<L: Ledger>(&mut self, item: B::Item, _steps: &mut Steps<L>) -> Outcome {
         if self.part.is_some() || item.stamp() != self.items.len() as u64 {
             return Err(Failure::Unfit);
         }
@@ -57,39 +58,34 @@ impl<B: Builder> Tried<B> for Marked<B> {
     }
 
     /// Builds the part.
-    fn settle<L: Ledger>(&mut self, steps: &mut Steps<L>) -> Result<(), Failure> {
+    fn settle<L: Ledger>(&mut self, steps: &mut Steps<L>) -> Outcome {
         self.part = Some(built::<B, L>(self.alloc, &self.items, steps)?);
         Ok(())
     }
 
     /// Marks the item, which may be marked already.
-    fn delete<L: Ledger>(
-        &mut self,
-        drawn: usize,
-        steps: &mut Steps<L>,
-    ) -> Result<Option<B::Item>, Failure> {
+    fn delete<L: Ledger>(&mut self, pick: usize, steps: &mut Steps<L>) -> Outcome<Option<B::Item>> {
         let Some(part) = &mut self.part else {
             return Ok(None);
         };
         if self.items.is_empty() {
             return Ok(None);
         }
-        let item = self.items[drawn % self.items.len()];
+        let item = self.items[pick % self.items.len()];
         Ok(part.mark(&item, steps).then_some(item))
     }
 
     fn answer<Q: Question<Item = B::Item>, L: Ledger>(
         &self,
-        alloc: Global,
         question: &Q,
-        steps: &mut Steps<L>,
-    ) -> Result<Q::Answer, NoMemory>
+        bench: &mut Bench<L>,
+    ) -> Outcome<Q::Answer>
     where
         B::Part: Answers<Q>,
     {
-        let mut asking = Asking::<B::Part, Q>::new(alloc, question);
+        let mut asking = Asking::<B::Part, Q>::new(bench.alloc, question);
         if let Some(part) = &self.part {
-            asking.part(part, steps)?;
+            asking.part(part, &mut bench.steps)?;
         }
         Ok(asking.finish()?.into_answer())
     }
@@ -100,7 +96,7 @@ fn built<B: Builder, L: Ledger>(
     alloc: Global,
     items: &[B::Item],
     steps: &mut Steps<L>,
-) -> Result<B::Part, Failure>
+) -> Outcome<B::Part>
     ensures { IfOk result (λ part. IsPermutation items.now (B.Part.Part.contents part).items) }
 {
     let mut items = Vec::from_slice(alloc, items)?;
@@ -144,7 +140,7 @@ fn is_after<I: Item>(order: Order, last: Option<I>, item: &I) -> bool
 /// A builder of the least level with room for so many items.
 ///
 /// `Unfit` where no builder has it.
-fn room_for<B: Builder>(alloc: Global, n: usize) -> Result<B, Failure>
+fn room_for<B: Builder>(alloc: Global, n: usize) -> Outcome<B>
     ensures begun { IfOk result (λ builder. B.progress builder ≡ begun (B.progress builder).at_level) }
     ensures room { IfOk result (λ builder. n ≤ 2 ^ (B.progress builder).at_level) }
 {
@@ -161,7 +157,7 @@ fn put_in_first<B: Builder, L: Ledger>(
     builder: &mut B,
     items: &[B::Item],
     steps: &mut Steps<L>,
-) -> Result<(), Failure>
+) -> Outcome
     requires begun { B.progress builder.old ≡ begun (B.progress builder.old).at_level }
     requires room { length items.now ≤ 2 ^ (B.progress builder.old).at_level }
     ensures put { OnOk result (B.progress builder.new ≡ record (B.progress builder.old) { items = items.now }) }
@@ -183,7 +179,7 @@ fn put_in_second<B: Builder, L: Ledger>(
     items: &[B::Item],
     places: &[usize],
     steps: &mut Steps<L>,
-) -> Result<(), Failure>
+) -> Outcome
     requires begun { B.progress builder.old ≡ record (begun (B.progress builder.old).at_level) { items = items.now } }
     ensures open { OnOk result ((B.progress builder.new).is_sealed ≡ false) }
     ensures same { OnOk result ((B.progress builder.new).items ≡ items.now) }

@@ -4,13 +4,11 @@ ghost use Rattle.map_io.specs.SinkTold.{told_by_faults};
 use crate::bench::Bench;
 use map_io::{Failed, Sink};
 use map_session::{LineStart, MapSession};
-use samples::{Costs, Failure};
+use samples::{Costs, Failure, Outcome};
 use script_lang::split_word;
 use std::fs;
 use std::io::Read;
-use std::rt::Files;
 use std::sync::ledger::Ledger;
-use std::time::Clock;
 
 /// What lines are told of by: the command words in alphabetical order, and all updates together.
 const WORDS: &str =
@@ -44,10 +42,7 @@ struct ScriptRun {
 ///
 /// Lines that are refused count too, by their first words. Neither the text nor the answers are kept. A line's cost has no part of the
 /// reads.
-pub fn measure_script<R: Clock + Files, L: Ledger>(
-    bench: &mut Bench<R, L>,
-    path: &str,
-) -> Result<(), Failure> {
+pub fn measure_script<L: Ledger>(bench: &mut Bench<L>, path: &str) -> Outcome {
     let alloc = bench.alloc;
     let words = WORDS.split_ascii_whitespace();
     let mut run = ScriptRun {
@@ -64,11 +59,7 @@ pub fn measure_script<R: Clock + Files, L: Ledger>(
 
 impl ScriptRun {
     /// Reads a script up to its end, and runs its lines.
-    fn read<F: Read, R: Clock, L: Ledger>(
-        &mut self,
-        file: &mut F,
-        bench: &mut Bench<R, L>,
-    ) -> Result<(), Failure> {
+    fn read<F: Read, L: Ledger>(&mut self, file: &mut F, bench: &mut Bench<L>) -> Outcome {
         let mut room = [0u8; PIECE];
         for _ in 0..u64::MAX {
             let given = file.read(&mut room)?;
@@ -84,11 +75,7 @@ impl ScriptRun {
     }
 
     /// Takes the next bytes of the script, and runs the lines that end in them.
-    fn take<R: Clock, L: Ledger>(
-        &mut self,
-        piece: &[u8],
-        bench: &mut Bench<R, L>,
-    ) -> Result<(), Failure> {
+    fn take<L: Ledger>(&mut self, piece: &[u8], bench: &mut Bench<L>) -> Outcome {
         for (number, part) in piece.split(|byte| *byte == b'\n').enumerate() {
             // A line feed stands before each part but the first.
             if number > 0 {
@@ -100,7 +87,7 @@ impl ScriptRun {
     }
 
     /// Runs the line that is begun, and takes in what it cost where it is told of. `Unfit` where the session has had 2^40.
-    fn end_line<R: Clock, L: Ledger>(&mut self, bench: &mut Bench<R, L>) -> Result<(), Failure> {
+    fn end_line<L: Ledger>(&mut self, bench: &mut Bench<L>) -> Outcome {
         if self.session.lines() >= 1 << 40 {
             return Err(Failure::Unfit);
         }

@@ -6,65 +6,44 @@ use map_io::{MemSink, Sink};
 use map_session::{LineStart, MapSession, answer_begun, answer_piece};
 use query_laws::NoMemory;
 use query_laws::step_ledger::Steps;
-use samples::{Exchange, Failure, Generator, PlainMap};
-use std::alloc::Global;
+use samples::{Exchange, Failure, Generator, Outcome, PlainMap};
 use std::fs;
-use std::rt::Files;
 use std::sync::ledger::Ledger;
-use std::time::Clock;
 
 /// A session has had fewer lines, and a piece fewer bytes.
 const MOST: u64 = 1 << 39;
 
-/// Pieces up to this length are tried at each length, and longer ones at powers of two.
-const SHORT: usize = 64;
-
-/// Of a text up to this length, pieces are tried at each length.
-const SHORT_TEXT: usize = 4_096;
-
 /// The length of pieces that are whole texts.
 const WHOLE: usize = usize::MAX;
 
-/// The text of so many seeded lines is read in pieces too.
-const READ_IN_PIECES: u32 = 100;
-
 /// Gives a new session the lines that make the layers of a plain map, and so many seeded ones, and compares its answers with those of the
-/// map; then those of other sessions to the text of the first lines, at once and in pieces.
+/// map.
 ///
 /// Tells of the lines. `Differs` where answers differ.
-pub fn check_made_script<R: Clock, L: Ledger>(
-    bench: &mut Bench<R, L>,
+pub fn check_made_script<L: Ledger>(
+    bench: &mut Bench<L>,
     map: &mut PlainMap,
     seed: u64,
     lines: u32,
-) -> Result<(), Failure> {
-    let (alloc, steps) = (bench.alloc, &mut bench.steps);
-    let mut session = MapSession::new(alloc, false);
+) -> Outcome {
+    let mut session = MapSession::new(bench.alloc, false);
     let mut generator = Generator::new(seed);
-    let mut first = PlainMap::made(alloc)?;
-    check_answers(alloc, &mut session, &first, WHOLE, steps)?;
-    for number in 0..lines {
+    let made = PlainMap::made(bench.alloc)?;
+    check_answers(&mut session, &made, WHOLE, bench)?;
+    for _ in 0..lines {
         let said = map.draw(&mut generator)?;
-        match check_answers(alloc, &mut session, &said, WHOLE, steps) {
-            Err(Failure::NoMemory(_)) => check_answers(alloc, &mut session, &said, WHOLE, steps)?,
+        match check_answers(&mut session, &said, WHOLE, bench) {
+            Err(Failure::NoMemory(_)) => check_answers(&mut session, &said, WHOLE, bench)?,
             done => done?,
         }
-        if number < READ_IN_PIECES {
-            first.text.push_str(said.text.as_str())?;
-            first.answers.push_str(said.answers.as_str())?;
-        }
     }
-    check_pieces(alloc, &first, steps)?;
     Ok(writeln!(bench.report, "script lines {lines}")?)
 }
 
 /// Runs each script `NAME.livemap` of a folder by sessions of its own, at once and in pieces, and compares the answers with the file `NAME.out`.
 ///
 /// Tells how many there are. `Differs` where the answers aren't those of the file.
-pub fn check_examples<R: Clock + Files + AllocGlobal + Clone + Drop, L: Ledger>(
-    bench: &mut Bench<R, L>,
-    folder: &str,
-) -> Result<(), Failure> {
+pub fn check_examples<L: Ledger>(bench: &mut Bench<L>, folder: &str) -> Outcome {
     let mut count = 0u64;
     for entry in fs::read_dir(bench.rt, folder)? {
         let entry = entry?;
@@ -75,30 +54,18 @@ pub fn check_examples<R: Clock + Files + AllocGlobal + Clone + Drop, L: Ledger>(
                 text: fs::read_to_string(bench.rt, script.as_str())?,
                 answers: fs::read_to_string(bench.rt, wanted.as_str())?,
             };
-            check_pieces(bench.alloc, &said, &mut bench.steps)?;
+            check_pieces(&said, bench)?;
             count = count.wrapping_add(1);
         }
     }
     Ok(writeln!(bench.report, "examples count {count}")?)
 }
 
-/// Compares the answers of new sessions to a text, in pieces of many lengths and at once, with those that are said with it.
-fn check_pieces<L: Ledger>(
-    alloc: Global,
-    said: &Exchange,
-    steps: &mut Steps<L>,
-) -> Result<(), Failure> {
-    let size = said.text.len();
-    for length in 1..=size.saturating_add(1) {
-        if size <= SHORT_TEXT || length <= SHORT || length.is_power_of_two() || length > size {
-            check_answers(
-                alloc,
-                &mut MapSession::new(alloc, false),
-                said,
-                length,
-                steps,
-            )?;
-        }
+/// Compares the answers of new sessions to a text, in pieces of each length and at once, with those that are said with it.
+fn check_pieces<L: Ledger>(said: &Exchange, bench: &mut Bench<L>) -> Outcome {
+    for length in 1..=said.text.len().saturating_add(1) {
+        let mut session = MapSession::new(bench.alloc, false);
+        check_answers(&mut session, said, length, bench)?;
     }
     Ok(())
 }
@@ -107,18 +74,18 @@ fn check_pieces<L: Ledger>(
 ///
 /// `NoMemory` where they differ and a line was refused memory.
 fn check_answers<L: Ledger>(
-    alloc: Global,
     session: &mut MapSession,
     said: &Exchange,
     length: usize,
-    steps: &mut Steps<L>,
-) -> Result<(), Failure>
+    bench: &mut Bench<L>,
+) -> Outcome
     requires { 0 < length }
 {
-    let wanted = said.answers.as_bytes();
-    let space = vec![in alloc; 0u8; wanted.len().saturating_add(SHORT)]?;
+    let (alloc, wanted) = (bench.alloc, said.answers.as_bytes());
+    let space = vec![in alloc; 0u8; wanted.len().saturating_add(64)]?;
     let mut sink = MemSink::new(space, usize::MAX, Vec::new(alloc));
-    match give_text(session, said.text.as_bytes(), length, &mut sink, steps) {
+    let text = said.text.as_bytes();
+    match give_text(session, text, length, &mut sink, &mut bench.steps) {
         Ok(()) if sink.written() == wanted => return Ok(()),
         Ok(()) | Err(Failure::NoAnswers(_)) => (),
         failed => return failed,
@@ -139,7 +106,7 @@ fn give_text<K: Sink, L: Ledger>(
     length: usize,
     sink: &mut K,
     steps: &mut Steps<L>,
-) -> Result<(), Failure>
+) -> Outcome
     requires { 0 < length }
 {
     let mut begun = LineStart::new();

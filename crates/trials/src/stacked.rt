@@ -1,11 +1,11 @@
 //! A stack of items.
-
+use crate::bench::Bench;
 use crate::tried::Tried;
 use builder_trait::{Answers, Asking, Builder, Part};
 use level_slots::Stack;
 use query_laws::step_ledger::Steps;
 use query_laws::{Item, NoMemory, Question};
-use samples::Failure;
+use samples::{Failure, Outcome};
 use std::alloc::Global;
 use std::marker::Model;
 use std::sync::ledger::Ledger;
@@ -45,7 +45,7 @@ impl<B: Builder> Tried<B> for Stacked<B> {
         })
     }
 
-    fn insert<L: Ledger>(&mut self, item: B::Item, steps: &mut Steps<L>) -> Result<(), Failure> {
+    fn insert<L: Ledger>(&mut self, item: B::Item, steps: &mut Steps<L>) -> Outcome {
         if item.stamp() != self.stack.weight() || item.stamp() >= MOST {
             return Err(Failure::Unfit);
         }
@@ -56,16 +56,12 @@ impl<B: Builder> Tried<B> for Stacked<B> {
         Ok(())
     }
 
-    fn delete<L: Ledger>(
-        &mut self,
-        drawn: usize,
-        steps: &mut Steps<L>,
-    ) -> Result<Option<B::Item>, Failure> {
+    fn delete<L: Ledger>(&mut self, pick: usize, steps: &mut Steps<L>) -> Outcome<Option<B::Item>> {
         if self.stack.weight() >= MOST || self.items.is_empty() {
             return Ok(None);
         }
         self.stack.prepare()?;
-        let item = self.items[drawn % self.items.len()];
+        let item = self.items[pick % self.items.len()];
         self.stack.delete(&item, steps);
         self.items.retain(|other| other.stamp() != item.stamp());
         Ok(Some(item))
@@ -73,17 +69,16 @@ impl<B: Builder> Tried<B> for Stacked<B> {
 
     fn answer<Q: Question<Item = B::Item>, L: Ledger>(
         &self,
-        alloc: Global,
         question: &Q,
-        steps: &mut Steps<L>,
-    ) -> Result<Q::Answer, NoMemory>
+        bench: &mut Bench<L>,
+    ) -> Outcome<Q::Answer>
     where
         B::Part: Answers<Q>,
     {
-        let mut asking = Asking::<B::Part, Q>::new(alloc, question);
+        let mut asking = Asking::<B::Part, Q>::new(bench.alloc, question);
         // It says that the parts can be counted.
         self.stack.parts();
-        self.stack.ask::<Q, L>(&mut asking, steps)?;
+        self.stack.ask::<Q, L>(&mut asking, &mut bench.steps)?;
         Ok(asking.finish()?.into_answer())
     }
 }

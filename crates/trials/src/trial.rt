@@ -9,11 +9,9 @@ use crate::tried::{Kind, Tried};
 use builder_trait::RowsBuilder;
 use query_laws::step_ledger::Steps;
 use query_laws::{Item, NoMemory};
-use samples::{Costs, Failure, Generator, Seeded, Spread, drawn_question, numbers};
+use samples::{Costs, Failure, Generator, Outcome, Seeded, Spread, drawn_question, numbers};
 use std::alloc::Global;
-use std::rt::Files;
 use std::sync::ledger::Ledger;
-use std::time::Clock;
 use std::{fs, mem};
 
 /// The most updates after the first inserts where answers are compared.
@@ -48,35 +46,31 @@ pub enum Layer {
 
 /// Tries a layer of a kind. Where items lie densely it is compared with a plain list, at each size up to that of the plan which is at most
 /// 1 away from a power of two, and elsewhere measured.
-pub fn try_layer<K: Kind, R: Clock + Files + AllocGlobal, L: Ledger>(
-    bench: &mut Bench<R, L>,
-    layer: Layer,
-    plan: Plan,
-) -> Result<(), Failure> {
+pub fn try_layer<K: Kind, L: Ledger>(bench: &mut Bench<L>, layer: Layer, plan: Plan) -> Outcome {
     match layer {
-        Layer::Part => try_sizes::<K, Marked<RowsBuilder<K>>, R, L>(bench, plan),
-        Layer::Stack => try_sizes::<K, Stacked<RowsBuilder<K>>, R, L>(bench, plan),
-        Layer::Index => try_sizes::<K, Indexed<RowsBuilder<K>>, R, L>(bench, plan),
+        Layer::Part => try_sizes::<K, Marked<RowsBuilder<K>>, L>(bench, plan),
+        Layer::Stack => try_sizes::<K, Stacked<RowsBuilder<K>>, L>(bench, plan),
+        Layer::Index => try_sizes::<K, Indexed<RowsBuilder<K>>, L>(bench, plan),
     }
 }
 
-fn try_sizes<K: Kind, T: Tried<RowsBuilder<K>>, R: Clock + Files + AllocGlobal, L: Ledger>(
-    bench: &mut Bench<R, L>,
+fn try_sizes<K: Kind, T: Tried<RowsBuilder<K>>, L: Ledger>(
+    bench: &mut Bench<L>,
     plan: Plan,
-) -> Result<(), Failure> {
+) -> Outcome {
     if plan.spread != Spread::Dense {
-        return run_trial::<K, T, R, L>(bench, plan);
+        return run_trial::<K, T, L>(bench, plan);
     }
     for size in 0..=plan.size {
         let mut near = size.saturating_sub(1)..=size.saturating_add(1);
         if near.any(|n| n.is_power_of_two()) {
             let seed = plan.seed.wrapping_add(size as u64);
             let plan = Plan { seed, size, ..plan };
-            let mut done = run_trial::<K, T, R, L>(bench, plan);
+            let mut done = run_trial::<K, T, L>(bench, plan);
             if matches!(done, Err(Failure::NoMemory(_))) {
                 // For the trial's own lists: once more, from the beginning.
                 bench.refused = bench.refused.wrapping_add(1);
-                done = run_trial::<K, T, R, L>(bench, plan);
+                done = run_trial::<K, T, L>(bench, plan);
             }
             done?;
         }
@@ -86,28 +80,23 @@ fn try_sizes<K: Kind, T: Tried<RowsBuilder<K>>, R: Clock + Files + AllocGlobal, 
 }
 
 /// Tries something by a plan, and tells how much memory it holds where times are wanted and nothing is compared.
-fn run_trial<K: Kind, T: Tried<RowsBuilder<K>>, R: Clock + Files + AllocGlobal, L: Ledger>(
-    bench: &mut Bench<R, L>,
+fn run_trial<K: Kind, T: Tried<RowsBuilder<K>>, L: Ledger>(
+    bench: &mut Bench<L>,
     plan: Plan,
-) -> Result<(), Failure> {
+) -> Outcome {
     let before = bytes_held(bench)?;
     let mut trial = Trial::<K, T>::new(bench.alloc, plan)?;
     trial.fill(bench)?;
     let bytes = bytes_held(bench)?.saturating_sub(before);
-    if bytes > 0 && plan.spread != Spread::Dense {
+    if bench.is_timed && plan.spread != Spread::Dense {
         let each = bytes / (plan.size as u64).max(1);
         writeln!(bench.report, "{} bytes {bytes} each {each}", T::WORD)?;
     }
     trial.update(bench)
 }
 
-/// How many bytes of memory the process holds, which the system tells in pages of 4,096, where times are wanted, and 0 otherwise.
-fn bytes_held<R: Clock + Files + AllocGlobal, L: Ledger>(
-    bench: &Bench<R, L>,
-) -> Result<u64, Failure> {
-    if !bench.is_timed {
-        return Ok(0);
-    }
+/// How many bytes of memory the process holds, which the system tells in pages of 4,096.
+fn bytes_held<L: Ledger>(bench: &Bench<L>) -> Outcome<u64> {
     let line = fs::read_to_string(bench.rt, "/proc/self/statm")?;
     let pages = line.as_str().split_ascii_whitespace().nth(1);
     let pages: u64 = pages.unwrap_or("0").parse().unwrap_or(0);
@@ -142,7 +131,7 @@ impl<K: Kind, T: Tried<RowsBuilder<K>>> Trial<K, T> {
     }
 
     /// Inserts the first items, and asks each question.
-    pub fn fill<R: Clock, L: Ledger>(&mut self, bench: &mut Bench<R, L>) -> Result<(), Failure> {
+    pub fn fill<L: Ledger>(&mut self, bench: &mut Bench<L>) -> Outcome {
         for _ in 0..self.plan.size {
             let item = self.drawn_item(0);
             self.change(item, bench)?;
@@ -158,7 +147,7 @@ impl<K: Kind, T: Tried<RowsBuilder<K>>> Trial<K, T> {
     }
 
     /// Makes the updates. Where answers are compared, it asks each question after each tenth.
-    pub fn update<R: Clock, L: Ledger>(&mut self, bench: &mut Bench<R, L>) -> Result<(), Failure> {
+    pub fn update<L: Ledger>(&mut self, bench: &mut Bench<L>) -> Outcome {
         let updates = match self.is_compared() {
             true => self.plan.size.saturating_mul(6).min(COMPARED_UPDATES),
             false => self.plan.size.saturating_mul(3).min(T::UPDATES.1),
@@ -174,10 +163,7 @@ impl<K: Kind, T: Tried<RowsBuilder<K>>> Trial<K, T> {
     }
 
     /// Asks each question of the kind, so often as the plan wants. `Differs` where an answer isn't that of a scan.
-    pub fn ask_each<R: Clock, L: Ledger>(
-        &mut self,
-        bench: &mut Bench<R, L>,
-    ) -> Result<(), Failure> {
+    pub fn ask_each<L: Ledger>(&mut self, bench: &mut Bench<L>) -> Outcome {
         let live: Vec<K::Item> = self.items.iter().flatten().copied().collect(bench.alloc)?;
         for (word, class) in K::ASKED {
             self.ask(word, *class, &live, bench)?;
@@ -185,13 +171,13 @@ impl<K: Kind, T: Tried<RowsBuilder<K>>> Trial<K, T> {
         Ok(())
     }
 
-    fn ask<R: Clock, L: Ledger>(
+    fn ask<L: Ledger>(
         &mut self,
         word: &str,
         class: u32,
         live: &[K::Item],
-        bench: &mut Bench<R, L>,
-    ) -> Result<(), Failure> {
+        bench: &mut Bench<L>,
+    ) -> Outcome {
         let (asked, scanned) = match (self.is_compared(), bench.is_timed) {
             (true, _) => (COMPARED, COMPARED),
             (false, true) => (ASKED, SCANNED),
@@ -209,16 +195,16 @@ impl<K: Kind, T: Tried<RowsBuilder<K>>> Trial<K, T> {
     }
 
     /// Puts a drawn question, and compares the answer with that of a scan.
-    fn put<R: Clock, L: Ledger>(
+    fn put<L: Ledger>(
         &mut self,
         word: &str,
         class: u32,
         scanned: Option<&[K::Item]>,
-        bench: &mut Bench<R, L>,
-    ) -> Result<(), Failure> {
+        bench: &mut Bench<L>,
+    ) -> Outcome {
         let question = drawn_question(word, class, self.plan.spread, &mut self.generator);
         let begun = bench.begin()?;
-        let answer = K::ask(bench.alloc, &self.set, &question, &mut bench.steps)?;
+        let answer = K::ask(&self.set, &question, bench)?;
         bench.take_in(begun, &mut self.costs)?;
         bench.answers = bench.answers.wrapping_add(1);
         if let Some(items) = scanned {
@@ -235,11 +221,7 @@ impl<K: Kind, T: Tried<RowsBuilder<K>>> Trial<K, T> {
     }
 
     /// Tells what calls cost since it was told last, where nothing is compared.
-    fn tell_costs<R: Clock, L: Ledger>(
-        &mut self,
-        words: &str,
-        bench: &mut Bench<R, L>,
-    ) -> Result<(), Failure> {
+    fn tell_costs<L: Ledger>(&mut self, words: &str, bench: &mut Bench<L>) -> Outcome {
         let mut costs = mem::replace(&mut self.costs, Costs::new(bench.alloc));
         if !self.is_compared() {
             let words = format!(in bench.alloc; "{} {words}", T::WORD)?;
@@ -260,11 +242,7 @@ impl<K: Kind, T: Tried<RowsBuilder<K>>> Trial<K, T> {
     /// Inserts an item, or deletes a drawn one. Where memory is refused, it compares, and asks for it once more.
     ///
     /// `NoMemory` where it is refused again.
-    fn change<R: Clock, L: Ledger>(
-        &mut self,
-        item: Option<K::Item>,
-        bench: &mut Bench<R, L>,
-    ) -> Result<(), Failure> {
+    fn change<L: Ledger>(&mut self, item: Option<K::Item>, bench: &mut Bench<L>) -> Outcome {
         let begun = bench.begin()?;
         let mut done = self.make(item, bench);
         if matches!(done, Err(Failure::NoMemory(_))) {
@@ -279,23 +257,16 @@ impl<K: Kind, T: Tried<RowsBuilder<K>>> Trial<K, T> {
     }
 
     /// Makes a change once, and that of the plain list. Where an even number of items is compared, it deletes the one at the front.
-    fn make<R: Clock, L: Ledger>(
-        &mut self,
-        item: Option<K::Item>,
-        bench: &mut Bench<R, L>,
-    ) -> Result<(), Failure> {
+    fn make<L: Ledger>(&mut self, item: Option<K::Item>, bench: &mut Bench<L>) -> Outcome {
         self.items.reserve(1)?;
         if let Some(item) = item {
             self.set.insert(item, &mut bench.steps)?;
             return Ok(self.items.push(Some(item))?);
         }
         let is_front = self.is_compared() && self.plan.size % 2 == 0;
-        let drawn = if is_front {
-            0
-        } else {
-            self.generator.draw() as usize
-        };
-        let deleted = self.set.delete(drawn, &mut bench.steps)?;
+        let drawn = self.generator.draw() as usize;
+        let pick = if is_front { 0 } else { drawn };
+        let deleted = self.set.delete(pick, &mut bench.steps)?;
         let place = deleted.map_or(usize::MAX, |item| item.stamp() as usize);
         if let Some(slot) = self.items.get_mut(place) {
             *slot = None;

@@ -1,4 +1,5 @@
 //! What is tried: items of a kind that come and go, and answer questions.
+use crate::bench::Bench;
 use builder_trait::{Answers, Builder, Rows, RowsBuilder};
 use interval_stab::StabRows;
 use kd_nearest::KdRows;
@@ -7,7 +8,7 @@ use priority_search::TopRows;
 use query_laws::step_ledger::Steps;
 use query_laws::{NoMemory, Question};
 use range_tree::RangeRows;
-use samples::{Failure, Seeded};
+use samples::{Failure, Outcome, Seeded};
 use std::alloc::Global;
 use std::sync::ledger::Ledger;
 
@@ -29,27 +30,22 @@ pub trait Tried<B: Builder>: Drop + Sized {
     /// No items, with room in its own lists for so many.
     fn new(alloc: Global, most: usize) -> Result<Self, NoMemory>;
 
-    fn insert<L: Ledger>(&mut self, item: B::Item, steps: &mut Steps<L>) -> Result<(), Failure>;
+    fn insert<L: Ledger>(&mut self, item: B::Item, steps: &mut Steps<L>) -> Outcome;
 
     /// Ends the first inserts.
-    fn settle<L: Ledger>(&mut self, _steps: &mut Steps<L>) -> Result<(), Failure> {
+    fn settle<L: Ledger>(&mut self, _steps: &mut Steps<L>) -> Outcome {
         Ok(())
     }
 
-    /// Deletes the item that a drawn number picks, the front one by 0, and gives it, if one is live there.
-    fn delete<L: Ledger>(
-        &mut self,
-        drawn: usize,
-        steps: &mut Steps<L>,
-    ) -> Result<Option<B::Item>, Failure>;
+    /// Deletes the item that a number picks, the front one by 0, and gives it, if one is live there.
+    fn delete<L: Ledger>(&mut self, pick: usize, steps: &mut Steps<L>) -> Outcome<Option<B::Item>>;
 
     /// The answer to a question that is put to all parts.
     fn answer<Q: Question<Item = B::Item>, L: Ledger>(
         &self,
-        alloc: Global,
         question: &Q,
-        steps: &mut Steps<L>,
-    ) -> Result<Q::Answer, NoMemory>
+        bench: &mut Bench<L>,
+    ) -> Outcome<Q::Answer>
     where
         B::Part: Answers<Q>;
 }
@@ -64,11 +60,10 @@ pub trait Kind: Rows<Item: Seeded> {
 
     /// Puts a question to something of the kind. `Unfit` where the kind doesn't answer it.
     fn ask<T: Tried<RowsBuilder<Self>>, L: Ledger>(
-        alloc: Global,
         set: &T,
         question: &AnyQuestion,
-        steps: &mut Steps<L>,
-    ) -> Result<AnyAnswer, Failure>;
+        bench: &mut Bench<L>,
+    ) -> Outcome<AnyAnswer>;
 }
 
 impl Kind for RangeRows {
@@ -77,15 +72,14 @@ impl Kind for RangeRows {
     const ASKED: Asked = &[("count", 60), ("sum", 60), ("list", 60)];
 
     fn ask<T: Tried<RowsBuilder<RangeRows>>, L: Ledger>(
-        alloc: Global,
         set: &T,
         question: &AnyQuestion,
-        steps: &mut Steps<L>,
-    ) -> Result<AnyAnswer, Failure> {
+        bench: &mut Bench<L>,
+    ) -> Outcome<AnyAnswer> {
         Ok(match question {
-            AnyQuestion::CountIn(q) => AnyAnswer::Counted(set.answer(alloc, q, steps)?),
-            AnyQuestion::SumIn(q) => AnyAnswer::Summed(set.answer(alloc, q, steps)?),
-            AnyQuestion::ListIn(q) => AnyAnswer::Listed(set.answer(alloc, q, steps)?),
+            AnyQuestion::CountIn(q) => AnyAnswer::Counted(set.answer(q, bench)?),
+            AnyQuestion::SumIn(q) => AnyAnswer::Summed(set.answer(q, bench)?),
+            AnyQuestion::ListIn(q) => AnyAnswer::Listed(set.answer(q, bench)?),
             _ => return Err(Failure::Unfit),
         })
     }
@@ -103,14 +97,13 @@ impl Kind for KdRows {
     ];
 
     fn ask<T: Tried<RowsBuilder<KdRows>>, L: Ledger>(
-        alloc: Global,
         set: &T,
         question: &AnyQuestion,
-        steps: &mut Steps<L>,
-    ) -> Result<AnyAnswer, Failure> {
+        bench: &mut Bench<L>,
+    ) -> Outcome<AnyAnswer> {
         Ok(match question {
-            AnyQuestion::Near(q) => AnyAnswer::Nearest(set.answer(alloc, q, steps)?),
-            AnyQuestion::NearK(q) => AnyAnswer::NearestFew(set.answer(alloc, q, steps)?),
+            AnyQuestion::Near(q) => AnyAnswer::Nearest(set.answer(q, bench)?),
+            AnyQuestion::NearK(q) => AnyAnswer::NearestFew(set.answer(q, bench)?),
             _ => return Err(Failure::Unfit),
         })
     }
@@ -129,14 +122,13 @@ impl Kind for TopRows {
     ];
 
     fn ask<T: Tried<RowsBuilder<TopRows>>, L: Ledger>(
-        alloc: Global,
         set: &T,
         question: &AnyQuestion,
-        steps: &mut Steps<L>,
-    ) -> Result<AnyAnswer, Failure> {
+        bench: &mut Bench<L>,
+    ) -> Outcome<AnyAnswer> {
         Ok(match question {
-            AnyQuestion::Top(q) => AnyAnswer::Highest(set.answer(alloc, q, steps)?),
-            AnyQuestion::Above(q) => AnyAnswer::ListedAbove(set.answer(alloc, q, steps)?),
+            AnyQuestion::Top(q) => AnyAnswer::Highest(set.answer(q, bench)?),
+            AnyQuestion::Above(q) => AnyAnswer::ListedAbove(set.answer(q, bench)?),
             _ => return Err(Failure::Unfit),
         })
     }
@@ -148,14 +140,13 @@ impl Kind for StabRows {
     const ASKED: Asked = &[("stab", 62), ("stab", 1_000), ("stabcount", 62)];
 
     fn ask<T: Tried<RowsBuilder<StabRows>>, L: Ledger>(
-        alloc: Global,
         set: &T,
         question: &AnyQuestion,
-        steps: &mut Steps<L>,
-    ) -> Result<AnyAnswer, Failure> {
+        bench: &mut Bench<L>,
+    ) -> Outcome<AnyAnswer> {
         Ok(match question {
-            AnyQuestion::Stab(q) => AnyAnswer::Stabbed(set.answer(alloc, q, steps)?),
-            AnyQuestion::StabCount(q) => AnyAnswer::StabCounted(set.answer(alloc, q, steps)?),
+            AnyQuestion::Stab(q) => AnyAnswer::Stabbed(set.answer(q, bench)?),
+            AnyQuestion::StabCount(q) => AnyAnswer::StabCounted(set.answer(q, bench)?),
             _ => return Err(Failure::Unfit),
         })
     }
