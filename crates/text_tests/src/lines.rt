@@ -1,7 +1,5 @@
 //! A line of each form, and lines that are wrong in each way.
-use map_questions::{Above, AnyQuestion, Near, NearK, Stab, StabCount, Top};
-use map_shapes::{CountIn, Kind, ListIn, SumIn};
-use script_lang::{Command, Limits, LineFault, parse, parse_number};
+use script_lang::{Limits, LineFault, parse, parse_number};
 use std::alloc::Global;
 use std::test::Fail;
 
@@ -12,143 +10,6 @@ fn fault(line: &[u8]) -> Option<LineFault> {
 
 fn is_nothing(line: &[u8]) -> bool {
     matches!(parse(line), Ok(None))
-}
-
-#[test]
-fn reads_updates(rt: HostRuntime) {
-    assert!(rt;
-        matches!(parse(b"layer shops points top range near"), Ok(Some(Command::Layer { kind: Kind::Points, indexes, .. })) if indexes.range && indexes.near && indexes.top && !indexes.stab)
-    );
-    assert!(rt;
-        matches!(parse(b"layer s segments stab"), Ok(Some(Command::Layer { kind: Kind::Segments, indexes, .. })) if indexes.stab && !indexes.range)
-    );
-    assert!(rt;
-        matches!(
-            parse(b"add a 18446744073709551615 1 2 2147483647"),
-            Ok(Some(Command::Add {
-                id: u64::MAX,
-                x: 1,
-                y: 2,
-                w: 2_147_483_647,
-                ..
-            }))
-        )
-    );
-    assert!(rt;
-        matches!(
-            parse(b"seg a 7 1 2 3"),
-            Ok(Some(Command::Seg {
-                id: 7,
-                lo: 1,
-                hi: 2,
-                y: 3,
-                ..
-            }))
-        )
-    );
-    assert!(rt; matches!(parse(b"drop a 7"), Ok(Some(Command::Drop { id: 7, .. }))));
-}
-
-#[test]
-fn reads_questions_of_rectangles(rt: HostRuntime) {
-    assert!(rt;
-        matches!(parse(b"count a 1 2 3 4"), Ok(Some(Command::Ask { question: AnyQuestion::CountIn(CountIn(rect)), .. })) if rect.x1 == 1 && rect.y1 == 2 && rect.x2 == 3 && rect.y2 == 4)
-    );
-    assert!(rt;
-        matches!(parse(b"sum a 1 2 3 4"), Ok(Some(Command::Ask { question: AnyQuestion::SumIn(SumIn(rect)), .. })) if rect.y2 == 4)
-    );
-    assert!(rt;
-        matches!(parse(b"list a 1 2 3 4"), Ok(Some(Command::Ask { question: AnyQuestion::ListIn(ListIn(rect)), .. })) if rect.x2 == 3)
-    );
-}
-
-#[test]
-fn reads_questions_of_places(rt: HostRuntime) {
-    assert!(rt;
-        matches!(
-            parse(b"near a 1 2"),
-            Ok(Some(Command::Ask {
-                question: AnyQuestion::Near(Near { x: 1, y: 2, .. }),
-                ..
-            }))
-        )
-    );
-    assert!(rt;
-        matches!(
-            parse(b"nearest a 64 1 2"),
-            Ok(Some(Command::Ask {
-                question: AnyQuestion::NearK(NearK {
-                    k: 64,
-                    x: 1,
-                    y: 2,
-                    ..
-                }),
-                ..
-            }))
-        )
-    );
-}
-
-#[test]
-fn reads_questions_of_strips(rt: HostRuntime) {
-    assert!(rt;
-        matches!(
-            parse(b"above a 1 2 3"),
-            Ok(Some(Command::Ask {
-                question: AnyQuestion::Above(Above {
-                    x1: 1,
-                    x2: 2,
-                    y: 3,
-                    ..
-                }),
-                ..
-            }))
-        )
-    );
-    assert!(rt;
-        matches!(
-            parse(b"top a 1 2"),
-            Ok(Some(Command::Ask {
-                question: AnyQuestion::Top(Top { x1: 1, x2: 2, .. }),
-                ..
-            }))
-        )
-    );
-}
-
-#[test]
-fn reads_questions_of_segments(rt: HostRuntime) {
-    assert!(rt;
-        matches!(
-            parse(b"stab a 1"),
-            Ok(Some(Command::Ask {
-                question: AnyQuestion::Stab(Stab { x: 1, .. }),
-                ..
-            }))
-        )
-    );
-    assert!(rt;
-        matches!(
-            parse(b"stabcount a 1"),
-            Ok(Some(Command::Ask {
-                question: AnyQuestion::StabCount(StabCount { x: 1, .. }),
-                ..
-            }))
-        )
-    );
-}
-
-#[test]
-fn reads_questions_of_layers(rt: HostRuntime) {
-    assert!(rt;
-        matches!(
-            parse(b"get a 0000000000018446744073709551615"),
-            Ok(Some(Command::Get { id: u64::MAX, .. }))
-        )
-    );
-    assert!(rt; matches!(parse(b"\tsize a\t\r"), Ok(Some(Command::Size { .. }))));
-    assert!(rt; matches!(parse(b"size a-_Z9"), Ok(Some(Command::Size { .. }))));
-    assert!(rt; matches!(parse(b"recent a 1"), Ok(Some(Command::Recent { k: 1, .. }))));
 }
 
 #[test]
@@ -290,6 +151,11 @@ fn writes_lines(rt: HostRuntime) -> Result<(), Fail> {
 fn writes_plain_lines(rt: HostRuntime) -> Result<(), Fail> {
     for (line, wanted) in [
         ("\tdrop  a 007\r", "drop a 7"),
+        (
+            "get a 0000000000018446744073709551615",
+            "get a 18446744073709551615",
+        ),
+        ("\tsize a-_Z9\t\r", "size a-_Z9"),
         (
             "layer a points top near range",
             "layer a points range near top",

@@ -17,38 +17,20 @@ fn asked() -> Asked {
     }
 }
 
-/// A reply's line without the ledger, and what the ledger puts behind it.
+/// Writes a reply without the ledger and with it, and compares with its line, and with the line and its tail.
 fn check(
     rt: &impl Abort,
     alloc: Global,
     reply: &Reply,
-    line: &[u8],
-    tail: &[u8],
+    line: &str,
+    tail: &str,
 ) -> Result<(), Fail> {
     let mut sink = MemSink::new([0; 300].to_vec(alloc)?, 300, Vec::new(alloc));
     write_reply(reply, false, &mut sink)?;
     write_reply(reply, true, &mut sink)?;
-    let mut want = line.to_vec(alloc)?;
-    want.push(b'\n')?;
-    want.extend_from_slice(line)?;
-    want.extend_from_slice(tail)?;
-    want.push(b'\n')?;
-    assert_eq!(rt; sink.written(), want.as_slice());
+    let wanted = format!(in alloc; "{line}\n{line}{tail}\n")?;
+    assert_eq!(rt; sink.written(), wanted.as_bytes());
     Ok(())
-}
-
-/// An answer's line without the ledger, and with it.
-fn check_answer(
-    rt: &impl Abort,
-    alloc: Global,
-    answer: AnyAnswer,
-    line: &[u8],
-) -> Result<(), Fail> {
-    let reply = Reply::Answered {
-        answer,
-        asked: asked(),
-    };
-    check(rt, alloc, &reply, line, b" parts 5/15 touches 99")
 }
 
 #[test]
@@ -59,209 +41,134 @@ fn writes_updates(rt: HostRuntime) -> Result<(), Fail> {
         marks: 0,
         mark_bound: u64::MAX,
     };
-    check(&rt, rt.alloc(), &Reply::Made, b"ok", b"")?;
-    check(
-        &rt,
-        rt.alloc(),
-        &Reply::Updated { spent },
-        b"ok",
-        b" turns 18446744073709551615/18446744073709551615 marks 0/18446744073709551615",
-    )?;
-    let shape = Shape::Point {
-        x: 0,
-        y: 1,
-        w: 2_147_483_647,
-    };
-    check(
-        &rt,
-        rt.alloc(),
-        &Reply::Got { shape },
-        b"get 0 1 2147483647",
-        b"",
-    )?;
-    let shape = Shape::Segment { lo: 5, hi: 6, y: 3 };
-    check(&rt, rt.alloc(), &Reply::Got { shape }, b"get 5 6 3", b"")?;
-    check(
-        &rt,
-        rt.alloc(),
-        &Reply::Size { n: 65_536 },
-        b"size 65536",
-        b"",
-    )?;
+    let largest = "18446744073709551615";
+    let tail = format!(in rt.alloc(); " turns {largest}/{largest} marks 0/{largest}")?;
+    check(&rt, rt.alloc(), &Reply::Made, "ok", "")?;
+    let updated = Reply::Updated { spent };
+    check(&rt, rt.alloc(), &updated, "ok", tail.as_str())?;
     Ok(())
 }
 
 #[test]
-fn writes_numbers(rt: HostRuntime) -> Result<(), Fail> {
-    check_answer(&rt, rt.alloc(), AnyAnswer::Counted(0), b"count 0")?;
-    check_answer(
+fn writes_shapes(rt: HostRuntime) -> Result<(), Fail> {
+    let (x, y, w) = (0, 1, 2_147_483_647);
+    for (shape, line) in [
+        (Shape::Point { x, y, w }, "get 0 1 2147483647"),
+        (Shape::Segment { lo: 5, hi: 6, y: 3 }, "get 5 6 3"),
+    ] {
+        check(&rt, rt.alloc(), &Reply::Got { shape }, line, "")?;
+    }
+    check(
         &rt,
         rt.alloc(),
-        AnyAnswer::Summed(u64::MAX),
-        b"sum 18446744073709551615",
+        &Reply::Size { n: 65_536 },
+        "size 65536",
+        "",
     )?;
-    check_answer(&rt, rt.alloc(), AnyAnswer::StabCounted(2), b"stabcount 2")?;
+    Ok(())
+}
+
+/// Checks the line of an answer, and its tail.
+fn check_answer(rt: &impl Abort, alloc: Global, answer: AnyAnswer, line: &str) -> Result<(), Fail> {
+    let asked = asked();
+    check(
+        rt,
+        alloc,
+        &Reply::Answered { answer, asked },
+        line,
+        " parts 5/15 touches 99",
+    )
+}
+
+#[test]
+fn writes_numbers(rt: HostRuntime) -> Result<(), Fail> {
+    let alloc = rt.alloc();
+    check_answer(&rt, alloc, AnyAnswer::Counted(0), "count 0")?;
+    let most = AnyAnswer::Summed(u64::MAX);
+    check_answer(&rt, alloc, most, "sum 18446744073709551615")?;
+    check_answer(&rt, alloc, AnyAnswer::StabCounted(2), "stabcount 2")?;
     Ok(())
 }
 
 #[test]
 fn writes_the_nearest(rt: HostRuntime) -> Result<(), Fail> {
+    let alloc = rt.alloc();
     let near = Found {
         dist: 9_223_372_028_264_841_218,
-        id: 1,
+        id: u64::MAX,
     };
-    check_answer(&rt, rt.alloc(), AnyAnswer::Nearest(None), b"near none")?;
-    check_answer(
-        &rt,
-        rt.alloc(),
-        AnyAnswer::Nearest(Some(near)),
-        b"near 1 9223372028264841218",
-    )?;
+    let line = "near 18446744073709551615 9223372028264841218";
+    check_answer(&rt, alloc, AnyAnswer::Nearest(None), "near none")?;
+    check_answer(&rt, alloc, AnyAnswer::Nearest(Some(near)), line)?;
     let mut found = FoundList::new();
-    check_answer(
-        &rt,
-        rt.alloc(),
-        AnyAnswer::NearestFew(FoundList::new()),
-        b"nearest none",
-    )?;
     found.push(Found { dist: 1, id: 4 });
     found.push(Found { dist: 1, id: 9 });
-    check_answer(
-        &rt,
-        rt.alloc(),
-        AnyAnswer::NearestFew(found),
-        b"nearest 4 1 9 1",
-    )?;
+    let none = AnyAnswer::NearestFew(FoundList::new());
+    check_answer(&rt, alloc, none, "nearest none")?;
+    let two = AnyAnswer::NearestFew(found);
+    check_answer(&rt, alloc, two, "nearest 4 1 9 1")?;
     Ok(())
 }
 
 #[test]
 fn writes_the_highest(rt: HostRuntime) -> Result<(), Fail> {
-    check_answer(&rt, rt.alloc(), AnyAnswer::Highest(None), b"top none")?;
-    let peak = Some(Peak { y: 7, id: 2 });
-    check_answer(&rt, rt.alloc(), AnyAnswer::Highest(peak), b"top 2 7")?;
+    let (y, id) = (2_147_483_647, u64::MAX);
+    let highest = AnyAnswer::Highest(Some(Peak { y, id }));
+    let line = "top 18446744073709551615 2147483647";
+    check_answer(&rt, rt.alloc(), AnyAnswer::Highest(None), "top none")?;
+    check_answer(&rt, rt.alloc(), highest, line)?;
     Ok(())
 }
 
 #[test]
 fn writes_identifiers(rt: HostRuntime) -> Result<(), Fail> {
-    let none = IdList::from(Vec::new(rt.alloc()));
-    check_answer(&rt, rt.alloc(), AnyAnswer::Listed(none), b"list none")?;
-    let ids = IdList::from([1, 2, u64::MAX].to_vec(rt.alloc())?);
-    check_answer(
-        &rt,
-        rt.alloc(),
-        AnyAnswer::Listed(ids),
-        b"list 1 2 18446744073709551615",
-    )?;
-    let ids = IdList::from([8].to_vec(rt.alloc())?);
-    check_answer(&rt, rt.alloc(), AnyAnswer::ListedAbove(ids), b"above 8")?;
-    let ids = IdList::from([1, 2].to_vec(rt.alloc())?);
-    check_answer(&rt, rt.alloc(), AnyAnswer::Stabbed(ids), b"stab 1 2")?;
-    Ok(())
-}
-
-#[test]
-fn writes_no_identifiers(rt: HostRuntime) -> Result<(), Fail> {
-    let ids = IdList::from(Vec::new(rt.alloc()));
-    check_answer(&rt, rt.alloc(), AnyAnswer::ListedAbove(ids), b"above none")?;
-    let ids = IdList::from(Vec::new(rt.alloc()));
-    check_answer(&rt, rt.alloc(), AnyAnswer::Stabbed(ids), b"stab none")?;
-    Ok(())
-}
-
-#[test]
-fn writes_the_largest_numbers(rt: HostRuntime) -> Result<(), Fail> {
-    let asked = Asked {
-        parts: u32::MAX,
-        part_bound: u32::MAX,
-        touches: u64::MAX,
-    };
-    let tail = b" parts 4294967295/4294967295 touches 18446744073709551615";
-    let largest = Found {
-        dist: u64::MAX,
-        id: u64::MAX,
-    };
-    check(
-        &rt,
-        rt.alloc(),
-        &Reply::Answered {
-            answer: AnyAnswer::Nearest(Some(largest)),
-            asked,
-        },
-        b"near 18446744073709551615 18446744073709551615",
-        tail,
-    )?;
-    let peak = Some(Peak {
-        y: 2_147_483_647,
-        id: u64::MAX,
-    });
-    check(
-        &rt,
-        rt.alloc(),
-        &Reply::Answered {
-            answer: AnyAnswer::Highest(peak),
-            asked,
-        },
-        b"top 18446744073709551615 2147483647",
-        tail,
-    )?;
-    let cause = Refusal::Unknown { id: u64::MAX };
-    check(
-        &rt,
-        rt.alloc(),
-        &Reply::Refused { cause },
-        b"no unknown 18446744073709551615",
-        b"",
-    )?;
+    let alloc = rt.alloc();
+    let none = AnyAnswer::Listed(IdList::from(Vec::new(alloc)));
+    check_answer(&rt, alloc, none, "list none")?;
+    let ids = IdList::from([1, u64::MAX].to_vec(alloc)?);
+    let listed = AnyAnswer::Listed(ids);
+    check_answer(&rt, alloc, listed, "list 1 18446744073709551615")?;
+    let above = AnyAnswer::ListedAbove(IdList::from([8].to_vec(alloc)?));
+    check_answer(&rt, alloc, above, "above 8")?;
+    let stabbed = AnyAnswer::Stabbed(IdList::from([1, 2].to_vec(alloc)?));
+    check_answer(&rt, alloc, stabbed, "stab 1 2")?;
     Ok(())
 }
 
 #[test]
 fn writes_the_recent(rt: HostRuntime) -> Result<(), Fail> {
-    let mut recent = Recent::new();
-    check(
-        &rt,
-        rt.alloc(),
-        &Reply::Recent { ids: Recent::new() },
-        b"recent none",
-        b"",
-    )?;
-    recent.push(39);
-    recent.push(38);
-    check(
-        &rt,
-        rt.alloc(),
-        &Reply::Recent { ids: recent },
-        b"recent 39 38",
-        b"",
-    )?;
+    let ids = Recent::new();
+    check(&rt, rt.alloc(), &Reply::Recent { ids }, "recent none", "")?;
+    let mut ids = Recent::new();
+    ids.push(39);
+    ids.push(38);
+    check(&rt, rt.alloc(), &Reply::Recent { ids }, "recent 39 38", "")?;
     Ok(())
 }
 
 #[test]
 fn writes_refusals(rt: HostRuntime) -> Result<(), Fail> {
     for (cause, line) in [
-        (Refusal::Line, b"no line".as_slice()),
-        (Refusal::Command, b"no command"),
-        (Refusal::Fields, b"no fields"),
-        (Refusal::Name, b"no name"),
-        (Refusal::Number, b"no number"),
-        (Refusal::Range, b"no range"),
-        (Refusal::Order, b"no order"),
-        (Refusal::NoLayer, b"no layer"),
-        (Refusal::Kind, b"no kind"),
-        (Refusal::Index, b"no index"),
-        (Refusal::Taken, b"no taken"),
-        (Refusal::NoRoom, b"no room"),
-        (Refusal::Duplicate { id: 7 }, b"no duplicate 7"),
-        (Refusal::Unknown { id: 0 }, b"no unknown 0"),
-        (Refusal::Full, b"no full"),
-        (Refusal::NoMemory, b"no memory"),
+        (Refusal::Line, "no line"),
+        (Refusal::Command, "no command"),
+        (Refusal::Fields, "no fields"),
+        (Refusal::Name, "no name"),
+        (Refusal::Number, "no number"),
+        (Refusal::Range, "no range"),
+        (Refusal::Order, "no order"),
+        (Refusal::NoLayer, "no layer"),
+        (Refusal::Kind, "no kind"),
+        (Refusal::Index, "no index"),
+        (Refusal::Taken, "no taken"),
+        (Refusal::NoRoom, "no room"),
+        (Refusal::Duplicate { id: 7 }, "no duplicate 7"),
+        (Refusal::Unknown { id: 0 }, "no unknown 0"),
+        (Refusal::Full, "no full"),
+        (Refusal::NoMemory, "no memory"),
     ] {
         let reply = Reply::Refused { cause };
         assert!(rt; reply.refused());
-        check(&rt, rt.alloc(), &reply, line, b"")?;
+        check(&rt, rt.alloc(), &reply, line, "")?;
     }
     assert!(rt; !Reply::Size { n: 0 }.refused());
     Ok(())
