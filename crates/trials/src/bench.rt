@@ -17,9 +17,9 @@ pub struct Bench<'a, L: Ledger> {
     pub steps: Steps<L>,
     /// What is told, line by line.
     pub report: String,
-    /// How many updates, answers and refusals of memory trials saw since it was told last, each modulo 2^64.
-    pub updates: u64,
+    /// How many answers, touches of these and refusals of memory trials saw since it was told last, each modulo 2^64.
     pub answers: u64,
+    pub touches: u64,
     pub refused: u64,
 }
 
@@ -35,8 +35,8 @@ impl<'a, L: Ledger> Bench<'a, L> {
             is_timed,
             steps: Steps::new(blank),
             report: String::new(alloc),
-            updates: 0,
             answers: 0,
+            touches: 0,
             refused: 0,
         }
     }
@@ -68,11 +68,11 @@ impl<'a, L: Ledger> Bench<'a, L> {
 
     /// Tells what was seen, and begins anew.
     pub fn tell_seen(&mut self, words: &str) -> Result<(), AllocError> {
-        let (updates, answers) = (mem::take(&mut self.updates), mem::take(&mut self.answers));
+        let (answers, touches) = (mem::take(&mut self.answers), mem::take(&mut self.touches));
         let refused = mem::take(&mut self.refused);
         writeln!(
             self.report,
-            "{words} updates {updates} answers {answers} refused {refused}"
+            "{words} answers {answers} touches {touches} refused {refused}"
         )
     }
 }

@@ -207,6 +207,8 @@ impl<K: Kind, T: Tried<RowsBuilder<K>>> Trial<K, T> {
         let answer = K::ask(&self.set, &question, bench)?;
         bench.take_in(begun, &mut self.costs)?;
         bench.answers = bench.answers.wrapping_add(1);
+        let touches = bench.steps.lap_touches();
+        bench.touches = bench.touches.wrapping_add(touches);
         if let Some(items) = scanned {
             let begun = bench.begin()?;
             let wanted = Seeded::scan(bench.alloc, &question, items)?;
@@ -251,9 +253,7 @@ impl<K: Kind, T: Tried<RowsBuilder<K>>> Trial<K, T> {
             done = self.make(item, bench);
         }
         done?;
-        bench.take_in(begun, &mut self.costs)?;
-        bench.updates = bench.updates.wrapping_add(1);
-        Ok(())
+        bench.take_in(begun, &mut self.costs)
     }
 
     /// Makes a change once, and that of the plain list. Where an even number of items is compared, it deletes the one at the front.
