@@ -13,7 +13,7 @@ delete-requires-clause-live g c =
     let h : IsStackOf g.B.Part.Part.contents g.B.Item.Item.stamp c.prepare.new.self.levels c.self.inside.items.items =
     IsStackOf-same p.weight p.items p.live c.self.invariant in
     let items = c.self.inside.items.items in
-    let k = c.args.drawn % c.len.result in
+    let k = c.args.pick % c.len.result in
     let within : k < length items = search rules in
     Contains-permutation _ _ c.index.result.now (IsPermutation-from_Permuted (Permuted-sym h.live)) (k, within, sym c.index.ensures)
 
