@@ -1,4 +1,4 @@
-use Rattle.measure.proofs.main.Given as goal
+use Rattle.measure.proofs.end.Given as goal
 
 abbrev pub ghosts-run : goal.ghosts-run
 ghosts-run a = record { name = a.blank.name; parts = a.blank.parts }
