@@ -233,7 +233,7 @@ impl<B: Builder> Level<B> {
         ensures waits { result ≡ false → ticks_of self.now < 2 ^ self.now.level }
     {
         match &self.construction {
-            Some(construction) => construction.ticks() >= 2u64.pow(self.level),
+            Some(construction) => construction.ticks() >= 1 << self.level,
             None => false,
         }
     }

@@ -15,7 +15,7 @@ impl<B: Builder> Level<B> {
     pub fn is_due_soon(&self) -> bool
         ensures { result ≡ nat_le (2 ^ self.now.level) (ticks_of self.now + 2) }
     {
-        2u64.pow(self.level).saturating_sub(2) <= self.ticks()
+        (1u64 << self.level).saturating_sub(2) <= self.ticks()
     }
 
     /// How many ticks are done of the construction, 0 where none runs.
@@ -93,14 +93,18 @@ impl<B: Builder> Level<B> {
         }
     }
 
-    /// Takes the room.
+    /// Takes the room. Where none is held nothing is moved: a room is large, an empty one too.
     fn take_room(&mut self) -> Option<Room<B>>
         ensures of_level { IfSome result (λ room. room ≡ self.old.level) }
         ensures taken { self.new ≡ record self.old { has_room = false } }
         ensures was { is_some result ≡ self.old.has_room }
         ensures few { IfSome result (λ _. held_in self.new < 5) }
     {
-        self.room.take()
+        if self.room.is_some() {
+            self.room.take()
+        } else {
+            None
+        }
     }
 
     /// Keeps a builder.
@@ -168,7 +172,7 @@ impl<B: Builder> Level<B> {
         ensures most { self.now.level < 32 }
     {
         if self.room.is_some() {
-            2u64.pow(self.level)
+            1 << self.level
         } else {
             0
         }
@@ -181,6 +185,6 @@ impl<B: Builder> Level<B> {
         ensures bounded { held_in self.now ≤ 5 }
         ensures most { self.now.level < 32 }
     {
-        self.builders.len() as u64 * 2u64.pow(self.level)
+        self.builders.len() as u64 * (1u64 << self.level)
     }
 }
