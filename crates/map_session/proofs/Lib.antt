@@ -1,4 +1,4 @@
-pub mod OutputsWithin
+pub mod SumsUp
 pub mod Lines
 pub mod Counted
 pub mod Steps

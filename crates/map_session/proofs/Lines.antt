@@ -18,8 +18,8 @@ use Rattle.answer_text.specs.Pieces.{DeliversLines, CutOffInPieces}
 use Rattle.answer_text.proofs.Pieces.{lines_both}
 use Rattle.map_session.specs.Work.{no_work, both, work_said}
 use Rattle.map_session.specs.Session.{map_in, ExecutesLine}
-use Rattle.map_session.specs.Answering.{OutputWithin, Moment, AnswersLine, Runs, is_update_line, IsAnswered, IsStopped, IsStoppedBehind}
-use Rattle.map_session.proofs.OutputsWithin.{within_is_output, OutputWithin-push}
+use Rattle.map_session.specs.Answering.{Moment, AnswersLine, Runs, IsStopped, IsStoppedBehind}
+use Rattle.map_session.proofs.SumsUp.{within_is_output, sums_up}
 
 -- ---- the first line of a text
 
@@ -42,67 +42,21 @@ split_at_feed text end fits h =
 
 -- ---- lines answered
 
-pub no_lines : (start : Moment) → IsAnswered start [] start
-no_lines start = record {
-  runs = refl;
-  bytes = [];
-  work = no_work;
-  output = (refl, refl, refl);
-  delivered = Delivers-nil start.told;
-  turns = omega arith;
-  marks = omega arith;
-  touches = omega arith;
-  ledger = refl;
-  lines = sym (add-zero start.session.lines);
-  refused = sym (add-zero start.session.refused);
-  updates = sym (add-zero start.session.layers.updates);
-}
-
-Runs-push : (start now new : Moment) (script : List (List ℕ)) (line : List ℕ) → Runs start script now → AnswersLine now line new → Runs start (script ++ line ∷ []) new
+-- one line more
+pub Runs-push : (start now new : Moment) (script : List (List ℕ)) (line : List ℕ) → Runs start script now → AnswersLine now line new → Runs start (script ++ line ∷ []) new
 Runs-push start now new [] line r a = (new, subst (λ m. AnswersLine m line new) r a, refl)
 Runs-push start now new (first ∷ script) line r a = (r.0, r.1, Runs-push r.0 now new script line r.2 a)
-
--- one line more
-pub one_more : (start now new : Moment) (script : List (List ℕ)) (line : List ℕ) (given : Given) → IsAnswered start script now → ExecutesLine now.session now.counts line given new.session new.counts
-    → DeliversLines now.told new.told (written_for now.session.ledger given.told) 1 → IsAnswered start (script ++ line ∷ []) new
-one_more start now new script line given p e a =
-    let ledger = start.session.ledger in
-    let told = written_for ledger given.told in
-    let pushed : OutputWithin ledger (map_in start.session) (script ++ line ∷ []) (p.bytes ++ told) given.state (both p.work (work_said (map_in now.session) (parse line))) =
-    OutputWithin-push ledger (map_in start.session) (map_in now.session) script line p.bytes p.work given p.output e.answers in
-    let updates : count_by is_update_line (script ++ line ∷ []) ≡ count_by is_update_line script + count_by is_update_line (line ∷ []) = sum_by-append _ script (line ∷ []) in
-    record {
-      runs = Runs-push start now new script line p.runs (record { given = given; executed = e; delivered = a });
-      bytes = p.bytes ++ told;
-      work = both p.work (work_said (map_in now.session) (parse line));
-      output = subst (λ (s : State). OutputWithin ledger (map_in start.session) (script ++ line ∷ []) (p.bytes ++ told) s (both p.work (work_said (map_in now.session) (parse line)))) (sym e.map) pushed;
-      delivered = subst (DeliversLines start.told new.told (p.bytes ++ told)) (sym (length-append script (line ∷ [])))
-          (lines_both start.told now.told new.told p.bytes told (length script) 1 p.delivered (subst (λ (b : Bool). DeliversLines now.told new.told (written_for b given.told) 1) p.ledger a));
-      turns = omega (arith, p.turns, e.counted.few_turns);
-      marks = omega (arith, p.marks, e.counted.few_marks);
-      touches = omega (arith, p.touches, e.counted.few_touches);
-      ledger = e.ledger ∙ p.ledger;
-      lines = omega (arith, p.lines, e.lines, length-append script (line ∷ []));
-      refused = omega (
-        arith,
-        p.refused,
-        e.refused,
-        refusals-push ledger (map_in start.session) (map_in now.session) script p.bytes given.told
-            (within_is_output ledger (map_in start.session) (map_in now.session) script p.bytes p.work p.output),
-      );
-      updates = omega (arith, p.updates, e.updates, updates, sum_by-cons (λ (l : List ℕ). if is_update_line l then 1 else 0) line []);
-    }
 
 -- ---- a fault
 
 -- writing stopped in this line, behind those that were answered
-abbrev pub stopped : (start now new : Moment) (answered more script : List (List ℕ)) (line : List ℕ) (given : Given) → script ≡ answered ++ line ∷ more → IsAnswered start answered now
+abbrev pub stopped : (start now new : Moment) (answered more script : List (List ℕ)) (line : List ℕ) (given : Given) → script ≡ answered ++ line ∷ more → Runs start answered now
     → ExecutesLine now.session now.counts line given new.session new.counts → CutOffInPieces now.told new.told (written_for now.session.ledger given.told) → IsStopped start script new
 stopped start now new answered more script line given split p e prefix = record {
   answered = length answered;
   has_next = subst (λ (ls : List (List ℕ)). length answered < length ls) (sym split) (omega (arith, length-append answered (line ∷ more)));
   before = now;
-  answers_before = subst (λ (ls : List (List ℕ)). IsAnswered start ls now) (sym (ap (take (length answered)) split ∙ take_at answered (line ∷ more) (length answered) refl)) p;
+  answers_before = subst (λ (ls : List (List ℕ)). Runs start ls now) (sym (ap (take (length answered)) split ∙ take_at answered (line ∷ more) (length answered) refl)) p;
   given = given;
   executed = subst (λ (l : List ℕ). ExecutesLine now.session now.counts l given new.session new.counts)
       (sym (ap (λ (ls : List (List ℕ)). get_or ls (length answered) []) split ∙ get_or_at answered line more [] (length answered) refl)) e;
@@ -115,7 +69,7 @@ IsStopped-append start now script more s = record {
   answered = s.answered;
   has_next = omega (arith, s.has_next, length-append script more);
   before = s.before;
-  answers_before = subst (λ (ls : List (List ℕ)). IsAnswered start ls s.before) (sym (take-append-le s.answered script more (le_of_lt s.has_next))) s.answers_before;
+  answers_before = subst (λ (ls : List (List ℕ)). Runs start ls s.before) (sym (take-append-le s.answered script more (le_of_lt s.has_next))) s.answers_before;
   given = s.given;
   executed = subst (λ (l : List ℕ). ExecutesLine s.before.session s.before.counts l s.given now.session now.counts) (sym (get_or_append_left script more [] s.answered s.has_next)) s.executed;
   cut_off = s.cut_off;
@@ -129,7 +83,9 @@ stopped_behind_in_text n start now text s =
 
 -- a call failed after the lines that were answered
 pub stopped_rose : (start now : Moment) (script : List (List ℕ)) → IsStopped start script now → Rose start.told.faults now.told.faults
-stopped_rose start now script s = λ low. omega (arith, s.answers_before.delivered.faults, s.cut_off.failed low)
+stopped_rose start now script s = λ low.
+    let before = sums_up start (take s.answered script) s.before s.answers_before in
+    omega (arith, before.delivered.faults, s.cut_off.failed low)
 
 -- ---- in the words of the definitions
 
@@ -137,7 +93,7 @@ stopped_rose start now script s = λ low. omega (arith, s.answers_before.deliver
 pub stopped_is_interrupted : (start now : Moment) (script : List (List ℕ)) → IsStopped start script now
     → (bytes : List ℕ) × Appends start.told.written now.told.written bytes × Interrupted start.session.ledger (map_in start.session) script bytes (map_in now.session)
 stopped_is_interrupted start now script s =
-    let p = s.answers_before in
+    let p = sums_up start (take s.answered script) s.before s.answers_before in
     let line = get_or script s.answered [] in
     let told = written_for start.session.ledger s.given.told in
     let cut : CutOffInPieces s.before.told now.told told = subst (λ (b : Bool). CutOffInPieces s.before.told now.told (written_for b s.given.told)) p.ledger s.cut_off in

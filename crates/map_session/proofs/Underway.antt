@@ -12,8 +12,8 @@ use Rattle.map_model.proofs.TextLemmas.{whole_lines-line, whole_lines-rest, line
 use Rattle.script_lang.specs.Front.{longest_front}
 use Rattle.script_lang.proofs.Fronts.{parse-front}
 use Rattle.map_session.specs.Session.{SessionState, Executes, ExecutesLine}
-use Rattle.map_session.specs.Answering.{Moment, AnswersLine, StopsInLine, IsAnswered, IsStoppedBehind, unended, IsUnderway}
-use Rattle.map_session.proofs.Lines.{no_lines, one_more, stopped}
+use Rattle.map_session.specs.Answering.{Moment, AnswersLine, StopsInLine, Runs, IsStoppedBehind, unended, IsUnderway}
+use Rattle.map_session.proofs.Lines.{Runs-push, stopped}
 use Rattle.map_session.proofs.Unended.{one_line-append, unended_is_line, unended_ended, unended_on, whole_lines-more, lines-more}
 
 -- ---- the front of a line
@@ -64,7 +64,7 @@ ended_said begun line end is = ap (λ (b : List ℕ). parse (take longest_front 
 -- ---- from one piece to the next
 
 pub underway_at_first : (start : Moment) → IsUnderway start [] [] start
-underway_at_first start = record { answered = no_lines start; front = refl }
+underway_at_first start = record { answered = refl; front = refl }
 
 -- a line of a text that ends in these bytes
 whole_with : (text end after : List ℕ) → one_line end ≡ true → whole_lines (text ++ (end ++ 10 ∷ after)) ≡ whole_lines text ++ (unended text ++ end) ∷ whole_lines after
@@ -77,15 +77,15 @@ module _ (start now new : Moment) (text begun : List ℕ) (so_far : IsUnderway s
   -- a line ended and was answered
   pub underway_line : (end : List ℕ) → one_line end ≡ true → AnswersLine now (unended text ++ end) new → IsUnderway start (text ++ (end ++ 10 ∷ [])) [] new
   underway_line end ended a = record {
-    answered = subst (λ (ls : List (List ℕ)). IsAnswered start ls new) (sym (whole_with text end [] ended))
-        (one_more start now new (whole_lines text) (unended text ++ end) a.given so_far.answered a.executed a.delivered);
+    answered = subst (λ (ls : List (List ℕ)). Runs start ls new) (sym (whole_with text end [] ended))
+        (Runs-push start now new (whole_lines text) (unended text ++ end) so_far.answered a);
     front = sym (ap (take longest_front) (unended_ended text end));
   }
 
   -- bytes came without a line feed
   pub underway_rest : (more : List ℕ) → one_line more ≡ true → IsUnderway start (text ++ more) (take longest_front (begun ++ more)) now
   underway_rest more ended = record {
-    answered = subst (λ (ls : List (List ℕ)). IsAnswered start ls now)
+    answered = subst (λ (ls : List (List ℕ)). Runs start ls now)
         (sym (whole_lines-more text more
         ∙ ap (λ (ls : List (List ℕ)). whole_lines text ++ ls) (whole_lines-rest (unended text ++ more) (one_line-append (unended text) more (unended_is_line text) ended))
         ∙ append-nil (whole_lines text)))
@@ -125,18 +125,21 @@ lines_with_last text begun is some =
 
 module _ (start now : Moment) (text begun : List ℕ) (so_far : IsUnderway start text begun now) where
   -- no line is begun
-  pub ended_whole : length begun ≡ 0 → IsAnswered start (lines text) now
+  pub ended_whole : length begun ≡ 0 → Runs start (lines text) now
   ended_whole none =
       let nothing : unended text ≡ [] = empty_front (unended text) (sym (ap length so_far.front) ∙ none) in
-      subst (λ (ls : List (List ℕ)). IsAnswered start ls now)
+      subst (λ (ls : List (List ℕ)). Runs start ls now)
       (sym (lines_last text ∙ ap (λ (u : List ℕ). whole_lines text ++ lines u) nothing ∙ append-nil (whole_lines text))) so_far.answered
 
   -- the line that is begun was answered
-  pub ended_last : (new : Moment) → 0 < length begun → AnswersLine now begun new → IsAnswered start (lines text) new
+  pub ended_last : (new : Moment) → 0 < length begun → AnswersLine now begun new → Runs start (lines text) new
   ended_last new some a =
-      subst (λ (ls : List (List ℕ)). IsAnswered start ls new) (sym (lines_with_last text begun so_far.front some))
-      (one_more start now new (whole_lines text) (unended text) a.given so_far.answered
-      (said_alike _ _ begun (unended text) _ _ _ (front_said begun (unended text) so_far.front) a.executed) a.delivered)
+      subst (λ (ls : List (List ℕ)). Runs start ls new) (sym (lines_with_last text begun so_far.front some))
+      (Runs-push start now new (whole_lines text) (unended text) so_far.answered (record {
+        given = a.given;
+        executed = said_alike _ _ begun (unended text) _ _ _ (front_said begun (unended text) so_far.front) a.executed;
+        delivered = a.delivered;
+      }))
 
   -- writing stopped in it
   pub stopped_last : (new : Moment) → 0 < length begun → StopsInLine now begun new → IsStoppedBehind (length (whole_lines text)) start (lines text) new

@@ -33,7 +33,7 @@ pub record AnswersLine (now : Moment) (line : List ℕ) (next : Moment) : Type 0
   pub executed : ExecutesLine now.session now.counts line given next.session next.counts
   pub delivered : DeliversLines now.told next.told (written_for now.session.ledger given.told) 1
 
--- One line after another was.
+-- From one moment to another these lines were, one after another.
 abbrev pub Runs : Moment → List (List ℕ) → Moment → Type 0
 Runs start [] now = now ≡ start
 Runs start (line ∷ lines) now = (next : Moment) × AnswersLine start line next × Runs next lines now
@@ -41,9 +41,8 @@ Runs start (line ∷ lines) now = (next : Moment) × AnswersLine start line next
 abbrev pub is_update_line : List ℕ → Bool
 is_update_line line = is_update_said (parse line)
 
--- From one moment to another these lines were answered in full: what each took, and all together.
-pub record IsAnswered (start : Moment) (script : List (List ℕ)) (now : Moment) : Type 0 where
-  pub runs : Runs start script now
+-- What lines that were answered took, wrote and led to, all together.
+pub record SumsUp (start : Moment) (script : List (List ℕ)) (now : Moment) : Type 0 where
   pub bytes : List ℕ
   pub work : Work
   pub output : OutputWithin start.session.ledger (map_in start.session) script bytes (map_in now.session) work
@@ -62,7 +61,7 @@ pub record IsStopped (start : Moment) (script : List (List ℕ)) (now : Moment) 
   pub answered : ℕ
   pub has_next : answered < length script
   pub before : Moment
-  pub answers_before : IsAnswered start (take answered script) before
+  pub answers_before : Runs start (take answered script) before
   pub given : Given
   pub executed : ExecutesLine before.session before.counts (slice_index_or script answered []) given now.session now.counts
   pub cut_off : CutOffInPieces before.told now.told (written_for before.session.ledger given.told)
@@ -86,5 +85,5 @@ unended (byte ∷ text) = if one_line text then (if byte == 10 then text else by
 
 -- The lines that a line feed ended in a text are answered, and the line that is begun is the front of the rest.
 pub record IsUnderway (start : Moment) (text begun : List ℕ) (now : Moment) : Type 0 where
-  pub answered : IsAnswered start (whole_lines text) now
+  pub answered : Runs start (whole_lines text) now
   pub front : begun ≡ take longest_front (unended text)

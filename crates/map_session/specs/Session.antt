@@ -13,7 +13,7 @@ use Rattle.answer_text.specs.Reply.{reply_of, cost_of}
 use Rattle.map_layers.specs.Layers.{LayersState, no_layers, map_of}
 use Rattle.map_session.specs.declared.session.Done.{Done}
 use Rattle.map_session.specs.declared.session.Done.TheVariants.{Silent, Answered, Refused}
-use Rattle.map_session.specs.Work.{work_said, is_update_said, lap_said, IsCounted}
+use Rattle.map_session.specs.Work.{work_said, is_update_said, lap_said, IsCounted, TellsEveryPart}
 
 -- the layers, whether replies tell what they cost, and how many commands and lines there were, and were refused
 pub record SessionState : Type 0 where
@@ -45,6 +45,7 @@ pub record Executes (old : SessionState) (before : Counts) (said : Parsed) (give
   pub answers : AnswersTo (map_in old) said given
   pub map : map_in new ≡ given.state
   pub counted : IsCounted (work_said (map_in old) said) (cost_told given.told) before after
+  pub parts : TellsEveryPart old.layers said (cost_told given.told)
   pub lap : after.lap_start ≡ lap_said said before
   pub ledger : new.ledger ≡ old.ledger
   pub lines : new.lines ≡ old.lines + 1

@@ -3,9 +3,10 @@ use Rattle.std.specs.Prelude.{◌≡◌, ℕ, ◌+◌, ◌*◌, ◌≤◌, ⊤, 
 use Rattle.query_laws.specs.StepLedger.{Counts, LapStart, lap_begun}
 use Rattle.map_kinds.specs.Touches.{touches_at}
 use Rattle.layer_kinds.specs.Asking.{most_of}
-use Rattle.map_layers.specs.Costs.{most_in}
+use Rattle.map_layers.specs.Costs.{most_in, IsEveryPartIn}
+use Rattle.map_layers.specs.Layers.{LayersState, named}
 use Rattle.map_layers.specs.Questions.{touches_for}
-use Rattle.map_model.specs.Answer.{Question}
+use Rattle.map_model.specs.Answer.{Question, index_of}
 use Rattle.map_model.specs.State.{Layer, State, layer_named, live_count}
 use Rattle.map_model.specs.Command.{Command, MakeLayer, Add, Drop, Ask, Get, Size, Recent, name_of}
 use Rattle.map_model.specs.Cost.{Cost, Untold, Updating, Asking, bounds_at, turn_bound, mark_bound}
@@ -104,3 +105,8 @@ pub record IsCounted (work : Work) (cost : Cost) (old new : Counts) : Type 0 whe
   pub few_marks : new.marks ≤ old.marks + work.marks
   pub few_touches : new.touches ≤ old.touches + work.touches
   pub told : IsTold cost old new
+
+-- The answer to a question tells as many parts as the index that it is for has complete ones.
+abbrev pub TellsEveryPart : LayersState → Parsed → Cost → Type 0
+TellsEveryPart layers (Ok (Some (Ask name question))) (Asking asked) = (live : ℕ) × IsEveryPartIn (named name layers.layers) (index_of question) asked.parts live
+TellsEveryPart layers said cost = ⊤

@@ -2,7 +2,7 @@
 ghost use Rattle.std.specs.Prelude.{◌≡◌, ℕ, ◌+◌, ◌<◌, ◌≤◌, ◌^◌, ◌++◌, ◌∷◌, [], List, true, length, take, MatchOption, OnOk, OnErr};
 ghost use Rattle.map_model.specs.Text.{lines, whole_lines, one_line};
 ghost use Rattle.script_lang.specs.Front.{longest_front};
-ghost use Rattle.map_session.specs.Answering.{Moment, moment, AnswersLine, StopsInLine, IsAnswered, IsStopped, IsStoppedBehind, IsUnderway};
+ghost use Rattle.map_session.specs.Answering.{Moment, moment, AnswersLine, StopsInLine, Runs, IsStopped, IsStoppedBehind, IsUnderway};
 
 use crate::{LineStart, Session};
 use map_io::{Sink, WriteFault};
@@ -19,7 +19,7 @@ pub fn answer_lines<P: OverPoints, S: OverSegments, K: Sink, L: Ledger>(
     steps: &mut Steps<L>,
 ) -> Result<(), WriteFault>
     requires { session.old.lines + length text.now < 2 ^ 40 }
-    ensures answered { OnOk result (IsAnswered (moment session.old (K.told sink.old) steps.old) (lines text.now) (moment session.new (K.told sink.new) steps.new)) }
+    ensures answered { OnOk result (Runs (moment session.old (K.told sink.old) steps.old) (lines text.now) (moment session.new (K.told sink.new) steps.new)) }
     ensures stopped { OnErr result (IsStopped (moment session.old (K.told sink.old) steps.old) (lines text.now) (moment session.new (K.told sink.new) steps.new)) }
 {
     let mut begun = LineStart::new();
@@ -36,7 +36,7 @@ pub fn answer_whole_lines<P: OverPoints, S: OverSegments, K: Sink, L: Ledger>(
     steps: &mut Steps<L>,
 ) -> Result<(), WriteFault>
     requires { session.old.lines + length text.now < 2 ^ 40 }
-    ensures answered { OnOk result (IsAnswered (moment session.old (K.told sink.old) steps.old) (whole_lines text.now) (moment session.new (K.told sink.new) steps.new)) }
+    ensures answered { OnOk result (Runs (moment session.old (K.told sink.old) steps.old) (whole_lines text.now) (moment session.new (K.told sink.new) steps.new)) }
     ensures stopped { OnErr result (IsStopped (moment session.old (K.told sink.old) steps.old) (whole_lines text.now) (moment session.new (K.told sink.new) steps.new)) }
 {
     let mut begun = LineStart::new();
@@ -80,7 +80,7 @@ pub fn answer_begun<P: OverPoints, S: OverSegments, K: Sink, L: Ledger>(
 ) -> Result<(), WriteFault>
     requires { session.old.lines < 2 ^ 40 }
     ensures answered { OnOk result ((start : Moment) (text : List ℕ) → IsUnderway start text begun.now (moment session.old (K.told sink.old) steps.old)
-        → IsAnswered start (lines text) (moment session.new (K.told sink.new) steps.new)) }
+        → Runs start (lines text) (moment session.new (K.told sink.new) steps.new)) }
     ensures stopped { OnErr result ((start : Moment) (text : List ℕ) → IsUnderway start text begun.now (moment session.old (K.told sink.old) steps.old)
         → IsStoppedBehind (length (whole_lines text)) start (lines text) (moment session.new (K.told sink.new) steps.new)) }
 {

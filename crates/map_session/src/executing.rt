@@ -6,7 +6,7 @@ ghost use Rattle.map_model.specs.Output.{AnswersTo};
 ghost use Rattle.script_lang.specs.Command.{command_of};
 ghost use Rattle.answer_text.specs.Reply.{cost_of};
 ghost use Rattle.map_layers.specs.Layers.{map_of};
-ghost use Rattle.map_session.specs.Work.{work_said, is_update_said, lap_said, IsCounted};
+ghost use Rattle.map_session.specs.Work.{work_said, is_update_said, lap_said, IsCounted, TellsEveryPart};
 ghost use Rattle.map_session.specs.Session.{given_by};
 
 use crate::replying::{answered, got, made, recent, sized, updated};
@@ -27,6 +27,7 @@ pub fn execute<P: OverPoints, S: OverSegments, L: Ledger>(
     requires lawful { IsCommand (command_of command.now) }
     ensures answered { AnswersTo (map_of layers.old) (Ok (Some (command_of command.now))) (given_by (Some result) (map_of layers.new)) }
     ensures counted { IsCounted (work_said (map_of layers.old) (Ok (Some (command_of command.now)))) (cost_of result) steps.old steps.new }
+    ensures parts { TellsEveryPart layers.old (Ok (Some (command_of command.now))) (cost_of result) }
     ensures lap { steps.new.lap_start ≡ lap_said (Ok (Some (command_of command.now))) steps.old }
     ensures updates { layers.new.updates ≡ layers.old.updates + one_if (is_update_said (Ok (Some (command_of command.now)))) }
 {

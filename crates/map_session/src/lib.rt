@@ -10,7 +10,7 @@ ghost use Rattle.query_laws.specs.StepLedger.{Counts};
 ghost use Rattle.map_model.specs.Command.{Command};
 ghost use Rattle.map_model.specs.Output.{Told, Output, Interrupted};
 ghost use Rattle.map_session.specs.Session.{SessionState, map_in, Obeys};
-ghost use Rattle.map_session.specs.Answering.{Moment, IsAnswered, IsStopped, Runs};
+ghost use Rattle.map_session.specs.Answering.{Moment, Runs, SumsUp, IsStopped};
 ghost use Rattle.map_session.specs.Laps.{AreLaps};
 ghost use Rattle.map_session.specs.Ledger.{told_in, lacking_in, told_to, lacking_to, AddsUp};
 
@@ -28,9 +28,14 @@ pub use session::{Done, Session};
 /// A session over all kinds of index.
 pub type MapSession = Session<PointIndexes, SegmentIndexes>;
 
+/// What lines that a session answered took, wrote and led to adds up over them.
+pub fn lines_sum_up()
+    ensures { (start now : Moment) (script : List (List ℕ)) → Runs start script now → SumsUp start script now }
+{}
+
 /// What a session answers is an output of the definitions, and where writing stopped a part of one.
 pub fn answers_are_outputs()
-    ensures answered { (start now : Moment) (script : List (List ℕ)) → IsAnswered start script now → (bytes : List ℕ) × Appends start.told.written now.told.written bytes
+    ensures answered { (start now : Moment) (script : List (List ℕ)) → Runs start script now → (bytes : List ℕ) × Appends start.told.written now.told.written bytes
         × Output start.session.ledger (map_in start.session) script bytes (map_in now.session) }
     ensures stopped { (start now : Moment) (script : List (List ℕ)) → IsStopped start script now → (bytes : List ℕ) × Appends start.told.written now.told.written bytes
         × Interrupted start.session.ledger (map_in start.session) script bytes (map_in now.session) }

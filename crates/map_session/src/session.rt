@@ -53,7 +53,7 @@ impl<P: OverPoints, S: OverSegments> Session<P, S> {
     ghost use Rattle.script_lang.specs.Command.{command_of};
     ghost use Rattle.answer_text.specs.Reply.{reply_of, cost_of};
     ghost use Rattle.answer_text.specs.Pieces.{DeliversLines, CutOffInPieces};
-    ghost use Rattle.map_session.specs.Work.{work_said, is_update_said, lap_said, IsCounted};
+    ghost use Rattle.map_session.specs.Work.{work_said, is_update_said, lap_said, IsCounted, TellsEveryPart};
     ghost use Rattle.map_session.specs.Session.{new_session, map_in, given_by, Executes, ExecutesLine, done_of};
 
     /// A session without layers, whose written replies tell what they cost, or don't. It takes no memory; updates take theirs
@@ -98,6 +98,7 @@ impl<P: OverPoints, S: OverSegments> Session<P, S> {
         requires lawful { IsCommand (command_of command.now) }
         ensures answered { AnswersTo (map_in self.old) (Ok (Some (command_of command.now))) (given_by (Some result) (map_in self.new)) }
         ensures counted { IsCounted (work_said (map_in self.old) (Ok (Some (command_of command.now)))) (cost_of result) steps.old steps.new }
+        ensures parts { TellsEveryPart self.old.layers (Ok (Some (command_of command.now))) (cost_of result) }
         ensures lap { steps.new.lap_start ≡ lap_said (Ok (Some (command_of command.now))) steps.old }
         ensures updates { self.new.layers.updates ≡ self.old.layers.updates + one_if (is_update_said (Ok (Some (command_of command.now)))) }
         ensures lines { self.new.lines ≡ self.old.lines + 1 }

@@ -6,6 +6,7 @@ use Rattle.map_io.specs.SinkTold.{SinkTold}
 use Rattle.map_session.specs.Answering.{Moment, moment}
 use Rattle.map_session.specs.Session.{new_session}
 use Rattle.map_session.proofs.Lines.{stopped_rose}
+use Rattle.map_session.proofs.SumsUp.{sums_up}
 use Rattle.program_words.specs.declared.job.Job.TheVariants.{Script, Made}
 use Rattle.program_words.specs.declared.job.WordsFault.TheVariants as faults
 use Rattle.query_laws.specs.StepLedger.{Counts}
@@ -76,10 +77,10 @@ module _ (rest rest' : Option (List ℕ)) (start now : Moment) where
 
   -- no call failed
   pub script_kept : (status : Status) → AnswersScript rest rest' start status now → (status ≡ WriteFault → ⊥) → now.told.faults ≡ start.told.faults
-  script_kept Clean r write = r.0.1.3.delivered.faults
-  script_kept Refusals r write = r.0.1.3.delivered.faults
+  script_kept Clean r write = (sums_up start _ now r.0.1.3).delivered.faults
+  script_kept Refusals r write = (sums_up start _ now r.0.1.3).delivered.faults
   script_kept Usage r write = absurd r
-  script_kept ReadFault r write = r.3.delivered.faults
+  script_kept ReadFault r write = (sums_up start _ now r.3).delivered.faults
   script_kept WriteFault r write = absurd (write refl)
-  script_kept TooLong r write = r.3.1.delivered.faults
+  script_kept TooLong r write = (sums_up start _ now r.3.1).delivered.faults
   script_kept NoMemory r write = absurd r

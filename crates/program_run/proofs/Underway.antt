@@ -4,7 +4,7 @@ use Rattle.std.proofs.lemmas.List.{take-append-le}
 use Rattle.std.specs.Io.KnownBytes.{Keeps, Consumes, IsAtEnd}
 use Rattle.std.proofs.KnownBytes.{Consumes-nil, Consumes-trans, Consumes-kept}
 use Rattle.map_model.specs.Text.{lines, whole_lines}
-use Rattle.map_session.specs.Answering.{Moment, IsAnswered, IsStoppedBehind, IsUnderway}
+use Rattle.map_session.specs.Answering.{Moment, Runs, IsStoppedBehind, IsUnderway}
 use Rattle.map_session.proofs.Lines.{stopped_behind_in_text}
 use Rattle.map_session.proofs.Underway.{underway_at_first, more_lines, stopped_earlier}
 use Rattle.program_run.specs.declared.ended.Status.TheVariants.{Clean, Refusals, ReadFault, WriteFault, TooLong}
@@ -55,7 +55,7 @@ module _ (rest before : Option (List ℕ)) (start now : Moment) (taken : ℕ) (b
     too_long_run one full =
         let size : length (r.text ++ bytes) ≡ script_limit + 1 = omega (arith, length-append r.text bytes, r.many, one, full) in
         let front : take script_limit (r.text ++ bytes) ≡ r.text = take_at r.text bytes script_limit (r.many ∙ full) in
-        (r.text ++ bytes, consumed_with, omega (arith, size), (size, subst (λ (t : List ℕ). IsAnswered start (whole_lines t) now) (sym front) r.underway.answered))
+        (r.text ++ bytes, consumed_with, omega (arith, size), (size, subst (λ (t : List ℕ). Runs start (whole_lines t) now) (sym front) r.underway.answered))
 
     -- bytes came, and writing stopped in an answer to one of their lines
     pub stopped_run : (new : Moment) → length bytes ≤ 4096 → taken + length bytes ≤ script_limit
@@ -74,10 +74,10 @@ module _ (rest before : Option (List ℕ)) (start now : Moment) (taken : ℕ) (b
 
   module _ (end : IsAtEnd before) (new : Moment) where
     -- the last line was answered
-    pub clean_run : ((start : Moment) (text : List ℕ) → IsUnderway start text begun now → IsAnswered start (lines text) new) → new.session.refused ≡ 0 → AnswersScript rest before start Clean new
+    pub clean_run : ((start : Moment) (text : List ℕ) → IsUnderway start text begun now → Runs start (lines text) new) → new.session.refused ≡ 0 → AnswersScript rest before start Clean new
     clean_run all none = ((end, (r.text, r.consumed, omega (arith, r.many, r.within), all start r.text r.underway)), none)
 
-    pub refused_run : ((start : Moment) (text : List ℕ) → IsUnderway start text begun now → IsAnswered start (lines text) new) → 0 < new.session.refused → AnswersScript rest before start Refusals new
+    pub refused_run : ((start : Moment) (text : List ℕ) → IsUnderway start text begun now → Runs start (lines text) new) → 0 < new.session.refused → AnswersScript rest before start Refusals new
     refused_run all some = ((end, (r.text, r.consumed, omega (arith, r.many, r.within), all start r.text r.underway)), some)
 
   -- writing stopped in the answer to the last line

@@ -5,7 +5,7 @@ use Rattle.query_laws.specs.StepLedger.{Counts}
 use Rattle.map_io.specs.SinkTold.{SinkTold, Delivers, CutOff}
 use Rattle.map_model.specs.Text.{lines, whole_lines}
 use Rattle.map_session.specs.Session.{new_session}
-use Rattle.map_session.specs.Answering.{Moment, moment, IsAnswered, IsStoppedBehind, IsUnderway}
+use Rattle.map_session.specs.Answering.{Moment, moment, Runs, IsStoppedBehind, IsUnderway}
 use Rattle.program_words.specs.declared.job.Job.{Job}
 use Rattle.program_words.specs.declared.job.Job.TheVariants.{Script, Made}
 use Rattle.program_words.specs.declared.job.WordsFault.{WordsFault}
@@ -39,7 +39,7 @@ Takes most rest rest' P = (taken : List ℕ) × Consumes rest rest' taken × (le
 
 -- all that was left was taken, within the limit, and each line of it is answered
 abbrev pub AnswersAll : Option (List ℕ) → Option (List ℕ) → Moment → Moment → Type 0
-AnswersAll rest rest' start now = IsAtEnd rest' × Takes script_limit rest rest' (λ taken. IsAnswered start (lines taken) now)
+AnswersAll rest rest' start now = IsAtEnd rest' × Takes script_limit rest rest' (λ taken. Runs start (lines taken) now)
 
 -- all but the last 4,096 bytes
 abbrev pub but_last_piece : List ℕ → List ℕ
@@ -50,11 +50,11 @@ abbrev pub AnswersScript : Option (List ℕ) → Option (List ℕ) → Moment �
 AnswersScript rest rest' start Clean now = AnswersAll rest rest' start now × (now.session.refused ≡ 0)
 AnswersScript rest rest' start Refusals now = AnswersAll rest rest' start now × (0 < now.session.refused)
 AnswersScript rest rest' start Usage now = ⊥
-AnswersScript rest rest' start ReadFault now = Takes script_limit rest rest' (λ taken. IsAnswered start (whole_lines taken) now)
+AnswersScript rest rest' start ReadFault now = Takes script_limit rest rest' (λ taken. Runs start (whole_lines taken) now)
 AnswersScript rest rest' start WriteFault now =
     Takes script_limit rest rest' (λ taken. IsStoppedBehind (length (whole_lines (but_last_piece taken))) start (lines taken) now)
 AnswersScript rest rest' start TooLong now =
-    Takes (script_limit + 1) rest rest' (λ taken. (length taken ≡ script_limit + 1) × IsAnswered start (whole_lines (take script_limit taken)) now)
+    Takes (script_limit + 1) rest rest' (λ taken. (length taken ≡ script_limit + 1) × Runs start (whole_lines (take script_limit taken)) now)
 AnswersScript rest rest' start NoMemory now = ⊥
 
 -- Between two reads: so many bytes were taken since there was this rest, the lines that a line feed ended in them are answered, and the

@@ -5,7 +5,7 @@ use Rattle.map_questions.specs.Any.{question_of}
 use Rattle.map_layers.specs.Layers.{map_of}
 use Rattle.map_layers.specs.Questions.{most_for}
 use Rattle.map_model.specs.State.{layer_named}
-use Rattle.map_session.proofs.Counted.{update_counted, update_lap, question_counted}
+use Rattle.map_session.proofs.Counted.{update_counted, update_lap, question_counted, every_part_told}
 use Rattle.map_session.proofs.Steps.{given_as, made_allowed, reading_allowed, update_allowed, question_allowed}
 use Rattle.map_session.proofs.executing.execute.Goals as goal
 
@@ -85,3 +85,7 @@ returns-in-Drop-clause-lap g c = rw c.in-Drop.is (update_lap c.args.steps.now c.
 
 pub returns-in-Ask-clause-lap : goal.returns-in-Ask-clause-lap
 returns-in-Ask-clause-lap g c = rw c.in-Ask.is c.ask.ensures.reads.same_lap
+
+pub returns-in-Ask-clause-parts : goal.returns-in-Ask-clause-parts
+returns-in-Ask-clause-parts g c =
+    rw (c.in-Ask.is, c.answered.ensures.cost) (every_part_told c.args.layers.now c.in-Ask.name (question_of c.in-Ask.question) c.ask.result c.ask.ensures.every_part)

@@ -15,4 +15,4 @@ returns-in-Ok-Some-clause-executed g c =
     let e = c.command.ensures in
     let says : parse c.args.line.now ≡ Ok (Some (command_of c.in-Ok-Some.command)) = sym c.in-Ok-Some.ensures ∙ ap (λ f. Ok (option_map command_of f)) c.in-Ok-Some.field-0-is in
     subst (λ (p : Parsed). Executes c.args.self.now c.args.steps.now p (given_by (Some c.command.result) (map_in c.command.new.self)) c.command.new.self c.command.new.steps) (sym says)
-    (record { answers = e.answered; map = refl; counted = e.counted; lap = e.lap; ledger = e.ledger; lines = e.lines; refused = e.refused; updates = e.updates })
+    (record { answers = e.answered; map = refl; counted = e.counted; parts = e.parts; lap = e.lap; ledger = e.ledger; lines = e.lines; refused = e.refused; updates = e.updates })

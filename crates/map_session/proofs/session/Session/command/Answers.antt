@@ -6,7 +6,7 @@ use Rattle.script_lang.specs.Command.{command_of}
 use Rattle.map_model.specs.Output.{AnswersTo}
 use Rattle.answer_text.specs.Reply.{reply_of, cost_of}
 use Rattle.map_layers.specs.Layers.{LayersState, map_of}
-use Rattle.map_session.specs.Work.{work_said, is_update_said, IsCounted}
+use Rattle.map_session.specs.Work.{work_said, is_update_said, IsCounted, TellsEveryPart}
 use Rattle.map_session.specs.Session.{given_by}
 use Rattle.map_session.proofs.session.Session.command.Goals as goal
 
@@ -32,6 +32,10 @@ pub returns-clause-counted : goal.returns-clause-counted
 returns-clause-counted g c =
     subst (λ (l : LayersState). IsCounted (work_said (map_of l) (Ok (Some (command_of c.args.command.now)))) (cost_of c.execute-reply.result) c.args.steps.now c.execute-reply.new.steps)
     (ap (λ v. v.layers) c.self.view_is) c.execute-reply.ensures.counted
+
+pub returns-clause-parts : goal.returns-clause-parts
+returns-clause-parts g c =
+    subst (λ (l : LayersState). TellsEveryPart l (Ok (Some (command_of c.args.command.now))) (cost_of c.execute-reply.result)) (ap (λ v. v.layers) c.self.view_is) c.execute-reply.ensures.parts
 
 pub invariant_of-self : goal.invariant_of-self
 invariant_of-self g c = (
