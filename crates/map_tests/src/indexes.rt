@@ -2,9 +2,9 @@
 ghost use Rattle.std.specs.Prelude.{◌≡◌, ◌+◌, ◌<◌, ◌≤◌, ◌^◌, []};
 
 use builder_trait::flat::FlatBuilder;
-use id_chain::Chain;
+use id_chain::{Chain, Handle};
 use layer_kinds::{Indexes, KindLayer, LayerIndex, UpdateFault};
-use map_shapes::{Name, Point, Shape};
+use map_shapes::{Name, Point, Shape, Spent};
 use query_laws::NoMemory;
 use query_laws::step_ledger::{SHARES, Steps, blank};
 use std::alloc::Global;
@@ -84,14 +84,6 @@ fn counts_those_that_are_there(rt: HostRuntime) {
     }
 }
 
-/// A layer of points, and three indexes that are there or not.
-fn over_three(alloc: Global, name: Name, there: bool) -> KindLayer<Three>
-    ensures { result.adds ≡ 0 }
-{
-    let rest = (Flat::new(alloc, there), Flat::new(alloc, there));
-    KindLayer::new(alloc, name, (Flat::new(alloc, there), rest))
-}
-
 /// A move: the identifier, the weight of the point that is added, or 0 for a drop; whether it is refused; and how many points there are
 /// then, and the weight under the identifier, 0 where none is there.
 const MOVES: [(u64, u16, bool, usize, u32); 8] = [
@@ -105,14 +97,13 @@ const MOVES: [(u64, u16, bool, usize, u32); 8] = [
     (1, 0, true, 1, 0),
 ];
 
-/// Adds a point of a weight, or drops one where the weight is 0. Whether that was refused, how many points there are then, and the weight
-/// under the identifier.
-fn moved<L: Ledger>(
-    layer: &mut KindLayer<Three>,
+/// Adds a point of a weight, or drops one where the weight is 0.
+fn change<X: Indexes<Item = Point>, L: Ledger>(
+    layer: &mut KindLayer<X>,
     id: u64,
     w: u16,
     blank: Blank,
-) -> Result<(bool, usize, u32), NoMemory>
+) -> Result<Spent, UpdateFault>
     requires few { layer.old.adds < 2 ^ 62 }
     requires name { blank.name ≡ L.name }
     requires parts { blank.parts ≡ L.parts }
@@ -120,40 +111,125 @@ fn moved<L: Ledger>(
     ensures adds { layer.new.adds ≤ layer.old.adds + 1 }
 {
     let mut steps = Steps::<L>::new(blank);
-    let done = if w == 0 {
-        layer.remove(id, &mut steps)
-    } else {
-        let point = Point {
-            id,
-            x: 1,
-            y: 2,
-            w: u32::from(w),
-            stamp: 0,
-        };
-        layer.add(point, &mut steps)
-    };
-    if done == Err(UpdateFault::NoMemory) {
-        return Err(NoMemory);
+    if w == 0 {
+        return layer.remove(id, &mut steps);
     }
+    let point = Point {
+        id,
+        x: 1,
+        y: 2,
+        w: u32::from(w),
+        stamp: 0,
+    };
+    layer.add(point, &mut steps)
+}
+
+/// How many points there are, and the weight of the one with an identifier, 0 where none is there.
+fn seen<X: Indexes<Item = Point>>(layer: &KindLayer<X>, id: u64) -> (usize, u32) {
     let weight = match layer.get(id) {
         Some(Shape::Point { w, .. }) => w,
         _ => 0,
     };
-    Ok((done.is_err(), layer.len(), weight))
+    (layer.len(), weight)
+}
+
+/// Makes the moves, once more those that memory refuses, and tells how many these are: `None` where one ends otherwise than the table
+/// has it, or where a refusal of memory changed something.
+fn refused_moves<X: Indexes<Item = Point>>(layer: KindLayer<X>) -> Option<usize>
+    requires new { layer.adds ≡ 0 }
+{
+    let mut layer = layer;
+    let mut refused = 0usize;
+    for (id, w, is_refused, len, weight) in MOVES {
+        let before = seen(&layer, id);
+        let mut done = change::<X, Brand>(&mut layer, id, w, blank());
+        if done == Err(UpdateFault::NoMemory) {
+            if seen(&layer, id) != before {
+                return None;
+            }
+            refused = refused.wrapping_add(1);
+            done = change::<X, Brand>(&mut layer, id, w, blank());
+        }
+        if done.is_err() != is_refused || seen(&layer, id) != (len, weight) {
+            return None;
+        }
+    }
+    Some(refused)
+}
+
+/// An index that holds nothing, and has no memory for every other update.
+#[derive(Drop)]
+struct Refusing {
+    refuses: bool,
+}
+
+impl Indexes for Refusing {
+    ghost use Rattle.std.specs.Prelude.{⊤, []};
+    ghost use Rattle.std.proofs.lemmas.List.Elements.{All-nil};
+
+    type Item = Point;
+
+    ghost rates = { λ s. [] };
+
+    ghost are_of = { λ s es stamps. ⊤ };
+
+    ghost are_ready = { λ s. ⊤ };
+
+    fn count(&self) -> u64 {
+        0
+    }
+
+    fn prepare<L: Ledger>(
+        &mut self,
+        _chain: &Chain<Point>,
+        _steps: &mut Steps<L>,
+    ) -> Result<(), NoMemory> {
+        self.refuses = !self.refuses;
+        if self.refuses {
+            return Err(NoMemory);
+        }
+        Ok(())
+    }
+
+    fn insert<L: Ledger>(
+        &mut self,
+        _chain: &Chain<Point>,
+        _handle: Handle,
+        _steps: &mut Steps<L>,
+    ) {}
+
+    fn delete<L: Ledger>(
+        &mut self,
+        _chain: &Chain<Point>,
+        _handle: Handle,
+        _steps: &mut Steps<L>,
+    ) {}
+
+    ghost low = { λ s. All-nil _ };
 }
 
 #[test]
-fn a_layer_has_its_live_points(rt: HostRuntime) -> Result<(), Fail> {
+fn a_layer_has_its_live_points(rt: HostRuntime) {
+    let alloc = rt.alloc();
     let name = Name::read(b"shops").expect(&rt, "a name");
     for there in [true, false] {
-        let mut layer = over_three(rt.alloc(), name, there);
-        for (id, w, is_refused, len, weight) in MOVES {
-            assert_eq!(rt;
-                moved::<Brand>(&mut layer, id, w, blank())?,
-                (is_refused, len, weight),
-                "{id} {w}"
-            );
-        }
+        let rest = (Flat::new(alloc, there), Flat::new(alloc, there));
+        let layer = KindLayer::new(alloc, name, (Flat::new(alloc, there), rest));
+        assert_eq!(rt; refused_moves(layer), Some(0));
     }
-    Ok(())
+}
+
+/// The second index, and the third, has no memory for every other of the five updates that are accepted.
+#[test]
+fn a_refusal_half_way_changes_nothing(rt: HostRuntime) {
+    let alloc = rt.alloc();
+    let name = Name::read(b"shops").expect(&rt, "a name");
+    let (first, last) = (Flat::new(alloc, true), Flat::new(alloc, true));
+    let rest = (Refusing { refuses: false }, last);
+    let layer = KindLayer::new(alloc, name, (first, rest));
+    assert_eq!(rt; refused_moves(layer), Some(5));
+    let (first, second) = (Flat::new(alloc, true), Flat::new(alloc, true));
+    let rest = (second, Refusing { refuses: false });
+    let layer = KindLayer::new(alloc, name, (first, rest));
+    assert_eq!(rt; refused_moves(layer), Some(5));
 }
