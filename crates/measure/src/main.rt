@@ -5,7 +5,7 @@ mod words;
 
 ghost use Rattle.std.specs.Prelude.{◌≡◌};
 
-use crate::words::{Job, KINDS, KindName, LAYERS, Work, command, job_of};
+use crate::words::{Job, KINDS, LAYERS, Work, command, job_of};
 use interval_stab::StabRows;
 use kd_nearest::KdRows;
 use priority_search::TopRows;
@@ -20,9 +20,6 @@ use trials::{Bench, Layer, Plan, check_examples, check_made_script, measure_scri
 
 /// The exit status where a comparison differs. Other failures have 1, and wrong words 2.
 const DIFFERS: u8 = 3;
-
-/// How many lines made scripts have.
-const MADE_LINES: u32 = 2_000;
 
 fn main(rt: HostRuntime) -> anyhow::Result<ExitCode> {
     let words: Vec<String> = env::args(&rt)?.collect(rt.alloc())?;
@@ -75,7 +72,7 @@ fn run_job<L: Ledger>(bench: &mut Bench<L>, job: &Job) -> Outcome {
             let spread = Spread::Dense;
             check_kinds(bench, Plan { seed, spread, size })?;
             let mut map = PlainMap::new(bench.alloc);
-            check_made_script(bench, &mut map, seed, MADE_LINES)?;
+            check_made_script(bench, &mut map, seed, 2_000)?;
             examples.map_or(Ok(()), |folder| check_examples(bench, folder))
         }
     }
@@ -83,7 +80,7 @@ fn run_job<L: Ledger>(bench: &mut Bench<L>, job: &Job) -> Outcome {
 
 /// Tries each layer of each kind by a plan.
 fn check_kinds<L: Ledger>(bench: &mut Bench<L>, plan: Plan) -> Outcome {
-    for (_, kind) in KINDS {
+    for kind in KINDS {
         for (_, layer) in LAYERS {
             try_kind(bench, kind, layer, plan)?;
         }
@@ -91,13 +88,13 @@ fn check_kinds<L: Ledger>(bench: &mut Bench<L>, plan: Plan) -> Outcome {
     Ok(())
 }
 
-/// Tries a layer of a kind by a plan.
-fn try_kind<L: Ledger>(bench: &mut Bench<L>, kind: KindName, layer: Layer, plan: Plan) -> Outcome {
+/// Tries a layer of the kind with a word by a plan.
+fn try_kind<L: Ledger>(bench: &mut Bench<L>, kind: &str, layer: Layer, plan: Plan) -> Outcome {
     match kind {
-        KindName::Range => try_layer::<RangeRows, L>(bench, layer, plan),
-        KindName::Near => try_layer::<KdRows, L>(bench, layer, plan),
-        KindName::Top => try_layer::<TopRows, L>(bench, layer, plan),
-        KindName::Stab => try_layer::<StabRows, L>(bench, layer, plan),
+        "range" => try_layer::<RangeRows, L>(bench, layer, plan),
+        "near" => try_layer::<KdRows, L>(bench, layer, plan),
+        "top" => try_layer::<TopRows, L>(bench, layer, plan),
+        _ => try_layer::<StabRows, L>(bench, layer, plan),
     }
 }
 

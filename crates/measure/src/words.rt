@@ -14,13 +14,8 @@ pub const LAYERS: [(&str, Layer); 3] = [
     ("index", Layer::Index),
 ];
 
-/// Each kind of part, after its word.
-pub const KINDS: [(&str, KindName); 4] = [
-    ("range", KindName::Range),
-    ("near", KindName::Near),
-    ("top", KindName::Top),
-    ("stab", KindName::Stab),
-];
+/// The words of the kinds of parts.
+pub const KINDS: [&str; 4] = ["range", "near", "top", "stab"];
 
 /// Where items may lie, after its word.
 const SPREADS: [(&str, Spread); 6] = [
@@ -32,20 +27,11 @@ const SPREADS: [(&str, Spread); 6] = [
     ("spanning", Spread::Spanning),
 ];
 
-/// The kinds of parts, by the questions that they answer.
-#[derive(Clone, Copy, Debug, PartialEq, Eq)]
-pub enum KindName {
-    Range,
-    Near,
-    Top,
-    Stab,
-}
-
 /// What is asked for.
 #[derive(Clone, Copy, Debug, PartialEq, Eq)]
 pub enum Work<'a> {
-    /// What a layer costs, of so many items of a kind.
-    Layer(Layer, KindName, Spread),
+    /// What a layer costs, of so many items of a kind, which has this word.
+    Layer(Layer, &'a str, Spread),
     /// What the commands of a script cost.
     Script(&'a str),
     /// Parts, stacks and indexes of each kind, sessions, and the scripts of a folder beside their answers.
@@ -80,7 +66,7 @@ pub fn command<'a>(alloc: Global) -> Result<Command<'a>, AllocError> {
 /// A subcommand for a layer over parts of a kind.
 fn for_layers<'a>(alloc: Global, name: &'a str, about: &'a str) -> Result<Command<'a>, AllocError> {
     let kind = arg!(in alloc; --kind <KIND> "The kind of part")
-        .value_parser(["range", "near", "top", "stab"].as_slice())
+        .value_parser(KINDS.as_slice())
         .default_value("range");
     let spread = arg!(in alloc; --spread <SPREAD> "Where the items lie")
         .value_parser(["square", "column", "row", "cluster", "diagonal", "spanning"].as_slice())
@@ -111,7 +97,7 @@ pub fn job_of<'a>(matches: &ArgMatches<'a>) -> Option<Job<'a>> {
         "check" => Work::Check(matches.get_str("examples")),
         layer => Work::Layer(
             named(&LAYERS, layer)?,
-            named(&KINDS, matches.get_str("kind")?)?,
+            matches.get_str("kind")?,
             named(&SPREADS, matches.get_str("spread")?)?,
         ),
     };

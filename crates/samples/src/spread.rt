@@ -10,9 +10,6 @@ pub const SIDE: u32 = 1_048_576;
 /// Coordinates are below this where many are equal.
 const FEW: u32 = 16;
 
-/// A square with this side has one hundredth of the area.
-const TENTH: u32 = SIDE / 10;
-
 /// Segments are at most so long, and sixteen times as long where they begin in the last sixteenth of the side.
 const LENGTH: u32 = 2_000;
 
@@ -48,7 +45,7 @@ impl Spread {
             Spread::Dense => (FEW, FEW),
             Spread::Column => (1, SIDE),
             Spread::Row => (SIDE, 1),
-            Spread::Cluster if generator.below(2) == 0 => (TENTH, TENTH),
+            Spread::Cluster if generator.below(2) == 0 => (SIDE / 10, SIDE / 10),
             _ => (SIDE, SIDE),
         };
         let x = generator.below(width);

@@ -92,7 +92,8 @@ fn run_trial<K: Kind, T: Tried<RowsBuilder<K>>, L: Ledger>(
         let each = bytes / (plan.size as u64).max(1);
         writeln!(bench.report, "{} bytes {bytes} each {each}", T::WORD)?;
     }
-    trial.update(bench)
+    trial.update(bench)?;
+    trial.empty(bench)
 }
 
 /// How many bytes of memory the process holds, which the system tells in pages of 4,096.
@@ -101,6 +102,13 @@ fn bytes_held<L: Ledger>(bench: &Bench<L>) -> Outcome<u64> {
     let pages = line.as_str().split_ascii_whitespace().nth(1);
     let pages: u64 = pages.unwrap_or("0").parse().unwrap_or(0);
     Ok(pages.saturating_mul(4_096))
+}
+
+/// A change of what is tried: an item comes, or the one goes that a number picks.
+#[derive(Clone, Copy)]
+enum Change<I: Item> {
+    Insert(I),
+    Delete(usize),
 }
 
 /// What is tried, beside a plain list of its items.
@@ -133,14 +141,12 @@ impl<K: Kind, T: Tried<RowsBuilder<K>>> Trial<K, T> {
     /// Inserts the first items, and asks each question.
     pub fn fill<L: Ledger>(&mut self, bench: &mut Bench<L>) -> Outcome {
         for _ in 0..self.plan.size {
-            let item = self.drawn_item(0);
-            self.change(item, bench)?;
+            let change = self.drawn_change(0);
+            self.change(change, bench)?;
         }
         self.tell_costs("insert", bench)?;
         let begun = bench.begin()?;
-        if self.set.settle(&mut bench.steps).is_err() {
-            self.set.settle(&mut bench.steps)?;
-        }
+        self.set.settle(&mut bench.steps)?;
         bench.take_in(begun, &mut self.costs)?;
         self.tell_costs("settle", bench)?;
         self.ask_each(bench)
@@ -153,13 +159,24 @@ impl<K: Kind, T: Tried<RowsBuilder<K>>> Trial<K, T> {
             false => self.plan.size.saturating_mul(3).min(T::UPDATES.1),
         };
         for number in 0..updates {
-            let item = self.drawn_item(T::DELETES);
-            self.change(item, bench)?;
+            let change = self.drawn_change(T::DELETES);
+            self.change(change, bench)?;
             if self.is_compared() && number % 10 == 0 {
                 self.ask_each(bench)?;
             }
         }
         self.tell_costs(T::UPDATES.0, bench)
+    }
+
+    /// Deletes all items and asks each question, where answers are compared.
+    fn empty<L: Ledger>(&mut self, bench: &mut Bench<L>) -> Outcome {
+        if !self.is_compared() {
+            return Ok(());
+        }
+        for pick in 0..self.items.len() {
+            self.change(Change::Delete(pick), bench)?;
+        }
+        self.ask_each(bench)
     }
 
     /// Asks each question of the kind, so often as the plan wants. `Differs` where an answer isn't that of a scan.
@@ -232,44 +249,47 @@ impl<K: Kind, T: Tried<RowsBuilder<K>>> Trial<K, T> {
         Ok(())
     }
 
-    /// An item to insert, or `None` for a delete: so many of eight, on average.
-    fn drawn_item(&mut self, deletes: u32) -> Option<K::Item> {
+    /// A change: of eight so many are deletes, on average. Where an even number of items is compared, they are of the one at the front.
+    fn drawn_change(&mut self, deletes: u32) -> Change<K::Item> {
         if self.generator.below(8) < deletes {
-            return None;
+            let is_front = self.is_compared() && self.plan.size % 2 == 0;
+            let drawn = self.generator.draw() as usize;
+            return Change::Delete(if is_front { 0 } else { drawn });
         }
         let stamp = self.items.len() as u64;
-        Some(Seeded::drawn(&mut self.generator, self.plan.spread, stamp))
+        Change::Insert(Seeded::drawn(&mut self.generator, self.plan.spread, stamp))
     }
 
-    /// Inserts an item, or deletes a drawn one. Where memory is refused, it compares, and asks for it once more.
+    /// Makes a change. Where memory is refused, it compares, and asks for it once more.
     ///
     /// `NoMemory` where it is refused again.
-    fn change<L: Ledger>(&mut self, item: Option<K::Item>, bench: &mut Bench<L>) -> Outcome {
+    fn change<L: Ledger>(&mut self, change: Change<K::Item>, bench: &mut Bench<L>) -> Outcome {
         let begun = bench.begin()?;
-        let mut done = self.make(item, bench);
+        let mut done = self.make(change, bench);
         if matches!(done, Err(Failure::NoMemory(_))) {
             bench.refused = bench.refused.wrapping_add(1);
             self.ask_each(bench)?;
-            done = self.make(item, bench);
+            done = self.make(change, bench);
         }
         done?;
         bench.take_in(begun, &mut self.costs)
     }
 
-    /// Makes a change once, and that of the plain list. Where an even number of items is compared, it deletes the one at the front.
-    fn make<L: Ledger>(&mut self, item: Option<K::Item>, bench: &mut Bench<L>) -> Outcome {
+    /// Makes a change once, and that of the plain list.
+    fn make<L: Ledger>(&mut self, change: Change<K::Item>, bench: &mut Bench<L>) -> Outcome {
         self.items.reserve(1)?;
-        if let Some(item) = item {
-            self.set.insert(item, &mut bench.steps)?;
-            return Ok(self.items.push(Some(item))?);
-        }
-        let is_front = self.is_compared() && self.plan.size % 2 == 0;
-        let drawn = self.generator.draw() as usize;
-        let pick = if is_front { 0 } else { drawn };
-        let deleted = self.set.delete(pick, &mut bench.steps)?;
-        let place = deleted.map_or(usize::MAX, |item| item.stamp() as usize);
-        if let Some(slot) = self.items.get_mut(place) {
-            *slot = None;
+        match change {
+            Change::Insert(item) => {
+                self.set.insert(item, &mut bench.steps)?;
+                self.items.push(Some(item))?;
+            }
+            Change::Delete(pick) => {
+                let deleted = self.set.delete(pick, &mut bench.steps)?;
+                let place = deleted.map_or(usize::MAX, |item| item.stamp() as usize);
+                if let Some(slot) = self.items.get_mut(place) {
+                    *slot = None;
+                }
+            }
         }
         Ok(())
     }
