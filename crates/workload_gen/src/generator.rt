@@ -1,5 +1,5 @@
 //! Seeded numbers.
-ghost use Rattle.std.specs.Prelude.{◌≡◌, ◌<◌};
+ghost use Rattle.std.specs.Prelude.{◌≡◌, ◌*◌, ◌/◌, ◌^◌, ◌<◌};
 ghost use Rattle.workload_gen.specs.Made.{stepped, upper_half};
 
 use std::marker::Model;
@@ -43,7 +43,9 @@ impl Generator {
     /// The next number scaled to those below a limit.
     pub fn below(&mut self, limit: u32) -> u32
         requires { 0 < limit }
-        ensures { result < limit }
+        ensures number { result ≡ upper_half self.new * limit / 2 ^ 32 }
+        ensures state { self.new ≡ stepped self.old }
+        ensures within { result < limit }
     {
         (self.draw() as u64 * limit as u64 / (1 << 32)) as u32
     }
