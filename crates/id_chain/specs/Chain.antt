@@ -85,3 +85,18 @@ module _ {I : Type 0} where
 
   abbrev pub last_handle : List (Entry I) → Option ℕ
   last_handle es = last_or None es
+
+  -- an entry is linked still, with its item and what was before it, and some entries come after what was after it
+  pub record StaysBefore (more : List (Entry I)) (handle : ℕ) (old new : List (Entry I)) : Type 0 where
+    pub linked : IsTrue (is_linked handle new)
+    pub item : item_at handle new ≡ item_at handle old
+    pub front : before handle new ≡ before handle old
+    pub rest : after handle new ≡ after handle old ++ more
+
+  -- an entry is as it was, where another one goes; before it and after it there is what was there, but for the other one
+  pub record StaysBeside (gone handle : ℕ) (old new : List (Entry I)) : Type 0 where
+    pub linked : is_linked handle new ≡ is_linked handle old
+    pub item : item_at handle new ≡ item_at handle old
+    pub front : before handle new ≡ without_handle gone (before handle old)
+    pub rest : after handle new ≡ without_handle gone (after handle old)
+    pub front_kept : is_linked gone (before handle old) ≡ false → before handle new ≡ before handle old

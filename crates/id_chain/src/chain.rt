@@ -1,6 +1,6 @@
 //! The chain itself.
 ghost use Rattle.std.specs.Prelude.{◌≡◌, ◌≢◌, ◌↔◌, ℕ, ◌+◌, ◌≤◌, [], ◌∷◌, ◌++◌, length, Some, false, IsTrue, IsOk, OnOk};
-ghost use Rattle.id_chain.specs.Chain.{is_linked, HandlesDiffer, item_at, before, after, up_to, IsCursor, before_cursor, without_handle, first_handle, last_handle};
+ghost use Rattle.id_chain.specs.Chain.{is_linked, HandlesDiffer, item_at, before, after, up_to, IsCursor, before_cursor, without_handle, first_handle, last_handle, StaysBefore, StaysBeside};
 
 use crate::handle::Handle;
 use crate::node::{Node, link_next, link_prev};
@@ -95,13 +95,9 @@ impl<I: Copy> Chain<I> {
         ensures linked { IsTrue (is_linked result self.new.entries) }
         ensures before_new { before result self.new.entries ≡ self.old.entries }
 
-        // Any other handle stays linked, with its item and what is before it, and the new entry comes after it.
+        // Any other handle stays linked, and the new entry comes after it.
         ensures others { (other : ℕ) → IsTrue (is_linked other self.old.entries)
-            → IsTrue (is_linked other self.new.entries) × (item_at other self.new.entries ≡ item_at other self.old.entries) }
-        ensures before { (other : ℕ) → IsTrue (is_linked other self.old.entries)
-            → before other self.new.entries ≡ before other self.old.entries }
-        ensures after { (other : ℕ) → IsTrue (is_linked other self.old.entries)
-            → after other self.new.entries ≡ after other self.old.entries ++ record { handle = result; item = item } ∷ [] }
+            → StaysBefore (record { handle = result; item = item } ∷ []) other self.old.entries self.new.entries }
         ensures spare { self.old.spare ≤ self.new.spare + 1 }
     {
         let place = self.nodes.insert_reserved(Node {
@@ -121,17 +117,7 @@ impl<I: Copy> Chain<I> {
         ensures item { item_at handle self.old.entries ≡ Some result }
         ensures entries { self.new.entries ≡ without_handle handle self.old.entries }
         ensures unlinked { is_linked handle self.new.entries ≡ false }
-        ensures others { (other : ℕ) → other ≢ handle
-            → (is_linked other self.new.entries ≡ is_linked other self.old.entries)
-            × (item_at other self.new.entries ≡ item_at other self.old.entries) }
-
-        // Before and after any other handle there is what was there, but for the unlinked entry.
-        ensures before { (other : ℕ) → other ≢ handle
-            → before other self.new.entries ≡ without_handle handle (before other self.old.entries) }
-        ensures after { (other : ℕ) → other ≢ handle
-            → after other self.new.entries ≡ without_handle handle (after other self.old.entries) }
-        ensures before_kept { (other : ℕ) → other ≢ handle → is_linked handle (before other self.old.entries) ≡ false
-            → before other self.new.entries ≡ before other self.old.entries }
+        ensures others { (other : ℕ) → other ≢ handle → StaysBeside handle other self.old.entries self.new.entries }
 
         // A cursor at the unlinked entry can go on to the next one, and has before it what it had.
         ensures next { IsCursor (first_handle (after handle self.old.entries)) self.new.entries }

@@ -2,7 +2,7 @@
 use Rattle.std.proofs.Common.{ℕ, suc, ◌+◌, ◌-◌, ◌*◌, ◌^◌, ◌<◌, ◌≤◌, Bool, true, false, List, [], ◌∷◌, All, length, if◌then◌else◌, ⊎_elim, arith}
 use Rattle.std.proofs.lemmas.Bool.{cases_lt}
 use Rattle.std.proofs.lemmas.List.Elements.{All-cons, All-nil}
-use Rattle.query_laws.specs.declared.item.Order.{Order}
+use Rattle.builder_trait.specs.Builders.{PartKind}
 use Rattle.builder_trait.specs.Parts.{Contents, has_stamp, live_of}
 use Rattle.stack_levels.specs.Slots.{Slots, asked_in}
 use Rattle.stack_levels.specs.Levels.{weight_of, parts_of, live_items, asked}
@@ -53,8 +53,8 @@ module _ {P Item : Type 0} (contents : P → Contents Item) where
       (small_level l g (weight_of above) (of_level 0 l (omega arith)) light)
       (parts-small above (λ k d within. of_level (suc k) d (omega (arith, within))) g (omega (arith, light)))
 
-  module _ (stamp : Item → ℕ) (before : Order → Item → Item → Bool) where
-    tower-few : (l : Slots P Item) (above : List (Slots P Item)) → IsTower contents stamp before l above → (g : ℕ)
+  module _ (kind : PartKind Item) where
+    tower-few : (l : Slots P Item) (above : List (Slots P Item)) → IsTower contents kind l above → (g : ℕ)
         → weight_of (l ∷ above) < 2 ^ (g + 1) → parts_of (l ∷ above) ≤ 3 * (g + 1 - l.level)
     tower-few l [] tower g light =
         counted (length l.parts) l.level g 0 (omega (arith, tower)) (λ some. light_level (length l.parts) l.level g 0 some light) (omega arith)
@@ -67,7 +67,7 @@ module _ {P Item : Type 0} (contents : P → Contents Item) where
         (λ some. light_level (length l.parts) l.level g (weight_of (next ∷ above)) some light) rest
 
     -- at most three of each level, and none is of a level above that of the weight
-    pub parts-few : (levels : List (Slots P Item)) → AreAllLevels contents stamp before levels → (g : ℕ) → weight_of levels < 2 ^ (g + 1)
+    pub parts-few : (levels : List (Slots P Item)) → AreAllLevels contents kind levels → (g : ℕ) → weight_of levels < 2 ^ (g + 1)
         → parts_of levels ≤ 3 * (g + 1)
     parts-few [] h g light = omega arith
     parts-few (lowest ∷ above) h g light = omega (arith, tower-few lowest above h.2 g light, h.0)

@@ -6,7 +6,6 @@ use Rattle.std.proofs.lemmas.List.{length-append}
 use Rattle.std.proofs.lemmas.Nat.{pow_pos}
 use Rattle.std.proofs.lemmas.List.Elements.{All-cons, All-head, All-push, All-tail}
 use Rattle.query_laws.specs.Orders.{AllStampsDiffer}
-use Rattle.query_laws.specs.declared.item.Order.{Order}
 use Rattle.builder_trait.specs.Parts.{Contents}
 use Rattle.builder_trait.specs.Builders.{PartKind}
 use Rattle.stack_levels.specs.Slots.{Slots, ticks_of, held_in, weight_in, live_in, items_in}
@@ -166,6 +165,10 @@ pub when_err : {A E p q : Type 0} (r : Result A E) → (p → q) → OnErr r p �
 when_err (Ok x) f h = tt
 when_err (Err e) f h = f h
 
+pub both_ok : {A E : Type 0} (p q : Type 0) (r : Result A E) → IfOk r (λ _. p) → IfOk r (λ _. q) → IfOk r (λ _. p × q)
+both_ok p q (Ok x) h k = (h, k)
+both_ok p q (Err e) h k = tt
+
 pub anyway_ok : {A E p : Type 0} (r : Result A E) → p → IfOk r (λ _. p)
 anyway_ok (Ok x) h = h
 anyway_ok (Err e) h = tt
@@ -198,27 +201,27 @@ module _ {P Item : Type 0} (contents : P → Contents Item) where
         ap suc rest.4,
       )
 
-  module _ (stamp : Item → ℕ) (before : Order → Item → Item → Bool) where
-    pub numbered-tower : (lower : Slots P Item) (above : List (Slots P Item)) → IsTower contents stamp before lower above → AreNumbered lower above
+  module _ (kind : PartKind Item) where
+    pub numbered-tower : (lower : Slots P Item) (above : List (Slots P Item)) → IsTower contents kind lower above → AreNumbered lower above
     numbered-tower lower [] tower = tt
     numbered-tower lower (next ∷ above) tower = (tower.0.next_level, numbered-tower next above tower.1)
 
-    pub rising : (levels : List (Slots P Item)) → AreAllLevels contents stamp before levels → AreRising levels
+    pub rising : (levels : List (Slots P Item)) → AreAllLevels contents kind levels → AreRising levels
     rising [] h = tt
     rising (lowest ∷ above) h = numbered-tower lowest above h.2
 
     pub lowest_level : (levels : List (Slots P Item)) (l : Slots P Item) → 0 < length levels → l ≡ get_or levels 0 l
-        → AreAllLevels contents stamp before levels → l.level ≡ 0
+        → AreAllLevels contents kind levels → l.level ≡ 0
     lowest_level [] l some is h = absurd (omega (arith, some))
     lowest_level (x ∷ above) l some is h = ap (λ v. v.level) is ∙ h.0
 
     pub lowest_construction : (levels : List (Slots P Item)) (l : Slots P Item) → 0 < length levels → l ≡ get_or levels 0 l
-        → AreAllLevels contents stamp before levels → l.construction ≡ None
+        → AreAllLevels contents kind levels → l.construction ≡ None
     lowest_construction [] l some is h = absurd (omega (arith, some))
     lowest_construction (x ∷ above) l some is h = ap (λ v. v.construction) is ∙ h.1
 
-    below-kept : (lower lower' l l' : Slots P Item) → IsSame lower lower' → IsSame l l' → IsBelow contents stamp before 1 lower l
-        → IsBelow contents stamp before 1 lower' l'
+    below-kept : (lower lower' l l' : Slots P Item) → IsSame lower lower' → IsSame l l' → IsBelow contents kind 1 lower l
+        → IsBelow contents kind 1 lower' l'
     below-kept lower lower' l l' below same h =
         let level : lower'.level ≡ lower.level = ap (λ v. v.level) below in
         let parts : lower'.parts ≡ lower.parts = ap (λ v. v.parts) below in
@@ -239,22 +242,22 @@ module _ {P Item : Type 0} (contents : P → Contents Item) where
         }
 
     tower-kept : (lower lower' : Slots P Item) (old new : List (Slots P Item)) → IsSame lower lower' → KeepRooms lower old new
-        → IsTower contents stamp before lower old → IsTower contents stamp before lower' new
+        → IsTower contents kind lower old → IsTower contents kind lower' new
     tower-kept lower lower' [] new same k tower =
-        subst (IsTower contents stamp before lower') (sym k) (omega (arith, tower, ap (λ v. length v.parts) same))
+        subst (IsTower contents kind lower') (sym k) (omega (arith, tower, ap (λ v. length v.parts) same))
     tower-kept lower lower' (l ∷ old) [] same k tower = absurd k
     tower-kept lower lower' (l ∷ old) (l' ∷ new) same k tower =
         (below-kept lower lower' l l' same k.0 tower.0, tower-kept l l' old new k.0 k.2 tower.1)
 
-    all_levels-kept : (old new : List (Slots P Item)) → KeepRoomsAbove old new → AreAllLevels contents stamp before old
-        → AreAllLevels contents stamp before new
-    all_levels-kept [] new k h = subst (AreAllLevels contents stamp before) (sym k) tt
+    all_levels-kept : (old new : List (Slots P Item)) → KeepRoomsAbove old new → AreAllLevels contents kind old
+        → AreAllLevels contents kind new
+    all_levels-kept [] new k h = subst (AreAllLevels contents kind) (sym k) tt
     all_levels-kept (l ∷ old) [] k h = absurd k
     all_levels-kept (l ∷ old) (l' ∷ new) k h =
         (ap (λ v. v.level) k.0 ∙ h.0, ap (λ v. v.construction) k.0 ∙ h.1, tower-kept l l' old new k.0 k.1 h.2)
 
     -- a construction into level 31 wants two parts of the weight 2^30
-    quiet-light : (below : ℕ) (lower : Slots P Item) (above : List (Slots P Item)) → IsTower contents stamp before lower above
+    quiet-light : (below : ℕ) (lower : Slots P Item) (above : List (Slots P Item)) → IsTower contents kind lower above
         → lower.level + length above ≡ 31 → (1 ≤ ticks_of lower → 2 ^ lower.level ≤ below) → below + weight_of (lower ∷ above) < 2 ^ 31
         → IsHighestQuiet lower above
     quiet-light below lower [] tower highest paid light =
@@ -276,14 +279,14 @@ module _ {P Item : Type 0} (contents : P → Contents Item) where
         heavy : (b n w u : ℕ) → 2 ≤ n → u ≡ 2 * w → u ≤ b + n * w
         heavy b n w u two double = let product : 2 * w ≤ n * w = mul-le-mul_right w two in omega (arith, product, double)
 
-    pub enough-light : (levels : List (Slots P Item)) → AreAllLevels contents stamp before levels → length levels ≡ 32 → weight_of levels < 2 ^ 31
+    pub enough-light : (levels : List (Slots P Item)) → AreAllLevels contents kind levels → length levels ≡ 32 → weight_of levels < 2 ^ 31
         → AreEnough levels
     enough-light [] h all light = absurd (omega (arith, all))
     enough-light (lowest ∷ above) h all light =
         quiet-light 0 lowest above h.2 (omega (arith, h.0, all)) (λ some. absurd (omega (arith, some, none_ticks lowest h.1))) (omega (arith, light))
 
     tower-added : (lower : Slots P Item) (above : List (Slots P Item)) (n : ℕ) → n ≡ lower.level + length above + 1
-        → IsTower contents stamp before lower above → IsTower contents stamp before lower (above ++ unused n ∷ [])
+        → IsTower contents kind lower above → IsTower contents kind lower (above ++ unused n ∷ [])
     tower-added lower [] n next tower = (
       record {
         next_level = omega (arith, next);
@@ -298,8 +301,8 @@ module _ {P Item : Type 0} (contents : P → Contents Item) where
     tower-added lower (l ∷ above) n next tower =
         (tower.0, tower-added l above n (omega (arith, next, tower.0.next_level)) tower.1)
 
-    all_levels-added : (levels : List (Slots P Item)) (n : ℕ) → n ≡ length levels → AreAllLevels contents stamp before levels
-        → AreAllLevels contents stamp before (levels ++ unused n ∷ [])
+    all_levels-added : (levels : List (Slots P Item)) (n : ℕ) → n ≡ length levels → AreAllLevels contents kind levels
+        → AreAllLevels contents kind (levels ++ unused n ∷ [])
     all_levels-added [] n next h = (next, refl, omega arith)
     all_levels-added (lowest ∷ above) n next h = (h.0, h.1, tower-added lowest above n (omega (arith, next, h.0)) h.2)
 
@@ -309,7 +312,7 @@ module _ {P Item : Type 0} (contents : P → Contents Item) where
     rooms-added lower (l ∷ above) n h = (h.0, rooms-added l above n h.1)
 
     rooms_ahead-added : (lower : Slots P Item) (above : List (Slots P Item)) (n : ℕ) → n ≡ lower.level + length above + 1
-        → IsTower contents stamp before lower above → HaveRooms IsDueSoon lower above → HaveRooms IsDueSoon lower (above ++ unused n ∷ [])
+        → IsTower contents kind lower above → HaveRooms IsDueSoon lower above → HaveRooms IsDueSoon lower (above ++ unused n ∷ [])
     rooms_ahead-added lower [] n next tower h = (
       λ d. absurd (h d),
       λ d. ⊎_elim
@@ -321,11 +324,11 @@ module _ {P Item : Type 0} (contents : P → Contents Item) where
         (h.0, rooms_ahead-added l above n (omega (arith, next, tower.0.next_level)) tower.1 h.1)
 
     quiet-added : (lower : Slots P Item) (above : List (Slots P Item)) (n : ℕ) → n ≡ lower.level + length above + 1
-        → IsTower contents stamp before lower above → IsHighestQuiet lower above → IsHighestQuiet lower (above ++ unused n ∷ [])
+        → IsTower contents kind lower above → IsHighestQuiet lower above → IsHighestQuiet lower (above ++ unused n ∷ [])
     quiet-added lower [] n next tower quiet = (rooms_ahead-added lower [] n next tower quiet).1
     quiet-added lower (l ∷ above) n next tower quiet = quiet-added l above n (omega (arith, next, tower.0.next_level)) tower.1 quiet
 
-    enough-added : (levels : List (Slots P Item)) (n : ℕ) → n ≡ length levels → AreAllLevels contents stamp before levels → AreEnough levels
+    enough-added : (levels : List (Slots P Item)) (n : ℕ) → n ≡ length levels → AreAllLevels contents kind levels → AreEnough levels
         → AreEnough (levels ++ unused n ∷ [])
     enough-added [] n next h quiet = absurd quiet
     enough-added (lowest ∷ above) n next h quiet = quiet-added lowest above n (omega (arith, next, h.0)) h.2 quiet
@@ -348,84 +351,77 @@ module _ {P Item : Type 0} (contents : P → Contents Item) where
   IsKept-added levels n next less =
       let same = same-added levels n in
       record {
-        live = same.0;
-        items = same.1;
-        weight = same.2;
-        parts = same.3;
-        levels = λ stamp before. all_levels-added stamp before levels n next;
-        punctual = λ slope base h. All-push (IsPunctual slope base) levels (unused n) h (λ c is. absurd cc);
+        same = record { live = same.0; items = same.1; weight = same.2; parts = same.3 };
+        levels = λ kind. all_levels-added kind levels n next;
+        punctual = λ kind h. All-push (IsPunctual kind) levels (unused n) h (λ c is. absurd cc);
         few = λ few. omega (arith, less, next, length-append levels (unused n ∷ []));
         some = omega (arith, length-append levels (unused n ∷ []));
-        enough = λ stamp before. enough-added stamp before levels n next;
-        rooms = λ stamp before. rooms stamp before levels n;
-        rooms_ahead = λ stamp before. ahead stamp before levels n next;
+        enough = λ kind. enough-added kind levels n next;
+        rooms = λ kind. rooms kind levels n;
+        rooms_ahead = λ kind. ahead kind levels n next;
       }
     where
-      rooms : (stamp : Item → ℕ) (before : Order → Item → Item → Bool) (levels : List (Slots P Item)) (n : ℕ)
-          → AreAllLevels contents stamp before levels → 0 < length levels → HaveRoomsAbove IsDue levels
+      rooms : (kind : PartKind Item) (levels : List (Slots P Item)) (n : ℕ)
+          → AreAllLevels contents kind levels → 0 < length levels → HaveRoomsAbove IsDue levels
           → HaveRoomsAbove IsDue (levels ++ unused n ∷ [])
-      rooms stamp before [] n h some r = absurd (omega (arith, some))
-      rooms stamp before (lowest ∷ above) n h some r = rooms-added stamp before lowest above n r
+      rooms kind [] n h some r = absurd (omega (arith, some))
+      rooms kind (lowest ∷ above) n h some r = rooms-added kind lowest above n r
 
-      ahead : (stamp : Item → ℕ) (before : Order → Item → Item → Bool) (levels : List (Slots P Item)) (n : ℕ) → n ≡ length levels
-          → AreAllLevels contents stamp before levels → 0 < length levels → HaveRoomsAbove IsDueSoon levels → HaveRoomsAbove IsDueSoon (levels ++ unused n ∷ [])
-      ahead stamp before [] n next h some r = absurd (omega (arith, some))
-      ahead stamp before (lowest ∷ above) n next h some r = rooms_ahead-added stamp before lowest above n (omega (arith, next, h.0)) h.2 r
+      ahead : (kind : PartKind Item) (levels : List (Slots P Item)) (n : ℕ) → n ≡ length levels
+          → AreAllLevels contents kind levels → 0 < length levels → HaveRoomsAbove IsDueSoon levels → HaveRoomsAbove IsDueSoon (levels ++ unused n ∷ [])
+      ahead kind [] n next h some r = absurd (omega (arith, some))
+      ahead kind (lowest ∷ above) n next h some r = rooms_ahead-added kind lowest above n (omega (arith, next, h.0)) h.2 r
 
-  punctual-kept : (slope base : ℕ) (old new : List (Slots P Item)) → KeepRoomsAbove old new → All (IsPunctual slope base) old
-      → All (IsPunctual slope base) new
-  punctual-kept slope base [] new k h = subst (All (IsPunctual slope base)) (sym k) h
-  punctual-kept slope base (l ∷ old) [] k h = absurd k
-  punctual-kept slope base (l ∷ old) (l' ∷ new) k h =
-      All-cons (IsPunctual slope base) l' new (subst (IsPunctual slope base) (sym k.0) (All-head (IsPunctual slope base) l old h))
-      (punctual-kept slope base old new (above_kept l old new k.1) (All-tail (IsPunctual slope base) l old h))
+  punctual-kept : (kind : PartKind Item) (old new : List (Slots P Item)) → KeepRoomsAbove old new → All (IsPunctual kind) old
+      → All (IsPunctual kind) new
+  punctual-kept kind [] new k h = subst (All (IsPunctual kind)) (sym k) h
+  punctual-kept kind (l ∷ old) [] k h = absurd k
+  punctual-kept kind (l ∷ old) (l' ∷ new) k h =
+      All-cons (IsPunctual kind) l' new (subst (IsPunctual kind) (sym k.0) (All-head (IsPunctual kind) l old h))
+      (punctual-kept kind old new (above_kept l old new k.1) (All-tail (IsPunctual kind) l old h))
 
   pub IsKept-refl : (levels : List (Slots P Item)) → IsKept contents levels levels
   IsKept-refl levels = record {
-    live = refl;
-    items = refl;
-    weight = refl;
-    parts = refl;
-    levels = λ stamp before h. h;
-    punctual = λ slope base h. h;
+    same = record { live = refl; items = refl; weight = refl; parts = refl };
+    levels = λ kind h. h;
+    punctual = λ kind h. h;
     few = λ h. h;
     some = omega arith;
-    enough = λ stamp before h quiet. quiet;
-    rooms = λ stamp before h some r. r;
-    rooms_ahead = λ stamp before h some r. r;
+    enough = λ kind h quiet. quiet;
+    rooms = λ kind h some r. r;
+    rooms_ahead = λ kind h some r. r;
   }
 
   pub IsKept-then : {a b c : List (Slots P Item)} → IsKept contents a b → IsKept contents b c
       → IsKept contents a c
   IsKept-then {a} {b} {c} h k = record {
-    live = k.live ∙ h.live;
-    items = k.items ∙ h.items;
-    weight = k.weight ∙ h.weight;
-    parts = k.parts ∙ h.parts;
-    levels = λ stamp before l. k.levels stamp before (h.levels stamp before l);
-    punctual = λ slope base l. k.punctual slope base (h.punctual slope base l);
+    same = record {
+      live = k.same.live ∙ h.same.live;
+      items = k.same.items ∙ h.same.items;
+      weight = k.same.weight ∙ h.same.weight;
+      parts = k.same.parts ∙ h.same.parts;
+    };
+    levels = λ kind l. k.levels kind (h.levels kind l);
+    punctual = λ kind l. k.punctual kind (h.punctual kind l);
     few = λ l. k.few (h.few l);
     some = omega (arith, h.some, k.some);
-    enough = λ stamp before l quiet. k.enough stamp before (h.levels stamp before l) (h.enough stamp before l quiet);
-    rooms = λ stamp before l some r. k.rooms stamp before (h.levels stamp before l) (omega (arith, some, h.some)) (h.rooms stamp before l some r);
-    rooms_ahead = λ stamp before l some r. k.rooms_ahead stamp before (h.levels stamp before l) (omega (arith, some, h.some)) (h.rooms_ahead stamp before l some r);
+    enough = λ kind l quiet. k.enough kind (h.levels kind l) (h.enough kind l quiet);
+    rooms = λ kind l some r. k.rooms kind (h.levels kind l) (omega (arith, some, h.some)) (h.rooms kind l some r);
+    rooms_ahead = λ kind l some r. k.rooms_ahead kind (h.levels kind l) (omega (arith, some, h.some)) (h.rooms_ahead kind l some r);
   }
 
   pub IsKept-rooms : (old new : List (Slots P Item)) → KeepRoomsAbove old new → IsKept contents old new
   IsKept-rooms old new k =
       let same = same-kept old new k in
       record {
-        live = same.0;
-        items = same.1;
-        weight = same.2;
-        parts = same.3;
-        levels = λ stamp before. all_levels-kept stamp before old new k;
-        punctual = λ slope base. punctual-kept slope base old new k;
+        same = record { live = same.0; items = same.1; weight = same.2; parts = same.3 };
+        levels = λ kind. all_levels-kept kind old new k;
+        punctual = λ kind. punctual-kept kind old new k;
         few = λ few. omega (arith, few, same.4);
         some = omega (arith, same.4);
-        enough = λ stamp before h quiet. enough-kept old new k quiet;
-        rooms = λ stamp before h some r. rooms_above-kept IsDue due_is_soon due-back old new k r;
-        rooms_ahead = λ stamp before h some r. rooms_above-kept IsDueSoon (λ l d. d) soon-back old new k r;
+        enough = λ kind h quiet. enough-kept old new k quiet;
+        rooms = λ kind h some r. rooms_above-kept IsDue due_is_soon due-back old new k r;
+        rooms_ahead = λ kind h some r. rooms_above-kept IsDueSoon (λ l d. d) soon-back old new k r;
       }
 
   -- the lowest level alone changed
@@ -442,11 +438,11 @@ module _ {P Item : Type 0} (contents : P → Contents Item) where
         → (1 ≤ spare' → weight_of new < 2 ^ 31 → HaveRoomsAbove IsDue new) → (2 ≤ spare' → weight_of new < 2 ^ 31 → HaveRoomsAbove IsDueSoon new)
         → IsStack contents kind (record { levels = new; spare = spare'; starters = starters' })
     stack_of spare' starters' few enough lowest some rooms ahead = record {
-      levels = k.levels _ _ h.levels;
-      punctual = k.punctual _ _ h.punctual;
-      apart = subst (AllStampsDiffer kind.stamp) (sym k.items) h.apart;
-      light = omega (arith, h.light, k.weight);
-      small = omega (arith, h.small, k.weight, ap length k.items);
+      levels = k.levels _ h.levels;
+      punctual = k.punctual _ h.punctual;
+      apart = subst (AllStampsDiffer kind.stamp) (sym k.same.items) h.apart;
+      light = omega (arith, h.light, k.same.weight);
+      small = omega (arith, h.small, k.same.weight, ap length k.same.items);
       few = k.few h.few;
       starters_few = few;
       spare_few = enough;
@@ -461,8 +457,8 @@ module _ {P Item : Type 0} (contents : P → Contents Item) where
         → IsStack contents kind (record { levels = new; spare = spare; starters = starters' })
     IsStack-kept starters' more few lowest =
         stack_of spare starters' few (omega (arith, h.spare_few, more)) lowest (λ s. omega (arith, h.some s, k.some))
-        (λ s light. k.rooms _ _ h.levels (h.some s) (h.rooms s (omega (arith, light, k.weight))))
-        (λ s light. k.rooms_ahead _ _ h.levels (h.some (omega (arith, s))) (h.rooms_ahead s (omega (arith, light, k.weight))))
+        (λ s light. k.rooms _ h.levels (h.some s) (h.rooms s (omega (arith, light, k.same.weight))))
+        (λ s light. k.rooms_ahead _ h.levels (h.some (omega (arith, s))) (h.rooms_ahead s (omega (arith, light, k.same.weight))))
 
     -- two ticks need no more
     pub IsStack-ready : 0 < length new → lowest_held new + 2 ≤ 5 → (weight_of new < 2 ^ 31 → HaveRoomsAbove IsDueSoon new)

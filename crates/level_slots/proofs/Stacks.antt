@@ -15,14 +15,14 @@ use Rattle.level_slots.specs.Height.{size_of}
 use Rattle.level_slots.specs.Stack.{Stacked, IsStack}
 use Rattle.stack_levels.specs.Cost.{IsWithin, quotas}
 use Rattle.stack_levels.specs.Neighbours.{IsPunctual}
-use Rattle.stack_levels.specs.Towers.{IsDue, IsDueSoon, HaveRoomsAbove, AreAllLevels}
+use Rattle.stack_levels.specs.Towers.{IsDue, IsDueSoon, HaveRoomsAbove, AreOnTime}
 use Rattle.stack_levels.proofs.Spending.{IsWithin-then, quotas-first}
 
 module _ {P Item : Type 0} {contents : P → Contents Item} {kind : PartKind Item} where
   pub IsStack-empty : IsStack contents kind (record { levels = []; spare = 0; starters = 0 })
   IsStack-empty = record {
     levels = tt;
-    punctual = All-nil (IsPunctual kind.slope kind.base);
+    punctual = All-nil (IsPunctual kind);
     apart = λ i j d below within. absurd (omega (arith, within));
     light = omega arith;
     small = omega arith;
@@ -35,15 +35,14 @@ module _ {P Item : Type 0} {contents : P → Contents Item} {kind : PartKind Ite
     rooms_ahead = λ two still. absurd (omega (arith, two));
   }
 
-  pub IsStack-ticked : {s s' : Stacked P Item} → IsStack contents kind s → AreAllLevels contents kind.stamp kind.before s'.levels
-      → All (IsPunctual kind.slope kind.base) s'.levels → AllStampsDiffer kind.stamp (all_items contents s'.levels)
+  pub IsStack-ticked : {s s' : Stacked P Item} → IsStack contents kind s → AreOnTime contents kind s'.levels → AllStampsDiffer kind.stamp (all_items contents s'.levels)
       → weight_of s.levels ≤ weight_of s'.levels → weight_of s'.levels ≤ 2 ^ 31 → length s'.levels ≡ length s.levels
       → s'.spare + 1 ≡ s.spare → s'.starters ≤ 2 → s'.spare ≤ s'.starters → lowest_held s'.levels + s'.starters ≤ 5
       → length (all_items contents s'.levels) ≤ weight_of s'.levels
       → (HaveRoomsAbove IsDueSoon s.levels → HaveRoomsAbove IsDue s'.levels) → IsStack contents kind s'
-  IsStack-ticked h levels punctual apart heavier light as_many fewer few spare lowest small rooms = record {
-    levels = levels;
-    punctual = punctual;
+  IsStack-ticked h on_time apart heavier light as_many fewer few spare lowest small rooms = record {
+    levels = on_time.levels;
+    punctual = on_time.punctual;
     apart = apart;
     light = light;
     small = small;

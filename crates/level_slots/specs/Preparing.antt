@@ -1,11 +1,13 @@
 -- What a preparation keeps, and what it makes ready.
-use Rattle.std.specs.Prelude.{◌≡◌, ℕ, ◌+◌, ◌*◌, ◌^◌, ◌<◌, ◌≤◌, Bool, true, List, [], ◌∷◌, All, length, nat_le}
-use Rattle.query_laws.specs.declared.item.Order.{Order}
+use Rattle.std.specs.Prelude.{◌≡◌, ℕ, ◌+◌, ◌*◌, ◌^◌, ◌<◌, ◌≤◌, true, List, [], ◌∷◌, All, length, nat_le}
+use Rattle.builder_trait.specs.Builders.{PartKind, Progress, begun}
 use Rattle.builder_trait.specs.Parts.{Contents}
 use Rattle.stack_levels.specs.Slots.{Slots, ticks_of}
-use Rattle.stack_levels.specs.Levels.{live_items, all_items, weight_of, parts_of}
+use Rattle.stack_levels.specs.Levels.{weight_of}
 use Rattle.stack_levels.specs.Neighbours.{IsPunctual}
 use Rattle.stack_levels.specs.Towers.{IsDue, IsDueSoon, HaveRoomsAbove, AreAllLevels}
+use Rattle.level_slots.specs.Rooms.{rooms_in, forecast_of}
+use Rattle.level_slots.specs.Stack.{HaveSameItems}
 
 module _ {P Item : Type 0} where
   -- the levels above one have the next numbers
@@ -60,18 +62,25 @@ module _ {P Item : Type 0} where
   module _ (contents : P → Contents Item) where
     -- levels hold what they held, and the rooms that were due, by any kind
     pub record IsKept (old new : List (Slots P Item)) : Type 0 where
-      pub live : live_items contents new ≡ live_items contents old
-      pub items : all_items contents new ≡ all_items contents old
-      pub weight : weight_of new ≡ weight_of old
-      pub parts : parts_of new ≡ parts_of old
-      pub levels : (stamp : Item → ℕ) (before : Order → Item → Item → Bool)
-          → AreAllLevels contents stamp before old → AreAllLevels contents stamp before new
-      pub punctual : (slope base : ℕ) → All (IsPunctual slope base) old → All (IsPunctual slope base) new
+      pub same : HaveSameItems contents old new
+      pub levels : (kind : PartKind Item) → AreAllLevels contents kind old → AreAllLevels contents kind new
+      pub punctual : (kind : PartKind Item) → All (IsPunctual kind) old → All (IsPunctual kind) new
       pub few : length old ≤ 32 → length new ≤ 32
       pub some : length old ≤ length new
-      pub enough : (stamp : Item → ℕ) (before : Order → Item → Item → Bool)
-          → AreAllLevels contents stamp before old → AreEnough old → AreEnough new
-      pub rooms : (stamp : Item → ℕ) (before : Order → Item → Item → Bool)
-          → AreAllLevels contents stamp before old → 0 < length old → HaveRoomsAbove IsDue old → HaveRoomsAbove IsDue new
-      pub rooms_ahead : (stamp : Item → ℕ) (before : Order → Item → Item → Bool)
-          → AreAllLevels contents stamp before old → 0 < length old → HaveRoomsAbove IsDueSoon old → HaveRoomsAbove IsDueSoon new
+      pub enough : (kind : PartKind Item) → AreAllLevels contents kind old → AreEnough old → AreEnough new
+      pub rooms : (kind : PartKind Item) → AreAllLevels contents kind old → 0 < length old
+          → HaveRoomsAbove IsDue old → HaveRoomsAbove IsDue new
+      pub rooms_ahead : (kind : PartKind Item) → AreAllLevels contents kind old → 0 < length old
+          → HaveRoomsAbove IsDueSoon old → HaveRoomsAbove IsDueSoon new
+
+  -- two ticks need no more: builders for two items stand ready, there is room above each level that is due soon, and no other room is held
+  pub record AreReady (levels : List (Slots P Item)) (starters : ℕ) : Type 0 where
+    pub both : starters ≡ 2
+    pub some : 0 < length levels
+    pub rooms : weight_of levels < 2 ^ 31 → HaveRoomsAbove IsDueSoon levels
+    pub few_rooms : rooms_in levels ≤ forecast_of levels
+
+-- builders that stand ready for single items, two at most
+pub record AreStarters {B Item : Type 0} (progress : B → Progress Item) (builders : List B) : Type 0 where
+  pub begun : All (λ b. progress b ≡ begun 0) builders
+  pub few : length builders ≤ 2

@@ -1,10 +1,10 @@
 -- What contracts see of a stack, and what holds of it between two ticks.
-use Rattle.std.specs.Prelude.{ℕ, ◌+◌, ◌^◌, ◌<◌, ◌≤◌, Bool, List, ◌∷◌, All, length, map, drop}
+use Rattle.std.specs.Prelude.{◌≡◌, ℕ, ◌+◌, ◌^◌, ◌<◌, ◌≤◌, Bool, List, ◌∷◌, All, length, map, drop}
 use Rattle.query_laws.specs.Orders.{AllStampsDiffer}
 use Rattle.builder_trait.specs.Builders.{PartKind}
 use Rattle.builder_trait.specs.Parts.{Contents}
 use Rattle.stack_levels.specs.Slots.{Slots, held_in}
-use Rattle.stack_levels.specs.Levels.{weight_of, all_items, lowest_held, held_of}
+use Rattle.stack_levels.specs.Levels.{weight_of, live_items, all_items, parts_of, lowest_held, held_of}
 use Rattle.stack_levels.specs.Neighbours.{IsPunctual}
 use Rattle.stack_levels.specs.Towers.{AreAllLevels, IsDue, IsDueSoon, HaveRoomsAbove}
 
@@ -23,10 +23,17 @@ module _ {P Item : Type 0} where
   abbrev pub held_by_level : Stacked P Item → List ℕ
   held_by_level s = (s.starters + lowest_held s.levels) ∷ drop 1 (map held_in s.levels)
 
+  -- levels have the same items, live and dead, in as many parts of the same weight
+  pub record HaveSameItems (contents : P → Contents Item) (old new : List (Slots P Item)) : Type 0 where
+    pub live : live_items contents new ≡ live_items contents old
+    pub items : all_items contents new ≡ all_items contents old
+    pub weight : weight_of new ≡ weight_of old
+    pub parts : parts_of new ≡ parts_of old
+
   module _ (contents : P → Contents Item) (kind : PartKind Item) where
     pub record IsStack (s : Stacked P Item) : Type 0 where
-      pub levels : AreAllLevels contents kind.stamp kind.before s.levels
-      pub punctual : All (IsPunctual kind.slope kind.base) s.levels
+      pub levels : AreAllLevels contents kind s.levels
+      pub punctual : All (IsPunctual kind) s.levels
       pub apart : AllStampsDiffer kind.stamp (all_items contents s.levels)
       pub light : weight_of s.levels ≤ 2 ^ 31
       pub small : length (all_items contents s.levels) ≤ weight_of s.levels

@@ -5,9 +5,10 @@ ghost use Rattle.stack_levels.specs.Slots.{held_in};
 ghost use Rattle.stack_levels.specs.Levels.{weight_of, held_of, lowest_held};
 ghost use Rattle.stack_levels.specs.Towers.{IsDueSoon, HaveRoomsAbove, AreAllLevels};
 ghost use Rattle.level_slots.specs.Rooms.{rooms_in, kept_in, forecast_of};
-ghost use Rattle.level_slots.specs.Preparing.{AreNumbered, AreRising, KeepRooms, AreForecast, AreEnough, IsBounded, IsKept};
+ghost use Rattle.level_slots.specs.Preparing.{AreNumbered, AreRising, KeepRooms, AreForecast, AreEnough, IsBounded, IsKept, AreStarters, AreReady};
 
 use builder_trait::{Builder, Part};
+use partial_build::Kinded;
 use query_laws::{Item, NoMemory};
 use stack_levels::Level;
 use std::alloc::Global;
@@ -26,21 +27,16 @@ pub(crate) fn take_memory<B: Builder>(
     starters: &mut Vec<B>,
     alloc: Global,
 ) -> Result<(), NoMemory>
-    requires levels { AreAllLevels B.Part.Part.contents B.Item.stamp B.Item.before levels.old.items }
+    requires levels { AreAllLevels B.Part.Part.contents ⟦<B as Kinded>⟧.kind levels.old.items }
     requires few { length levels.old.items ≤ 32 }
-    requires begun { All (λ b. B.progress b ≡ begun 0) starters.old.items }
-    requires few_starters { length starters.old.items ≤ 2 }
+    requires starters { AreStarters B.progress starters.old.items }
     requires lowest { lowest_held levels.old.items + length starters.old.items ≤ 5 }
     ensures kept { IsKept B.Part.Part.contents levels.old.items levels.new.items }
     ensures lowest { lowest_held levels.new.items + length starters.new.items ≤ 5 }
     ensures no_less { held_of levels.old.items + length starters.old.items ≤ held_of levels.new.items + length starters.new.items }
-    ensures begun { All (λ b. B.progress b ≡ begun 0) starters.new.items }
-    ensures few_starters { length starters.new.items ≤ 2 }
+    ensures starters { AreStarters B.progress starters.new.items }
     ensures more { length starters.old.items ≤ length starters.new.items }
-    ensures both { IfOk result (λ _. length starters.new.items ≡ 2) }
-    ensures some { IfOk result (λ _. 0 < length levels.new.items) }
-    ensures ready { IfOk result (λ _. weight_of levels.new.items < 2 ^ 31 → HaveRoomsAbove IsDueSoon levels.new.items) }
-    ensures few_rooms { IfOk result (λ _. rooms_in levels.new.items ≤ forecast_of levels.new.items) }
+    ensures ready { IfOk result (λ _. AreReady levels.new.items (length starters.new.items)) }
 {
     add_levels(levels, alloc)?;
     fill_levels(levels, starters, alloc)
@@ -55,15 +51,13 @@ fn fill_levels<B: Builder>(
     alloc: Global,
 ) -> Result<(), NoMemory>
     requires some { 0 < length levels.old }
-    requires levels { AreAllLevels B.Part.Part.contents B.Item.stamp B.Item.before levels.old }
-    requires begun { All (λ b. B.progress b ≡ begun 0) starters.old.items }
-    requires few_starters { length starters.old.items ≤ 2 }
+    requires levels { AreAllLevels B.Part.Part.contents ⟦<B as Kinded>⟧.kind levels.old }
+    requires starters { AreStarters B.progress starters.old.items }
     requires lowest { lowest_held levels.old + length starters.old.items ≤ 5 }
     ensures kept { IsKept B.Part.Part.contents levels.old levels.new }
     ensures lowest { lowest_held levels.new + length starters.new.items ≤ 5 }
     ensures no_less { held_of levels.old + length starters.old.items ≤ held_of levels.new + length starters.new.items }
-    ensures begun { All (λ b. B.progress b ≡ begun 0) starters.new.items }
-    ensures few_starters { length starters.new.items ≤ 2 }
+    ensures starters { AreStarters B.progress starters.new.items }
     ensures more { length starters.old.items ≤ length starters.new.items }
     ensures both { IfOk result (λ _. length starters.new.items ≡ 2) }
     ensures ready { IfOk result (λ _. AreEnough levels.new → HaveRoomsAbove IsDueSoon levels.new) }
@@ -77,7 +71,7 @@ fn fill_levels<B: Builder>(
 ///
 /// `NoMemory` where memory for one isn't given; those made so far stay.
 fn add_levels<B: Builder>(levels: &mut Vec<Level<B>>, alloc: Global) -> Result<(), NoMemory>
-    requires levels { AreAllLevels B.Part.Part.contents B.Item.stamp B.Item.before levels.old.items }
+    requires levels { AreAllLevels B.Part.Part.contents ⟦<B as Kinded>⟧.kind levels.old.items }
     requires few { length levels.old.items ≤ 32 }
     ensures kept { IsKept B.Part.Part.contents levels.old.items levels.new.items }
     ensures some { IfOk result (λ _. 0 < length levels.new.items) }
@@ -93,7 +87,7 @@ fn add_levels<B: Builder>(levels: &mut Vec<Level<B>>, alloc: Global) -> Result<(
 
 /// Whether another level is wanted.
 fn is_short<B: Builder>(levels: &[Level<B>]) -> bool
-    requires levels { AreAllLevels B.Part.Part.contents B.Item.stamp B.Item.before levels.now }
+    requires levels { AreAllLevels B.Part.Part.contents ⟦<B as Kinded>⟧.kind levels.now }
     requires few { length levels.now ≤ 32 }
     ensures wanted { result ≡ true → length levels.now < 32 }
     ensures some { result ≡ false → 0 < length levels.now }
@@ -109,7 +103,7 @@ fn is_short<B: Builder>(levels: &[Level<B>]) -> bool
 ///
 /// `NoMemory` where memory for it isn't given; nothing has changed then.
 fn add_level<B: Builder>(levels: &mut Vec<Level<B>>, alloc: Global) -> Result<(), NoMemory>
-    requires levels { AreAllLevels B.Part.Part.contents B.Item.stamp B.Item.before levels.old.items }
+    requires levels { AreAllLevels B.Part.Part.contents ⟦<B as Kinded>⟧.kind levels.old.items }
     requires few { length levels.old.items < 32 }
     ensures kept { IsKept B.Part.Part.contents levels.old.items levels.new.items }
     ensures more { IfOk result (λ _. length levels.new.items ≡ length levels.old.items + 1) }
@@ -131,15 +125,13 @@ fn add_starters<B: Builder>(
     alloc: Global,
 ) -> Result<(), NoMemory>
     requires some { 0 < length levels.old }
-    requires levels { AreAllLevels B.Part.Part.contents B.Item.stamp B.Item.before levels.old }
-    requires begun { All (λ b. B.progress b ≡ begun 0) starters.old.items }
-    requires few { length starters.old.items ≤ 2 }
+    requires levels { AreAllLevels B.Part.Part.contents ⟦<B as Kinded>⟧.kind levels.old }
+    requires starters { AreStarters B.progress starters.old.items }
     requires lowest { lowest_held levels.old + length starters.old.items ≤ 5 }
     ensures lowest { lowest_held levels.new + length starters.new.items ≤ 5 }
     ensures no_less { held_of levels.old + length starters.old.items ≤ held_of levels.new + length starters.new.items }
     ensures kept { IsKept B.Part.Part.contents levels.old levels.new }
-    ensures begun { All (λ b. B.progress b ≡ begun 0) starters.new.items }
-    ensures few { length starters.new.items ≤ 2 }
+    ensures starters { AreStarters B.progress starters.new.items }
     ensures more { length starters.old.items ≤ length starters.new.items }
     ensures ready { IfOk result (λ _. length starters.new.items ≡ 2) }
 {
@@ -156,7 +148,7 @@ fn add_starter<B: Builder>(
     alloc: Global,
 ) -> Result<(), NoMemory>
     requires some { 0 < length levels.old }
-    requires levels { AreAllLevels B.Part.Part.contents B.Item.stamp B.Item.before levels.old }
+    requires levels { AreAllLevels B.Part.Part.contents ⟦<B as Kinded>⟧.kind levels.old }
     requires begun { All (λ b. B.progress b ≡ begun 0) starters.old.items }
     requires few { length starters.old.items < 2 }
     requires lowest { lowest_held levels.old + length starters.old.items ≤ 5 }
@@ -176,7 +168,7 @@ fn add_starter<B: Builder>(
 /// A builder of level 0: one that is kept there, and a new one where none is.
 fn take_starter<B: Builder>(levels: &mut [Level<B>], alloc: Global) -> Result<B, NoMemory>
     requires some { 0 < length levels.old }
-    requires levels { AreAllLevels B.Part.Part.contents B.Item.stamp B.Item.before levels.old }
+    requires levels { AreAllLevels B.Part.Part.contents ⟦<B as Kinded>⟧.kind levels.old }
     ensures begun { IfOk result (λ builder. B.progress builder ≡ begun 0) }
     ensures kept { IsKept B.Part.Part.contents levels.old levels.new }
 
@@ -195,7 +187,7 @@ fn take_starter<B: Builder>(levels: &mut [Level<B>], alloc: Global) -> Result<B,
 ///
 /// `NoMemory` where memory for a room isn't given; no room that is due soon was given back then.
 fn forecast_rooms<B: Builder>(levels: &mut [Level<B>], alloc: Global) -> Result<(), NoMemory>
-    requires { AreAllLevels B.Part.Part.contents B.Item.stamp B.Item.before levels.old }
+    requires { AreAllLevels B.Part.Part.contents ⟦<B as Kinded>⟧.kind levels.old }
     ensures kept { IsKept B.Part.Part.contents levels.old levels.new }
     ensures ready { IfOk result (λ _. AreEnough levels.new → HaveRoomsAbove IsDueSoon levels.new) }
     ensures few { IfOk result (λ _. rooms_in levels.new ≤ forecast_of levels.new) }

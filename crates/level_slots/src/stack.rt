@@ -7,7 +7,7 @@ ghost use Rattle.builder_trait.specs.Builders.{begun};
 ghost use Rattle.partial_build.specs.Quota.{quota};
 ghost use Rattle.stack_levels.specs.Slots.{IsPartOf, held_in};
 ghost use Rattle.stack_levels.specs.Levels.{live_items, all_items, weight_of, parts_of, asked, touches_of};
-ghost use Rattle.level_slots.specs.Stack.{Stacked, held_by_level, memory_of};
+ghost use Rattle.level_slots.specs.Stack.{Stacked, HaveSameItems, held_by_level, memory_of};
 ghost use Rattle.level_slots.specs.Height.{IsHeight, HaveAtMost, AreFew, size_of};
 ghost use Rattle.stack_levels.specs.Level.{IsOfLevel};
 ghost use Rattle.stack_levels.specs.Cost.{IsWithin, quotas};
@@ -212,10 +212,7 @@ impl<B: Builder> Stack<B> {
     pub fn prepare(&mut self) -> Result<(), NoMemory>
         ensures spare { IfOk result (λ _. 2 ≤ self.new.spare) }
         ensures no_lower { self.old.spare ≤ self.new.spare }
-        ensures live { live_items B.Part.Part.contents self.new.levels ≡ live_items B.Part.Part.contents self.old.levels }
-        ensures items { all_items B.Part.Part.contents self.new.levels ≡ all_items B.Part.Part.contents self.old.levels }
-        ensures weight { weight_of self.new.levels ≡ weight_of self.old.levels }
-        ensures parts { parts_of self.new.levels ≡ parts_of self.old.levels }
+        ensures same { HaveSameItems B.Part.Part.contents self.old.levels self.new.levels }
         ensures memory { memory_of self.old ≤ memory_of self.new }
         ensures rooms { IfOk result (λ _. rooms_of self.new ≤ 2 + forecast_of self.new.levels) }
     {
@@ -262,10 +259,7 @@ impl<B: Builder> Stack<B> {
         ensures one { retired.new ≡ retired.old - 1 }
         ensures no_less { memory_of self.old ≤ memory_of self.new }
         ensures no_more { memory_of self.new + retired.new ≤ memory_of self.old + retired.old }
-        ensures live { live_items B.Part.Part.contents self.new.levels ≡ live_items B.Part.Part.contents self.old.levels }
-        ensures items { all_items B.Part.Part.contents self.new.levels ≡ all_items B.Part.Part.contents self.old.levels }
-        ensures weight { weight_of self.new.levels ≡ weight_of self.old.levels }
-        ensures parts { parts_of self.new.levels ≡ parts_of self.old.levels }
+        ensures same { HaveSameItems B.Part.Part.contents self.old.levels self.new.levels }
         ensures spare { self.new.spare ≡ self.old.spare }
         ensures rooms { rooms_of self.new ≡ rooms_of self.old }
     {

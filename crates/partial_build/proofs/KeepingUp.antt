@@ -13,6 +13,7 @@ use Rattle.query_laws.specs.Permuted.{Permuted, composed}
 use Rattle.query_laws.proofs.Permutations.{Permuted-sym, Permuted-filter, Permuted-append, Permuted-append_left}
 use Rattle.query_laws.specs.declared.item.Order.{Order}
 use Rattle.query_laws.specs.declared.item.Order.TheVariants.{First}
+use Rattle.builder_trait.specs.Builders.{PartKind}
 use Rattle.builder_trait.specs.Parts.{Contents, IsPart, OwnsStamp, has_stamp, without, marked, live_of}
 use Rattle.builder_trait.proofs.Kept.{All-kept}
 use Rattle.builder_trait.proofs.FlatLemmas.{items-all_true}
@@ -80,10 +81,23 @@ taken_all table xs full =
     ap (λ l. items_where_true l (take (length table) xs)) (take_all (length table) (map is_some table) (omega (arith, length-map table is_some)))
     ∙ ap (items_where_true (map is_some table)) (take_all (length table) xs (omega arith))
 
-module _ {Item : Type 0} {stamp : Item → ℕ} {before : Order → Item → Item → Bool} where
-  module _ {m : Merging Item} {part : Contents Item} {waiting : List Item} {a b : Contents Item} (h : KeepsUp stamp before m part waiting a b) where
+-- what the table took is among the items
+taken_there : {Item : Type 0} {stamp : Item → ℕ} {before : Order → Item → Item → Bool} {m : Merging Item} {part a b : Contents Item}
+    → Merges stamp before m a b (put_of part) → IsAllLive part
+    → (l : ℕ) (y : Item) → l < length m.a.table → slice_get a.items l ≡ Some y → is_taken m.a.table l ≡ true
+    → has_stamp stamp (stamp y) (live_of part) ≡ true
+taken_there {stamp = stamp} {m = m} {part = part} {a = a} merges fresh l y below at taken =
+    ap (has_stamp stamp (stamp y)) (live_of-fresh part fresh) ∙ by (get_or m.a.table l None) refl
+  where
+    by : (e : Option ℕ) → get_or m.a.table l None ≡ e → has_stamp stamp (stamp y) part.items ≡ true
+    by None is = let off : is_taken m.a.table l ≡ false = ap is_some is in absurd cc
+    by (Some n) is =
+        has_stamp-at stamp part.items n y (merges.taking.new_places l n (slice_get-get_or m.a.table l None below ∙ ap Some is) ∙ at)
+
+module _ {Item : Type 0} {kind : PartKind Item} where
+  module _ {m : Merging Item} {part : Contents Item} {waiting : List Item} {a b : Contents Item} (h : KeepsUp kind m part waiting a b) where
     -- the sources in the other order
-    pub KeepsUp-swap : KeepsUp stamp before (swapped m) part waiting b a
+    pub KeepsUp-swap : KeepsUp kind (swapped m) part waiting b a
     KeepsUp-swap = record {
       merges = Merges-swap h.merges;
       valid = h.other_valid;
@@ -98,53 +112,53 @@ module _ {Item : Type 0} {stamp : Item → ℕ} {before : Order → Item → Ite
 
     module _ (k : ℕ) (x : Item) (at : slice_get a.items k ≡ Some x) where
       -- at other places stand other stamps
-      other_here : (l : ℕ) (y : Item) → slice_get a.items l ≡ Some y → l ≢ k → (stamp y == stamp x) ≡ false
+      other_here : (l : ℕ) (y : Item) → slice_get a.items l ≡ Some y → l ≢ k → (kind.stamp y == kind.stamp x) ≡ false
       other_here l y at_y elsewhere =
-          test_other (stamp y) (stamp x) (λ same. elsewhere (same_place stamp a.items h.apart l k y x at_y at same))
+          test_other (kind.stamp y) (kind.stamp x) (λ same. elsewhere (same_place kind.stamp a.items h.apart l k y x at_y at same))
 
-      other_there : (l : ℕ) (y : Item) → slice_get b.items l ≡ Some y → (stamp y == stamp x) ≡ false
-      other_there l y at_y = test_other (stamp y) (stamp x) (λ same. h.merges.sources.stamps_differ k l x y at at_y (sym same))
+      other_there : (l : ℕ) (y : Item) → slice_get b.items l ≡ Some y → (kind.stamp y == kind.stamp x) ≡ false
+      other_there l y at_y = test_other (kind.stamp y) (kind.stamp x) (λ same. h.merges.sources.stamps_differ k l x y at at_y (sym same))
 
-      waits_too : (y : Item) → stays stamp part (waiting ++ x ∷ []) (stamp y)
-          ≡ (has_stamp stamp (stamp y) (live_of part) && not (has_stamp stamp (stamp y) waiting || (stamp y == stamp x)))
+      waits_too : (y : Item) → stays kind.stamp part (waiting ++ x ∷ []) (kind.stamp y)
+          ≡ (has_stamp kind.stamp (kind.stamp y) (live_of part) && not (has_stamp kind.stamp (kind.stamp y) waiting || (kind.stamp y == kind.stamp x)))
       waits_too y =
-          ap (λ w. has_stamp stamp (stamp y) (live_of part) && not w)
-          (has_stamp-push stamp (stamp y) waiting x ∙ ap (λ e. has_stamp stamp (stamp y) waiting || e) (test_swap (stamp x) (stamp y)))
+          ap (λ w. has_stamp kind.stamp (kind.stamp y) (live_of part) && not w)
+          (has_stamp-push kind.stamp (kind.stamp y) waiting x ∙ ap (λ e. has_stamp kind.stamp (kind.stamp y) waiting || e) (test_swap (kind.stamp x) (kind.stamp y)))
 
       -- an item that was read dies in a, and waits
-      pub KeepsUp-noted : k < length m.a.table → KeepsUp stamp before m part (waiting ++ x ∷ []) (marked stamp (stamp x) a) b
+      pub KeepsUp-noted : k < length m.a.table → KeepsUp kind m part (waiting ++ x ∷ []) (marked kind.stamp (kind.stamp x) a) b
       KeepsUp-noted read = record {
-        merges = Merges-marked h.merges (stamp x);
-        valid = IsPart-marked stamp (stamp x) h.valid;
+        merges = Merges-marked h.merges (kind.stamp x);
+        valid = IsPart-marked kind.stamp (kind.stamp x) h.valid;
         other_valid = h.other_valid;
         apart = h.apart;
         other_apart = h.other_apart;
         up_to_date = λ l y below at_y.
-            let s = stamp y in
-            slice_get-fallen stamp (stamp x) a.items a.flags l y (is_taken m.a.table l && stays stamp part waiting s) at_y (h.up_to_date l y below at_y)
-            ∙ ap Some (noted_bit (is_taken m.a.table l) (has_stamp stamp s (live_of part)) (has_stamp stamp s waiting) (s == stamp x)
+            let s = kind.stamp y in
+            slice_get-fallen kind.stamp (kind.stamp x) a.items a.flags l y (is_taken m.a.table l && stays kind.stamp part waiting s) at_y (h.up_to_date l y below at_y)
+            ∙ ap Some (noted_bit (is_taken m.a.table l) (has_stamp kind.stamp s (live_of part)) (has_stamp kind.stamp s waiting) (s == kind.stamp x)
             ∙ ap (λ v. is_taken m.a.table l && v) (sym (waits_too y)));
         other_up_to_date = λ l y below at_y.
-            let s = stamp y in
+            let s = kind.stamp y in
             h.other_up_to_date l y below at_y
             ∙ ap (λ v. Some (is_taken m.b.table l && v))
-            (ap (λ w. has_stamp stamp s (live_of part) && not w)
-            (sym (ap (λ e. has_stamp stamp s waiting || e) (other_there l y at_y) ∙ or_false (has_stamp stamp s waiting)))
+            (ap (λ w. has_stamp kind.stamp s (live_of part) && not w)
+            (sym (ap (λ e. has_stamp kind.stamp s waiting || e) (other_there l y at_y) ∙ or_false (has_stamp kind.stamp s waiting)))
             ∙ sym (waits_too y));
         noted = All-push (λ y. IsReadOf m.a.table a.items y ⊎ IsReadOf m.b.table b.items y) waiting x h.noted (inl (k, read, at));
       }
 
       -- an item that wasn't read dies in a
-      pub KeepsUp-unread : length m.a.table ≤ k → KeepsUp stamp before m part waiting (marked stamp (stamp x) a) b
+      pub KeepsUp-unread : length m.a.table ≤ k → KeepsUp kind m part waiting (marked kind.stamp (kind.stamp x) a) b
       KeepsUp-unread later = record {
-        merges = Merges-marked h.merges (stamp x);
-        valid = IsPart-marked stamp (stamp x) h.valid;
+        merges = Merges-marked h.merges (kind.stamp x);
+        valid = IsPart-marked kind.stamp (kind.stamp x) h.valid;
         other_valid = h.other_valid;
         apart = h.apart;
         other_apart = h.other_apart;
         up_to_date = λ l y below at_y.
-            let flag = is_taken m.a.table l && stays stamp part waiting (stamp y) in
-            slice_get-fallen stamp (stamp x) a.items a.flags l y flag at_y (h.up_to_date l y below at_y)
+            let flag = is_taken m.a.table l && stays kind.stamp part waiting (kind.stamp y) in
+            slice_get-fallen kind.stamp (kind.stamp x) a.items a.flags l y flag at_y (h.up_to_date l y below at_y)
             ∙ ap (λ e. Some (flag && not e)) (other_here l y at_y (λ same. absurd (omega arith)))
             ∙ ap Some (and_true flag);
         other_up_to_date = h.other_up_to_date;
@@ -152,13 +166,13 @@ module _ {Item : Type 0} {stamp : Item → ℕ} {before : Order → Item → Ite
       }
 
       -- an item of a has its stamp alone in the new part
-      pub OwnsStamp-source : OwnsStamp stamp x part.items
+      pub OwnsStamp-source : OwnsStamp kind.stamp x part.items
       OwnsStamp-source =
-          let Owned : Item → Type 0 = λ y. stamp y ≡ stamp x → y ≡ x in
+          let Owned : Item → Type 0 = λ y. kind.stamp y ≡ kind.stamp x → y ≡ x in
           let owned : All Owned a.items = λ l d within same.
           let y = get_or a.items l d in
           let at_y : slice_get a.items l ≡ Some y = slice_get-get_or a.items l d within in
-          let place : l ≡ k = same_place stamp a.items h.apart l k y x at_y at same in
+          let place : l ≡ k = same_place kind.stamp a.items h.apart l k y x at_y at same in
           same_Some y x (sym at_y ∙ ap (slice_get a.items) place ∙ at) in
           let owned_other : All Owned b.items = λ l d within same.
           absurd (h.merges.sources.stamps_differ k l x (get_or b.items l d) at (slice_get-get_or b.items l d within) (sym same)) in
@@ -167,40 +181,28 @@ module _ {Item : Type 0} {stamp : Item → ℕ} {before : Order → Item → Ite
           (All-kept Owned (take (length m.a.table) (map is_some m.a.table)) (take (length m.a.table) a.items) (All-take Owned (length m.a.table) a.items owned))
           (All-kept Owned (take (length m.b.table) (map is_some m.b.table)) (take (length m.b.table) b.items) (All-take Owned (length m.b.table) b.items owned_other)))
 
-  module _ {m : Merging Item} {part : Contents Item} {waiting : List Item} {a b : Contents Item} (h : KeepsUp stamp before m part waiting a b) where
-    pub OwnsStamp-read : (x : Item) → IsReadOf m.a.table a.items x ⊎ IsReadOf m.b.table b.items x → OwnsStamp stamp x part.items
+  module _ {m : Merging Item} {part : Contents Item} {waiting : List Item} {a b : Contents Item} (h : KeepsUp kind m part waiting a b) where
+    pub OwnsStamp-read : (x : Item) → IsReadOf m.a.table a.items x ⊎ IsReadOf m.b.table b.items x → OwnsStamp kind.stamp x part.items
     OwnsStamp-read x = ⊎_elim (λ read. OwnsStamp-source h read.0 x read.2) (λ read. OwnsStamp-source (KeepsUp-swap h) read.0 x read.2)
 
     -- what waits has another stamp than what wasn't read yet
-    none_waits : (l : ℕ) (y : Item) → length m.a.table ≤ l → slice_get a.items l ≡ Some y → has_stamp stamp (stamp y) waiting ≡ false
+    none_waits : (l : ℕ) (y : Item) → length m.a.table ≤ l → slice_get a.items l ≡ Some y → has_stamp kind.stamp (kind.stamp y) waiting ≡ false
     none_waits l y later at =
-        list_any_none (λ x. stamp x == stamp y) waiting
-        (All-weaker (λ x. IsReadOf m.a.table a.items x ⊎ IsReadOf m.b.table b.items x) (λ x. (stamp x == stamp y) ≡ false)
+        list_any_none (λ x. kind.stamp x == kind.stamp y) waiting
+        (All-weaker (λ x. IsReadOf m.a.table a.items x ⊎ IsReadOf m.b.table b.items x) (λ x. (kind.stamp x == kind.stamp y) ≡ false)
         (λ x. ⊎_elim
-        (λ read. test_other (stamp x) (stamp y) (λ same.
-        let place : read.0 ≡ l = same_place stamp a.items h.apart read.0 l x y read.2 at same in
+        (λ read. test_other (kind.stamp x) (kind.stamp y) (λ same.
+        let place : read.0 ≡ l = same_place kind.stamp a.items h.apart read.0 l x y read.2 at same in
         let earlier : read.0 < length m.a.table = read.1 in absurd (omega arith)))
-        (λ read. test_other (stamp x) (stamp y) (λ same. h.merges.sources.stamps_differ l read.0 y x at read.2 (sym same))))
+        (λ read. test_other (kind.stamp x) (kind.stamp y) (λ same. h.merges.sources.stamps_differ l read.0 y x at read.2 (sym same))))
         waiting h.noted)
 
-  -- what the table took is among the items
-  taken_there : {m : Merging Item} {part a b : Contents Item} → Merges stamp before m a b (put_of part) → IsAllLive part
-      → (l : ℕ) (y : Item) → l < length m.a.table → slice_get a.items l ≡ Some y → is_taken m.a.table l ≡ true
-      → has_stamp stamp (stamp y) (live_of part) ≡ true
-  taken_there {m} {part} {a} merges fresh l y below at taken =
-      ap (has_stamp stamp (stamp y)) (live_of-fresh part fresh) ∙ by (get_or m.a.table l None) refl
-    where
-      by : (e : Option ℕ) → get_or m.a.table l None ≡ e → has_stamp stamp (stamp y) part.items ≡ true
-      by None is = let off : is_taken m.a.table l ≡ false = ap is_some is in absurd cc
-      by (Some n) is =
-          has_stamp-at stamp part.items n y (merges.taking.new_places l n (slice_get-get_or m.a.table l None below ∙ ap Some is) ∙ at)
-
   module _ {m new : Merging Item} {part fresh : Contents Item} {waiting : List Item} {a b : Contents Item} {n : ℕ}
-      (h : KeepsUp stamp before m part waiting a b) (merges : Merges stamp before new a b (put_of fresh))
+      (h : KeepsUp kind m part waiting a b) (merges : Merges kind.stamp kind.before new a b (put_of fresh))
       (read : HasRead n m new a b (put_of part) (put_of fresh)) (live : IsAllLive part) (still_live : IsAllLive fresh) where
     -- what was read of a before
     read_before : (l : ℕ) (y : Item) → l < length m.a.table → slice_get a.items l ≡ Some y
-        → slice_get a.flags l ≡ Some (is_taken new.a.table l && stays stamp fresh waiting (stamp y))
+        → slice_get a.flags l ≡ Some (is_taken new.a.table l && stays kind.stamp fresh waiting (kind.stamp y))
     read_before l y below at =
         let entry : get_or m.a.table l None ≡ get_or new.a.table l None =
         same_Some (get_or m.a.table l None) (get_or new.a.table l None)
@@ -209,40 +211,40 @@ module _ {Item : Type 0} {stamp : Item → ℕ} {before : Order → Item → Ite
         h.up_to_date l y below at ∙ ap Some (by (is_taken m.a.table l) refl (ap is_some entry))
       where
         w : Bool
-        w = has_stamp stamp (stamp y) waiting
+        w = has_stamp kind.stamp (kind.stamp y) waiting
 
         by : (t : Bool) → is_taken m.a.table l ≡ t → is_taken m.a.table l ≡ is_taken new.a.table l
-            → (is_taken m.a.table l && stays stamp part waiting (stamp y)) ≡ (is_taken new.a.table l && stays stamp fresh waiting (stamp y))
+            → (is_taken m.a.table l && stays kind.stamp part waiting (kind.stamp y)) ≡ (is_taken new.a.table l && stays kind.stamp fresh waiting (kind.stamp y))
         by false is same =
-            ap (λ t. t && stays stamp part waiting (stamp y)) is ∙ sym (ap (λ t. t && stays stamp fresh waiting (stamp y)) (sym same ∙ is))
+            ap (λ t. t && stays kind.stamp part waiting (kind.stamp y)) is ∙ sym (ap (λ t. t && stays kind.stamp fresh waiting (kind.stamp y)) (sym same ∙ is))
         by true is same =
-            ap (λ t. t && stays stamp part waiting (stamp y)) is
+            ap (λ t. t && stays kind.stamp part waiting (kind.stamp y)) is
             ∙ ap (λ v. v && not w) (taken_there h.merges live l y below at is
             ∙ sym (taken_there merges still_live l y (omega (arith, read.taken.longer)) at (sym same ∙ is)))
-            ∙ sym (ap (λ t. t && stays stamp fresh waiting (stamp y)) (sym same ∙ is))
+            ∙ sym (ap (λ t. t && stays kind.stamp fresh waiting (kind.stamp y)) (sym same ∙ is))
 
     -- what is read of it now
     read_now : (l : ℕ) (y : Item) → length m.a.table ≤ l → l < length new.a.table → slice_get a.items l ≡ Some y
-        → slice_get a.flags l ≡ Some (is_taken new.a.table l && stays stamp fresh waiting (stamp y))
+        → slice_get a.flags l ≡ Some (is_taken new.a.table l && stays kind.stamp fresh waiting (kind.stamp y))
     read_now l y later below at =
         sym (read.taken.taken l later below) ∙ slice_get-map is_some new.a.table l
         ∙ ap (λ e. option_map is_some e) (slice_get-get_or new.a.table l None below)
         ∙ ap Some (by (is_taken new.a.table l) refl)
       where
-        by : (t : Bool) → is_taken new.a.table l ≡ t → is_taken new.a.table l ≡ (is_taken new.a.table l && stays stamp fresh waiting (stamp y))
-        by false is = is ∙ sym (ap (λ t. t && stays stamp fresh waiting (stamp y)) is)
+        by : (t : Bool) → is_taken new.a.table l ≡ t → is_taken new.a.table l ≡ (is_taken new.a.table l && stays kind.stamp fresh waiting (kind.stamp y))
+        by false is = is ∙ sym (ap (λ t. t && stays kind.stamp fresh waiting (kind.stamp y)) is)
         by true is =
-            is ∙ sym (ap (λ t. t && stays stamp fresh waiting (stamp y)) is
-            ∙ ap (λ v. v && not (has_stamp stamp (stamp y) waiting)) (taken_there merges still_live l y below at is)
+            is ∙ sym (ap (λ t. t && stays kind.stamp fresh waiting (kind.stamp y)) is
+            ∙ ap (λ v. v && not (has_stamp kind.stamp (kind.stamp y) waiting)) (taken_there merges still_live l y below at is)
             ∙ ap not (none_waits h l y later at))
 
-    pub IsUpToDate-read : IsUpToDate stamp fresh waiting new.a.table a
+    pub IsUpToDate-read : IsUpToDate kind.stamp fresh waiting new.a.table a
     IsUpToDate-read l y below at = ⊎_elim (λ less. read_before l y less at) (λ later. read_now l y later below at) (cases_lt l (length m.a.table))
 
   -- items are read
   pub KeepsUp-read : {m new : Merging Item} {part fresh : Contents Item} {waiting : List Item} {a b : Contents Item} {n : ℕ}
-      → KeepsUp stamp before m part waiting a b → Merges stamp before new a b (put_of fresh) → HasRead n m new a b (put_of part) (put_of fresh)
-      → IsAllLive part → IsAllLive fresh → KeepsUp stamp before new fresh waiting a b
+      → KeepsUp kind m part waiting a b → Merges kind.stamp kind.before new a b (put_of fresh) → HasRead n m new a b (put_of part) (put_of fresh)
+      → IsAllLive part → IsAllLive fresh → KeepsUp kind new fresh waiting a b
   KeepsUp-read {m} {new} {part} {fresh} {waiting} {a} {b} h merges read live still_live = record {
     merges = merges;
     valid = h.valid;
@@ -261,21 +263,21 @@ module _ {Item : Type 0} {stamp : Item → ℕ} {before : Order → Item → Ite
 
   -- an item that waits is marked in the new part
   module _ {m : Merging Item} {part : Contents Item} (waiting : List Item) (x : Item) {a b : Contents Item}
-      (h : KeepsUp stamp before m part (waiting ++ x ∷ []) a b) where
-    IsUpToDate-marked : (table : List (Option ℕ)) (source : Contents Item) → IsUpToDate stamp part (waiting ++ x ∷ []) table source
-        → live_of (marked stamp (stamp x) part) ≡ without stamp (stamp x) (live_of part)
-        → IsUpToDate stamp (marked stamp (stamp x) part) waiting table source
+      (h : KeepsUp kind m part (waiting ++ x ∷ []) a b) where
+    IsUpToDate-marked : (table : List (Option ℕ)) (source : Contents Item) → IsUpToDate kind.stamp part (waiting ++ x ∷ []) table source
+        → live_of (marked kind.stamp (kind.stamp x) part) ≡ without kind.stamp (kind.stamp x) (live_of part)
+        → IsUpToDate kind.stamp (marked kind.stamp (kind.stamp x) part) waiting table source
     IsUpToDate-marked table source up live l y below at =
         up l y below at
         ∙ ap (λ v. Some (is_taken table l && v))
-        (ap (λ w. has_stamp stamp (stamp y) (live_of part) && not w)
-        (has_stamp-push stamp (stamp y) waiting x ∙ ap (λ e. has_stamp stamp (stamp y) waiting || e) (test_swap (stamp x) (stamp y)))
-        ∙ marked_bit (has_stamp stamp (stamp y) (live_of part)) (has_stamp stamp (stamp y) waiting) (stamp y == stamp x)
-        ∙ ap (λ v. v && not (has_stamp stamp (stamp y) waiting))
-        (sym (has_stamp-without stamp (stamp y) (stamp x) (live_of part)) ∙ sym (ap (has_stamp stamp (stamp y)) live)))
+        (ap (λ w. has_stamp kind.stamp (kind.stamp y) (live_of part) && not w)
+        (has_stamp-push kind.stamp (kind.stamp y) waiting x ∙ ap (λ e. has_stamp kind.stamp (kind.stamp y) waiting || e) (test_swap (kind.stamp x) (kind.stamp y)))
+        ∙ marked_bit (has_stamp kind.stamp (kind.stamp y) (live_of part)) (has_stamp kind.stamp (kind.stamp y) waiting) (kind.stamp y == kind.stamp x)
+        ∙ ap (λ v. v && not (has_stamp kind.stamp (kind.stamp y) waiting))
+        (sym (has_stamp-without kind.stamp (kind.stamp y) (kind.stamp x) (live_of part)) ∙ sym (ap (has_stamp kind.stamp (kind.stamp y)) live)))
 
-    pub KeepsUp-marked : live_of (marked stamp (stamp x) part) ≡ without stamp (stamp x) (live_of part)
-        → KeepsUp stamp before m (marked stamp (stamp x) part) waiting a b
+    pub KeepsUp-marked : live_of (marked kind.stamp (kind.stamp x) part) ≡ without kind.stamp (kind.stamp x) (live_of part)
+        → KeepsUp kind m (marked kind.stamp (kind.stamp x) part) waiting a b
     KeepsUp-marked live = record {
       merges = h.merges;
       valid = h.valid;
@@ -288,29 +290,29 @@ module _ {Item : Type 0} {stamp : Item → ℕ} {before : Order → Item → Ite
     }
 
     -- and is the only one with its stamp there
-    pub OwnsStamp-waiting : OwnsStamp stamp x part.items
+    pub OwnsStamp-waiting : OwnsStamp kind.stamp x part.items
     OwnsStamp-waiting = OwnsStamp-read h x (All-last (λ y. IsReadOf m.a.table a.items y ⊎ IsReadOf m.b.table b.items y) waiting x h.noted)
 
   -- the new part has at most as many items as there is room for
-  pub few_items : {m : Merging Item} {part : Contents Item} {waiting : List Item} {a b : Contents Item} {n : ℕ} → KeepsUp stamp before m part waiting a b
+  pub few_items : {m : Merging Item} {part : Contents Item} {waiting : List Item} {a b : Contents Item} {n : ℕ} → KeepsUp kind m part waiting a b
       → part.at_level ≡ n → length part.items ≤ 2 ^ n
   few_items {part = part} h level =
       subst (λ n. length part.items ≤ 2 ^ n) level
       (omega (arith, h.merges.taking.counted, taken_le h.merges, h.merges.sources.room, h.merges.taking.front.within, h.merges.taking.front.within_other))
 
   -- all is read, nothing waits, and the part is what it is
-  module _ (c : Construction Item) (a b : Contents Item) (order : IsStrictTotalOrder stamp (before First)) (h : Builds stamp before c a b)
+  module _ (c : Construction Item) (a b : Contents Item) (order : IsStrictTotalOrder kind.stamp (kind.before First)) (h : Builds kind c a b)
       (none : c.waiting ≡ []) (ended : c.merge.left ≡ 0) (flagged : length c.part.contents.flags ≡ length c.part.contents.items)
       (at_level : c.part.contents.at_level ≡ c.level) where
     -- whether an item lives in the new part
     abbrev lives : Item → Bool
-    lives x = has_stamp stamp (stamp x) (live_of c.part.contents)
+    lives x = has_stamp kind.stamp (kind.stamp x) (live_of c.part.contents)
 
-    stays_lives : (x : Item) → stays stamp c.part.contents c.waiting (stamp x) ≡ lives x
-    stays_lives x = ap (λ l. lives x && not (has_stamp stamp (stamp x) l)) none ∙ and_true (lives x)
+    stays_lives : (x : Item) → stays kind.stamp c.part.contents c.waiting (kind.stamp x) ≡ lives x
+    stays_lives x = ap (λ l. lives x && not (has_stamp kind.stamp (kind.stamp x) l)) none ∙ and_true (lives x)
 
     live_of-source : (table : List (Option ℕ)) (source : Contents Item) → length table ≡ length source.items
-        → IsUpToDate stamp c.part.contents c.waiting table source
+        → IsUpToDate kind.stamp c.part.contents c.waiting table source
         → live_of source ≡ filter lives (items_where_true (map is_some table) source.items)
     live_of-source table source full up =
         filter-taken lives table source.flags source.items full
@@ -325,9 +327,9 @@ module _ {Item : Type 0} {stamp : Item → ℕ} {before : Order → Item → Ite
         h.merges.taking.put.same_items)
 
     -- each item has its stamp alone, so that its flag says whether it lives
-    owned : All (λ x. OwnsStamp stamp x c.part.contents.items) c.part.contents.items
+    owned : All (λ x. OwnsStamp kind.stamp x c.part.contents.items) c.part.contents.items
     owned =
-        let Owned : Item → Type 0 = λ x. OwnsStamp stamp x c.part.contents.items in
+        let Owned : Item → Type 0 = λ x. OwnsStamp kind.stamp x c.part.contents.items in
         let of_a : All Owned a.items = λ k d within. OwnsStamp-source h k (get_or a.items k d) (slice_get-get_or a.items k d within) in
         let of_b : All Owned b.items = λ k d within. OwnsStamp-source (KeepsUp-swap h) k (get_or b.items k d) (slice_get-get_or b.items k d within) in
         All-permuted Owned (Permuted-sym same_items)
@@ -338,11 +340,11 @@ module _ {Item : Type 0} {stamp : Item → ℕ} {before : Order → Item → Ite
         let items = c.part.contents.items in
         let flags = c.part.contents.flags in
         let within : k < length items = slice_get_within items k x at in
-        let owns : OwnsStamp stamp x items =
-        subst (λ y. OwnsStamp stamp y items) (get_or_from_slice_get items k x x at) (owned k x within) in
+        let owns : OwnsStamp kind.stamp x items =
+        subst (λ y. OwnsStamp kind.stamp y items) (get_or_from_slice_get items k x x at) (owned k x within) in
         let only = StandsOnlyAt-rising order items k x h.merges.taking.put.rising owns at in
         let here : slice_get flags k ≡ Some (get_or flags k false) = slice_get-get_or flags k false (omega (arith, flagged)) in
-        here ∙ sym (ap Some (has_stamp_at stamp (stamp x) items flags k (get_or flags k false) here only))
+        here ∙ sym (ap Some (has_stamp_at kind.stamp (kind.stamp x) items flags k (get_or flags k false) here only))
 
     pub IsPublished-ended : IsPublished c a b c.part.contents
     IsPublished-ended = record {
@@ -366,11 +368,11 @@ module _ {Item : Type 0} {stamp : Item → ℕ} {before : Order → Item → Ite
 
   -- what contracts see of a construction, and as its fields are
   module _ {c seen : Construction Item} (is : c ≡ seen) {a b : Contents Item} where
-    pub Builds-of : Builds stamp before seen a b → Builds stamp before c a b
-    Builds-of h = subst (λ v. Builds stamp before v a b) (sym is) h
+    pub Builds-of : Builds kind seen a b → Builds kind c a b
+    Builds-of h = subst (λ v. Builds kind v a b) (sym is) h
 
-    pub Builds-seen : Builds stamp before c a b → Builds stamp before seen a b
-    Builds-seen h = subst (λ v. Builds stamp before v a b) is h
+    pub Builds-seen : Builds kind c a b → Builds kind seen a b
+    Builds-seen h = subst (λ v. Builds kind v a b) is h
 
 pub IsPublished-seen : {Item : Type 0} {c seen : Construction Item} {a b part fresh : Contents Item} → c ≡ seen → fresh ≡ part → IsPublished c a b part
     → IsPublished seen a b fresh

@@ -4,7 +4,7 @@ use Rattle.std.specs.List.{items_where_true}
 use Rattle.std.specs.Option.{is_some}
 use Rattle.query_laws.specs.Orders.{AllStampsDiffer}
 use Rattle.query_laws.specs.Permuted.{Permuted}
-use Rattle.query_laws.specs.declared.item.Order.{Order}
+use Rattle.builder_trait.specs.Builders.{PartKind}
 use Rattle.builder_trait.specs.Parts.{Contents, IsPart, has_stamp, live_of}
 use Rattle.ordered_merge.specs.Merging.{Merging, Merges, unbegun}
 use Rattle.partial_build.specs.NewPart.{Growth, put_of, IsAllLive}
@@ -30,13 +30,13 @@ module _ {Item : Type 0} where
   half_of c = 2 ^ (c.level - 1)
 
   -- the turns that are left: those of the merge, and those of the builder, or the most that it may have where it isn't sealed
-  abbrev pub turns_left : ℕ → ℕ → Construction Item → ℕ
-  turns_left slope base c =
-      c.merge.left + (if c.part.is_sealed then c.part.left else 2 ^ (c.level - 1) * (slope * c.level + base))
+  abbrev pub turns_left : PartKind Item → Construction Item → ℕ
+  turns_left kind c =
+      c.merge.left + (if c.part.is_sealed then c.part.left else 2 ^ (c.level - 1) * (kind.slope * c.level + kind.base))
 
   -- Right after a tick, and before an item is noted: what is left can be done in the ticks to come.
-  pub record IsOnTime (slope base : ℕ) (c : Construction Item) : Type 0 where
-    pub in_time : turns_left slope base c ≤ (half_of c - c.ticks) * quota slope base c.level
+  pub record IsOnTime (kind : PartKind Item) (c : Construction Item) : Type 0 where
+    pub in_time : turns_left kind c ≤ (half_of c - c.ticks) * quota kind.slope kind.base c.level
     pub few_waiting : length c.waiting ≤ c.ticks
     pub few_to_come : length c.waiting ≤ 2 ^ c.level - c.ticks
 
@@ -55,20 +55,19 @@ module _ {Item : Type 0} where
   IsReadOf table xs x = (k : ℕ) × (k < length table) × (slice_get xs k ≡ Some x)
 
   -- what was read of a and b is in the new part or waits, as a and b are now
-  pub record KeepsUp (stamp : Item → ℕ) (before : Order → Item → Item → Bool) (m : Merging Item) (part : Contents Item) (waiting : List Item)
-      (a b : Contents Item) : Type 0 where
-    pub merges : Merges stamp before m a b (put_of part)
-    pub valid : IsPart before a
-    pub other_valid : IsPart before b
-    pub apart : AllStampsDiffer stamp a.items
-    pub other_apart : AllStampsDiffer stamp b.items
-    pub up_to_date : IsUpToDate stamp part waiting m.a.table a
-    pub other_up_to_date : IsUpToDate stamp part waiting m.b.table b
+  pub record KeepsUp (kind : PartKind Item) (m : Merging Item) (part : Contents Item) (waiting : List Item) (a b : Contents Item) : Type 0 where
+    pub merges : Merges kind.stamp kind.before m a b (put_of part)
+    pub valid : IsPart kind.before a
+    pub other_valid : IsPart kind.before b
+    pub apart : AllStampsDiffer kind.stamp a.items
+    pub other_apart : AllStampsDiffer kind.stamp b.items
+    pub up_to_date : IsUpToDate kind.stamp part waiting m.a.table a
+    pub other_up_to_date : IsUpToDate kind.stamp part waiting m.b.table b
     pub noted : All (λ x. IsReadOf m.a.table a.items x ⊎ IsReadOf m.b.table b.items x) waiting
 
   -- the construction of the new part of a and b, as these are now
-  abbrev pub Builds : (Item → ℕ) → (Order → Item → Item → Bool) → Construction Item → Contents Item → Contents Item → Type 0
-  Builds stamp before c a b = KeepsUp stamp before c.merge c.part.contents c.waiting a b
+  abbrev pub Builds : PartKind Item → Construction Item → Contents Item → Contents Item → Type 0
+  Builds kind c a b = KeepsUp kind c.merge c.part.contents c.waiting a b
 
   -- the items of a source that were dead when they were read
   abbrev pub skipped_of : List (Option ℕ) → List Item → List Item
@@ -82,7 +81,7 @@ module _ {Item : Type 0} where
     pub level : fresh.at_level ≡ c.level
 
 -- Between any two calls: what is left can be done in time, where one more item may wait than right after a tick.
-pub record IsUnderConstruction {Item : Type 0} (slope base room : ℕ) (c : Construction Item) : Type 0 where
+pub record IsUnderConstruction {Item : Type 0} (kind : PartKind Item) (room : ℕ) (c : Construction Item) : Type 0 where
   pub least : 1 ≤ c.level
   pub most : c.level < 32
   pub ticks_few : c.ticks ≤ 2 ^ c.level
@@ -95,7 +94,7 @@ pub record IsUnderConstruction {Item : Type 0} (slope base room : ℕ) (c : Cons
   pub unsealed : 0 < c.merge.left → (c.part.is_sealed ≡ false) × (c.part.is_built ≡ false)
   pub to_turn : c.part.is_built ≡ false → c.part.is_sealed ≡ true → 0 < c.part.left
   pub built : c.part.is_built ≡ true → c.part.left ≡ 0
-  pub in_time : turns_left slope base c ≤ (2 ^ (c.level - 1) - c.ticks) * quota slope base c.level
+  pub in_time : turns_left kind c ≤ (2 ^ (c.level - 1) - c.ticks) * quota kind.slope kind.base c.level
   pub few_waiting : length c.waiting ≤ c.ticks + 1
   pub few_to_come : length c.waiting ≤ 2 ^ c.level - c.ticks + 1
 

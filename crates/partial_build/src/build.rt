@@ -8,6 +8,7 @@ ghost use Rattle.ordered_merge.specs.Merging.{unbegun, is_passed};
 ghost use Rattle.partial_build.specs.Quota.{quota};
 ghost use Rattle.partial_build.specs.Construction.{Builds, IsOnTime, IsPublished, turns_left};
 
+use crate::kinded::Kinded;
 use crate::new_part::NewPart;
 use crate::room::Tables;
 use builder_trait::{Builder, Part};
@@ -42,7 +43,8 @@ impl<B: Builder> Model for Build<B> {
 
     ghost view = { λ c. record { level = c.level; ticks = c.ticks; merge = c.merge; part = c.part; waiting = c.waiting.items } };
 
-    ghost invariant = { λ c. IsUnderConstruction B.SLOPE B.BASE (vec_capacity c.waiting)
+    ghost invariant = { λ c. IsUnderConstruction (record { stamp = B.Item.stamp; before = B.Item.before; slope = B.SLOPE; base = B.BASE })
+        (vec_capacity c.waiting)
         (record { level = c.level; ticks = c.ticks; merge = c.merge; part = c.part; waiting = c.waiting.items }) };
 }
 
@@ -64,7 +66,7 @@ impl<B: Builder> Build<B> {
           waiting = [];
         } }
         ensures empty { result.part.contents ≡ all_live (B.progress builder) }
-        ensures on_time { IsOnTime B.SLOPE B.BASE result }
+        ensures on_time { IsOnTime ⟦<B as Kinded>⟧.kind result }
     {
         let mut part = NewPart::new(builder);
         if merge.done() {
@@ -83,10 +85,10 @@ impl<B: Builder> Build<B> {
     /// that wait, or of all where fewer wait. Sixteen touches at most for each turn, and those of the kind for each mark.
     pub fn tick<L: Ledger>(&mut self, a: &B::Part, b: &B::Part, steps: &mut Steps<L>)
         requires early { self.old.ticks < 2 ^ self.old.level }
-        requires builds { Builds B.Item.stamp B.Item.before self.old (B.Part.Part.contents a.now) (B.Part.Part.contents b.now) }
-        ensures builds { Builds B.Item.stamp B.Item.before self.new (B.Part.Part.contents a.now) (B.Part.Part.contents b.now) }
+        requires builds { Builds ⟦<B as Kinded>⟧.kind self.old (B.Part.Part.contents a.now) (B.Part.Part.contents b.now) }
+        ensures builds { Builds ⟦<B as Kinded>⟧.kind self.new (B.Part.Part.contents a.now) (B.Part.Part.contents b.now) }
         ensures ticked { (self.new.level ≡ self.old.level) × (self.new.ticks ≡ self.old.ticks + 1) }
-        ensures on_time { IsOnTime B.SLOPE B.BASE self.new }
+        ensures on_time { IsOnTime ⟦<B as Kinded>⟧.kind self.new }
         ensures turns { steps.new.turns - steps.old.turns ≤ quota B.SLOPE B.BASE self.old.level }
         ensures all_turns { steps.new.turns - steps.old.turns < quota B.SLOPE B.BASE self.old.level → self.new.part.is_built ≡ true }
         ensures marks { steps.new.marks - steps.old.marks ≡ (if self.new.part.is_built then min MARKS (length self.old.waiting) else 0) }
@@ -112,11 +114,11 @@ impl<B: Builder> Build<B> {
     /// Reads so many items of the sources.
     fn read<L: Ledger>(&mut self, count: u64, a: &B::Part, b: &B::Part, steps: &mut Steps<L>)
         requires enough { count ≤ self.old.merge.left }
-        requires builds { Builds B.Item.stamp B.Item.before self.old (B.Part.Part.contents a.now) (B.Part.Part.contents b.now) }
-        ensures builds { Builds B.Item.stamp B.Item.before self.new (B.Part.Part.contents a.now) (B.Part.Part.contents b.now) }
+        requires builds { Builds ⟦<B as Kinded>⟧.kind self.old (B.Part.Part.contents a.now) (B.Part.Part.contents b.now) }
+        ensures builds { Builds ⟦<B as Kinded>⟧.kind self.new (B.Part.Part.contents a.now) (B.Part.Part.contents b.now) }
         ensures same { self.new ≡ record self.old { merge = self.new.merge; part = self.new.part } }
         ensures left { self.new.merge.left + count ≡ self.old.merge.left }
-        ensures fewer { turns_left B.SLOPE B.BASE self.new + count ≤ turns_left B.SLOPE B.BASE self.old }
+        ensures fewer { turns_left ⟦<B as Kinded>⟧.kind self.new + count ≤ turns_left ⟦<B as Kinded>⟧.kind self.old }
         ensures cost { Spends steps.old steps.new count 0 (16 * count) }
     {
         if count == 0 {
@@ -134,7 +136,7 @@ impl<B: Builder> Build<B> {
         ensures same { self.new ≡ record self.old { part = record self.new.part { contents = self.old.part.contents } } }
         ensures turns { steps.new.turns - steps.old.turns ≤ most }
         ensures all_turns { steps.new.turns - steps.old.turns < most → self.new.part.is_built ≡ true }
-        ensures left { turns_left B.SLOPE B.BASE self.new + (steps.new.turns - steps.old.turns) ≡ turns_left B.SLOPE B.BASE self.old }
+        ensures left { turns_left ⟦<B as Kinded>⟧.kind self.new + (steps.new.turns - steps.old.turns) ≡ turns_left ⟦<B as Kinded>⟧.kind self.old }
         ensures cost { let turns = steps.new.turns - steps.old.turns in Spends steps.old steps.new turns 0 (16 * turns) }
     {
         if self.merge.done() && !self.part.is_built() {
@@ -145,8 +147,8 @@ impl<B: Builder> Build<B> {
 
     /// Marks so many of the items that wait in the new part, where that is built, or all where fewer wait.
     fn drain<L: Ledger>(&mut self, most: u64, steps: &mut Steps<L>)
-        requires some { (a : Contents B.Item) × (b : Contents B.Item) × Builds B.Item.stamp B.Item.before self.old a b }
-        ensures builds { (a b : Contents B.Item) → Builds B.Item.stamp B.Item.before self.old a b → Builds B.Item.stamp B.Item.before self.new a b }
+        requires some { (a : Contents B.Item) × (b : Contents B.Item) × Builds ⟦<B as Kinded>⟧.kind self.old a b }
+        ensures builds { (a b : Contents B.Item) → Builds ⟦<B as Kinded>⟧.kind self.old a b → Builds ⟦<B as Kinded>⟧.kind self.new a b }
         ensures same { self.new ≡ record self.old {
           part = record self.old.part { contents = self.new.part.contents };
           waiting = self.new.waiting;
@@ -167,8 +169,8 @@ impl<B: Builder> Build<B> {
     /// Marks an item that waits in the new part, which is built.
     fn mark_next<L: Ledger>(&mut self, steps: &mut Steps<L>)
         requires built { self.old.part.is_built ≡ true }
-        requires some { (a : Contents B.Item) × (b : Contents B.Item) × Builds B.Item.stamp B.Item.before self.old a b }
-        ensures builds { (a b : Contents B.Item) → Builds B.Item.stamp B.Item.before self.old a b → Builds B.Item.stamp B.Item.before self.new a b }
+        requires some { (a : Contents B.Item) × (b : Contents B.Item) × Builds ⟦<B as Kinded>⟧.kind self.old a b }
+        ensures builds { (a b : Contents B.Item) → Builds ⟦<B as Kinded>⟧.kind self.old a b → Builds ⟦<B as Kinded>⟧.kind self.new a b }
         ensures same { self.new ≡ record self.old {
           part = record self.old.part { contents = self.new.part.contents };
           waiting = self.new.waiting;
@@ -186,18 +188,18 @@ impl<B: Builder> Build<B> {
     /// Takes note of an item that has just died in a source: where it was read, it waits. It counts nothing.
     pub fn note(&mut self, item: &B::Item)
         requires early { self.old.ticks < 2 ^ self.old.level }
-        requires on_time { IsOnTime B.SLOPE B.BASE self.old }
+        requires on_time { IsOnTime ⟦<B as Kinded>⟧.kind self.old }
         ensures noted { self.new ≡ record self.old {
           waiting = if is_passed (B.Item.before First) self.old.merge.reached item.now then self.old.waiting ++ item.now ∷ [] else self.old.waiting;
         } }
 
         // Whichever the sources are: with the one in which it stood live and is marked now.
-        ensures of_a { (a b : Contents B.Item) (k : ℕ) → Builds B.Item.stamp B.Item.before self.old a b
+        ensures of_a { (a b : Contents B.Item) (k : ℕ) → Builds ⟦<B as Kinded>⟧.kind self.old a b
             → slice_get a.items k ≡ Some item.now → slice_get a.flags k ≡ Some true
-            → Builds B.Item.stamp B.Item.before self.new (marked B.Item.stamp (B.Item.stamp item.now) a) b }
-        ensures of_b { (a b : Contents B.Item) (k : ℕ) → Builds B.Item.stamp B.Item.before self.old a b
+            → Builds ⟦<B as Kinded>⟧.kind self.new (marked B.Item.stamp (B.Item.stamp item.now) a) b }
+        ensures of_b { (a b : Contents B.Item) (k : ℕ) → Builds ⟦<B as Kinded>⟧.kind self.old a b
             → slice_get b.items k ≡ Some item.now → slice_get b.flags k ≡ Some true
-            → Builds B.Item.stamp B.Item.before self.new a (marked B.Item.stamp (B.Item.stamp item.now) b) }
+            → Builds ⟦<B as Kinded>⟧.kind self.new a (marked B.Item.stamp (B.Item.stamp item.now) b) }
     {
         if !self.merge.passed(item) {
             return;
@@ -213,7 +215,7 @@ impl<B: Builder> Build<B> {
         ensures part { B.Part.Part.contents result.0 ≡ self.part.contents }
 
         // Whichever the sources are.
-        ensures published { (a b : Contents B.Item) → Builds B.Item.stamp B.Item.before self a b
+        ensures published { (a b : Contents B.Item) → Builds ⟦<B as Kinded>⟧.kind self a b
             → IsPublished self a b (B.Part.Part.contents result.0) }
         ensures live { live_of (B.Part.Part.contents result.0) ≡ live_of self.part.contents }
         ensures tables { result.1 ≡ self.level }
@@ -251,7 +253,7 @@ impl<B: Builder> Build<B> {
 
     /// How many turns are left, where the builder isn't sealed yet at most.
     pub fn turns_left(&self) -> u64
-        ensures { result ≡ turns_left B.SLOPE B.BASE self.now }
+        ensures { result ≡ turns_left ⟦<B as Kinded>⟧.kind self.now }
     {
         if self.merge.done() {
             return self.part.left();

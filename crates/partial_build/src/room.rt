@@ -6,6 +6,7 @@ ghost use Rattle.ordered_merge.specs.Merging.{StampsDiffer};
 ghost use Rattle.partial_build.specs.Construction.{Builds, IsOnTime};
 
 use crate::build::Build;
+use crate::kinded::Kinded;
 use builder_trait::{Builder, Part};
 use ordered_merge::Merge;
 use query_laws::{Item, NoMemory};
@@ -129,10 +130,10 @@ impl<B: Builder> Room<B> {
         requires apart { AllStampsDiffer B.Item.stamp (B.Part.Part.contents a.now).items }
         requires other_apart { AllStampsDiffer B.Item.stamp (B.Part.Part.contents b.now).items }
         requires differ { StampsDiffer B.Item.stamp (B.Part.Part.contents a.now).items (B.Part.Part.contents b.now).items }
-        ensures builds { Builds B.Item.stamp B.Item.before result (B.Part.Part.contents a.now) (B.Part.Part.contents b.now) }
+        ensures builds { Builds ⟦<B as Kinded>⟧.kind result (B.Part.Part.contents a.now) (B.Part.Part.contents b.now) }
         ensures level { result.level ≡ self }
         ensures none { (result.ticks ≡ 0) × (result.waiting ≡ []) }
-        ensures on_time { IsOnTime B.SLOPE B.BASE result }
+        ensures on_time { IsOnTime ⟦<B as Kinded>⟧.kind result }
     {
         let Room { builder, tables } = self;
         let Tables {

@@ -114,7 +114,7 @@ impl<I: Seeded> PlainLayer<I> {
     {
         let drawn = generator.draw() as usize;
         let (word, class) = (words[drawn % words.len()], CLASSES[drawn / 8 % 4]);
-        let question = drawn_question(word, class, Spread::Dense, generator);
+        let question = drawn_question(word, class, drawn / 32 % 32, Spread::Dense, generator);
         write!(said.text, "{word} {}", self.name)?;
         write_question(&question, &mut said.text)?;
         let numbers = I::scan(*self.items.allocator(), &question, &self.items)?;

@@ -5,17 +5,19 @@ use map_shapes::{CountIn, Found, ListIn, Rect, SumIn};
 use std::alloc::{AllocError, Global};
 use workload_gen::Generator;
 
-/// A question by the word of its command, and by a class: thousandths of the side that it reaches over, points that it wants, or hits, as
-/// `Spread` has them.
+/// A question by the word of its command, by a class, thousandths of the side that it reaches over, points that it wants, or hits, and by
+/// its number among those of its class, as `Spread` has them.
 pub fn drawn_question(
     word: &str,
     class: u32,
+    number: usize,
     spread: Spread,
     generator: &mut Generator,
 ) -> AnyQuestion {
     let (x, y) = spread.place(generator);
-    let rect = spread.square(generator, class);
-    let over = spread.stabbed(generator, class);
+    let rect = spread.square(generator, class, number);
+    let Rect { x1, x2, .. } = rect;
+    let over = spread.stabbed(generator, class, number);
     match word {
         "count" => AnyQuestion::CountIn(CountIn(rect)),
         "sum" => AnyQuestion::SumIn(SumIn(rect)),
@@ -26,14 +28,11 @@ pub fn drawn_question(
             AnyQuestion::NearK(NearK { k, x, y })
         }
         "above" => {
-            let Rect { x1, x2, .. } = spread.square(generator, 60);
+            let Rect { x1, x2, .. } = spread.square(generator, 60, number);
             let y = spread.height(x2, class);
             AnyQuestion::Above(Above { x1, x2, y })
         }
-        "top" => {
-            let Rect { x1, x2, .. } = rect;
-            AnyQuestion::Top(Top { x1, x2 })
-        }
+        "top" => AnyQuestion::Top(Top { x1, x2 }),
         "stab" => AnyQuestion::Stab(Stab { x: over }),
         _ => AnyQuestion::StabCount(StabCount { x: over }),
     }

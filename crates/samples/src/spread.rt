@@ -57,13 +57,16 @@ impl Spread {
     }
 
     /// A square whose lower corner is a place where an item may lie, with so many thousandths of the side. Where items lie densely its
-    /// extent is drawn.
-    pub fn square(self, generator: &mut Generator, thousandths: u32) -> Rect {
-        let extent = match self {
-            Spread::Dense => generator.below(FEW),
-            _ => (SIDE / 1_000).saturating_mul(thousandths).min(SIDE),
+    /// extent is drawn; but the first square has all of them, the second none, and the third is one wide.
+    pub fn square(self, generator: &mut Generator, thousandths: u32, number: usize) -> Rect {
+        let (x, y) = self.place(generator);
+        let (x1, y1, extent) = match (self, number) {
+            (Spread::Dense, 0) => (0, 0, FEW),
+            (Spread::Dense, 1) => (FEW, FEW, y),
+            (Spread::Dense, 2) => (x, y, 0),
+            (Spread::Dense, _) => (x, y, generator.below(FEW)),
+            _ => (x, y, (SIDE / 1_000).saturating_mul(thousandths).min(SIDE)),
         };
-        let (x1, y1) = self.place(generator);
         let (x2, y2) = (x1 + extent, y1 + extent);
         Rect { x1, y1, x2, y2 }
     }
@@ -93,12 +96,13 @@ impl Spread {
         top.saturating_sub(each * hits.min(SIDE))
     }
 
-    /// A place under some `hits` segments of 65,536, which are few or 1,000, beside those that span the square.
-    pub fn stabbed(self, generator: &mut Generator, hits: u32) -> u32
+    /// A place under some `hits` segments of 65,536, which are few or 1,000, beside those that span the square. Where items lie densely
+    /// these are the places from 0 to 16, one after the other.
+    pub fn stabbed(self, generator: &mut Generator, hits: u32, number: usize) -> u32
         ensures { result < 2 ^ 31 }
     {
         match self {
-            Spread::Dense => generator.below(2 * FEW),
+            Spread::Dense => (number % 17) as u32,
             Spread::Column => (LENGTH - 1).saturating_sub(hits / 33),
             _ if hits < 1_000 => generator.below(LAST),
             _ => SIDE - 1 - generator.below(SIDE - LAST - 16 * LENGTH),

@@ -1,12 +1,13 @@
 -- The lists of a level.
-use Rattle.std.proofs.Common.{◌≡◌, ℕ, ◌+◌, ◌<◌, ◌≤◌, Option, Some, None, List, [], ◌∷◌, ◌++◌, ◌∙◌, length, take, drop, remove, option_to_list, All, arith, refl, ap, sym, subst}
+use Rattle.std.proofs.Common.{◌≡◌, ℕ, ◌+◌, ◌<◌, ◌≤◌, Option, Some, None, List, [], ◌∷◌, ◌++◌, ◌∙◌, length, map, take, drop, remove, option_to_list, All, arith, refl, ap, sym, subst}
 use Rattle.std.specs.Option.{is_some}
-use Rattle.std.proofs.lemmas.List.{length-append, length_push, drop-drop, take_at}
+use Rattle.std.proofs.lemmas.List.{length-append, length-map, length_push, drop-drop, take_at}
 use Rattle.std.proofs.lemmas.List.Elements.{All-pop, All-push, All-tail}
 use Rattle.builder_trait.specs.Parts.{Contents}
 use Rattle.builder_trait.specs.Builders.{Progress, begun}
 use Rattle.partial_build.specs.Construction.{Construction}
-use Rattle.stack_levels.specs.Slots.{one_if}
+use Rattle.stack_levels.specs.Slots.{Slots, one_if, held_in}
+use Rattle.stack_levels.specs.Levels.{lowest_held, one_more}
 use Rattle.stack_levels.specs.Level.{AreHeld, IsLevel, IsOfLevel}
 
 pub counted : {X : Type 0} {o : Option X} {x : X} → o ≡ Some x → one_if (is_some o) ≡ 1
@@ -81,3 +82,30 @@ written n old new same as_long = take_at new (drop (length new) old) n (as_long 
 -- one element fewer at the front
 pub drop_more : {A : Type 0} (n : ℕ) (xs : List A) → drop 1 (drop n xs) ≡ drop (n + 1) xs
 drop_more n xs = drop-drop 1 n xs
+
+-- levels that hold as much each
+module _ {P Item : Type 0} where
+  pub as_many-held : (old new : List (Slots P Item)) → map held_in new ≡ map held_in old → length new ≡ length old
+  as_many-held old new same = sym (length-map new held_in) ∙ ap length same ∙ length-map old held_in
+
+  pub lowest-held : (old new : List (Slots P Item)) → map held_in new ≡ map held_in old → lowest_held new ≡ lowest_held old
+  lowest-held [] [] same = refl
+  lowest-held [] (l' ∷ new) same = absurd cc
+  lowest-held (l ∷ old) [] same = absurd cc
+  lowest-held (l ∷ old) (l' ∷ new) same = cc
+
+  -- and one more on the lowest
+  pub as_many-more : (old new : List (Slots P Item)) → map held_in new ≡ one_more (map held_in old) → length new ≡ length old
+  as_many-more [] new more = sym (length-map new held_in) ∙ ap length more
+  as_many-more (l ∷ old) new more =
+      let n : length (map held_in old) ≡ length old = length-map old held_in in omega (arith, length-map new held_in, ap length more, n)
+
+  pub lowest-more : (old new : List (Slots P Item)) → 0 < length old → map held_in new ≡ one_more (map held_in old)
+      → lowest_held new ≡ lowest_held old + 1
+  lowest-more [] new some more = absurd (omega (arith, some))
+  lowest-more (l ∷ old) [] some more = absurd cc
+  lowest-more (l ∷ old) (l' ∷ new) some more = cc
+
+  pub above-more : (old new : List (Slots P Item)) → map held_in new ≡ one_more (map held_in old) → drop 1 (map held_in new) ≡ drop 1 (map held_in old)
+  above-more [] new more = ap (drop 1) more
+  above-more (l ∷ old) new more = ap (drop 1) more

@@ -9,7 +9,7 @@ use Rattle.std.proofs.lemmas.Option.{get_or_from_slice_get, slice_get-get_or, sl
 use Rattle.query_laws.specs.Permuted.{nothing, same_head, composed}
 use Rattle.query_laws.proofs.Permutations.{Permuted-middle, Permuted-refl}
 use Rattle.query_laws.specs.Orders.{AllStampsDiffer}
-use Rattle.query_laws.specs.declared.item.Order.{Order}
+use Rattle.builder_trait.specs.Builders.{PartKind}
 use Rattle.builder_trait.specs.Parts.{Contents, OwnsStamp, has_stamp, without, live_of}
 use Rattle.ordered_merge.proofs.Fronts.{All-permuted}
 use Rattle.partial_build.proofs.Stamps.{same_place}
@@ -74,20 +74,20 @@ module _ {P Item : Type 0} where
   held-noted l l' rest same runs =
       let held : held_in l' ≡ held_in l = omega (arith, ap held_in same, ap one_if runs) in ap (λ n. n ∷ map held_in rest) held
 
-  module _ (contents : P → Contents Item) (stamp : Item → ℕ) where
-    pub tower-over : (before : Order → Item → Item → Bool) (l : Slots P Item) (above above' : List (Slots P Item)) → IsTower contents stamp before l above
-        → AreLevels contents stamp before above' → IsSameBelow above above' → IsTower contents stamp before l above'
-    tower-over before l [] above' tower levels same = subst (IsTower contents stamp before l) (sym same) tower
-    tower-over before l (next ∷ rest) above' tower levels same =
-        subst (IsTower contents stamp before l) (sym same.2) (
-          below-same contents stamp before l next same.0 tower.0 (ap (λ v. v.level) same.3) (ap (λ v. v.construction) same.3),
-          subst (AreLevels contents stamp before) same.2 levels,
+  module _ (contents : P → Contents Item) (kind : PartKind Item) where
+    pub tower-over : (l : Slots P Item) (above above' : List (Slots P Item)) → IsTower contents kind l above
+        → AreLevels contents kind above' → IsSameBelow above above' → IsTower contents kind l above'
+    tower-over l [] above' tower levels same = subst (IsTower contents kind l) (sym same) tower
+    tower-over l (next ∷ rest) above' tower levels same =
+        subst (IsTower contents kind l) (sym same.2) (
+          below-same contents kind l next same.0 tower.0 (ap (λ v. v.level) same.3) (ap (λ v. v.construction) same.3),
+          subst (AreLevels contents kind) same.2 levels,
         )
 
-    pub levels_from_tower : (before : Order → Item → Item → Bool) (l : Slots P Item) (above : List (Slots P Item)) → IsTower contents stamp before l above
-        → AreLevels contents stamp before above
-    levels_from_tower before l [] tower = tt
-    levels_from_tower before l (next ∷ above) tower = tower.1
+    pub levels_from_tower : (l : Slots P Item) (above : List (Slots P Item)) → IsTower contents kind l above
+        → AreLevels contents kind above
+    levels_from_tower l [] tower = tt
+    levels_from_tower l (next ∷ above) tower = tower.1
 
 -- what a test of two numbers says
 test_same : (a : ℕ) → (a == a) ≡ true
@@ -183,20 +183,20 @@ module _ {Item : Type 0} where
         without-one stamp (live_items contents levels) x
         (AllStampsDiffer-part stamp (live_items contents levels) (all_items contents levels) (live_levels levels) apart) live.0 live.1 live.2
 
-    module _ (stamp : Item → ℕ) (before : Order → Item → Item → Bool) where
-      pub levels-from_all : (levels : List (Slots P Item)) → AreAllLevels contents stamp before levels → AreLevels contents stamp before levels
+    module _ (kind : PartKind Item) where
+      pub levels-from_all : (levels : List (Slots P Item)) → AreAllLevels contents kind levels → AreLevels contents kind levels
       levels-from_all [] h = tt
       levels-from_all (l ∷ above) h = h.2
 
-      pub halfway-marked : (levels levels' : List (Slots P Item)) → AreAllLevels contents stamp before levels → 0 < length levels → IsSameBelow levels levels'
-          → AreLevels contents stamp before levels' → HaveRoomsAbove IsDue levels' → AreHalfway contents stamp before levels'
+      pub halfway-marked : (levels levels' : List (Slots P Item)) → AreAllLevels contents kind levels → 0 < length levels → IsSameBelow levels levels'
+          → AreLevels contents kind levels' → HaveRoomsAbove IsDue levels' → AreHalfway contents kind levels'
       halfway-marked [] levels' h some same tower rooms = absurd (omega (arith, some))
       halfway-marked (l ∷ above) levels' h some same tower rooms =
           let l' = same.0 in
-          subst (AreHalfway contents stamp before) (sym same.2) (
+          subst (AreHalfway contents kind) (sym same.2) (
             ap (λ v. v.level) same.3 ∙ h.0,
             ap (λ v. v.construction) same.3 ∙ h.1,
-            halfway-from_tower contents stamp before l' l' same.1 (subst (AreLevels contents stamp before) same.2 tower) (subst (HaveRoomsAbove IsDue) same.2 rooms)
+            halfway-from_tower contents kind l' l' same.1 (subst (AreLevels contents kind) same.2 tower) (subst (HaveRoomsAbove IsDue) same.2 rooms)
                 (stays refl (omega arith)) refl,
           )
 

@@ -11,9 +11,9 @@ use Rattle.query_laws.specs.StepLedger.{Counts, Spends}
 use Rattle.query_laws.proofs.Counting.{Spends-then, Spends-within}
 use Rattle.builder_trait.specs.Parts.{Contents, OwnsStamp, has_stamp, without, marked, live_of}
 use Rattle.builder_trait.proofs.Marking.{fallen, items-fallen, has_stamp_none, marked-same}
-use Rattle.stack_levels.specs.Slots.{asked_in}
+use Rattle.stack_levels.specs.Slots.{Slots, asked_in}
 use Rattle.stack_levels.specs.Level.{IsOfLevel}
-use Rattle.stack_levels.specs.Marking.{IsLiveIn, Lacks, AreMarkedAt, nowhere, here, later}
+use Rattle.stack_levels.specs.Marking.{IsLiveIn, Lacks, AreMarkedAt, nowhere, here, later, IsMarked}
 use Rattle.stack_levels.proofs.Distinct.{none_same}
 
 module _ {A : Type 0} (Q : A → Type 0) where
@@ -116,6 +116,11 @@ module _ {P Item : Type 0} (contents : P → Contents Item) (stamp : Item → �
   length-marked nowhere = refl
   length-marked (here p p' ps live same lacks) = refl
   length-marked (later place p p' ps ps' lacks same rest) = ap (λ n. suc n) (length-marked rest)
+
+  -- the level whose parts these are
+  pub IsMarked-of : {place : Option ℕ} {l l' : Slots P Item} → l' ≡ record l { parts = l'.parts } → AreMarkedAt contents stamp x place l.parts l'.parts
+      → IsMarked contents stamp (stamp x) l l'
+  IsMarked-of same h = record { same = same; live = live-marked h; items = items-marked h; as_many = length-marked h }
 
   -- a part in which it isn't live is as it was
   pub unmarked : (p p' : P) → contents p' ≡ marked stamp (stamp x) (contents p) → length (contents p).flags ≡ length (contents p).items

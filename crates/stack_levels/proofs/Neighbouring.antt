@@ -1,9 +1,9 @@
 -- Neighbouring levels through a tick.
-use Rattle.std.proofs.Common.{◌≡◌, ℕ, suc, ◌+◌, ◌*◌, ◌^◌, ◌<◌, ◌≤◌, ◌⊎◌, ◌∙◌, Bool, Option, [], ◌∷◌, ◌++◌, Some, None, false, length, drop, inl, inr, refl, ap, ap₂, sym, subst, arith}
+use Rattle.std.proofs.Common.{◌≡◌, ℕ, suc, ◌+◌, ◌*◌, ◌^◌, ◌<◌, ◌≤◌, ◌⊎◌, ◌∙◌, Option, [], ◌∷◌, ◌++◌, Some, None, false, length, drop, inl, inr, refl, ap, ap₂, sym, subst, arith}
 use Rattle.std.specs.Option.{option_map_or, is_some}
 use Rattle.std.proofs.lemmas.Nat.{pow_pos}
 use Rattle.query_laws.proofs.Permutations.{Permuted-refl}
-use Rattle.query_laws.specs.declared.item.Order.{Order}
+use Rattle.builder_trait.specs.Builders.{PartKind}
 use Rattle.builder_trait.specs.Parts.{Contents}
 use Rattle.partial_build.specs.Construction.{Builds}
 use Rattle.stack_levels.specs.Slots.{Slots, ticks_of, weight_in, live_in, items_in}
@@ -18,19 +18,19 @@ pub not_some : {A : Type 0} (o : Option A) → is_some o ≡ false → o ≡ Non
 not_some None none = refl
 not_some (Some x) none = absurd cc
 
-module _ {P Item : Type 0} (contents : P → Contents Item) (stamp : Item → ℕ) (before : Order → Item → Item → Bool) where
+module _ {P Item : Type 0} (contents : P → Contents Item) (kind : PartKind Item) where
   pub fed_by : (lower mid : Slots P Item) {a b : P} → lower.parts ≡ a ∷ b ∷ drop 2 lower.parts
-      → IsConstructionOf contents stamp before a b mid → IsFed contents stamp before lower mid
+      → IsConstructionOf contents kind a b mid → IsFed contents kind lower mid
   fed_by lower mid {a} {b} are h x y rest others c is =
       let same : a ∷ b ∷ drop 2 lower.parts ≡ x ∷ y ∷ rest = sym are ∙ others in
       let first : a ≡ x = cc in
       let second : b ≡ y = cc in
-      let built : P → P → Type 0 = λ p q. Builds stamp before c (contents p) (contents q) in
+      let built : P → P → Type 0 = λ p q. Builds kind c (contents p) (contents q) in
       subst (λ p. built p y) first (subst (λ p. built a p) second (h c is))
 
   -- where the level below has fewer than two parts, nothing is done
-  pub visited-idle : {lower old : Slots P Item} → IsBelow contents stamp before 0 lower old → length lower.parts < 2
-      → IsVisited contents stamp before old lower old lower
+  pub visited-idle : {lower old : Slots P Item} → IsBelow contents kind 0 lower old → length lower.parts < 2
+      → IsVisited contents kind old lower old lower
   visited-idle {lower} {old} h few = record {
     below = record {
       next_level = h.next_level;
@@ -47,11 +47,11 @@ module _ {P Item : Type 0} (contents : P → Contents Item) (stamp : Item → �
     rooms = inr refl;
   }
 
-  module _ {old lower mid : Slots P Item} (h : IsBelow contents stamp before 0 lower old) (two : 2 ≤ length lower.parts)
+  module _ {old lower mid : Slots P Item} (h : IsBelow contents kind 0 lower old) (two : 2 ≤ length lower.parts)
       (same : mid.parts ≡ old.parts) (level : mid.level ≡ old.level) (ticked : ticks_of mid ≡ ticks_of old + 1)
       (rooms : (old.construction ≡ None) ⊎ (mid.has_room ≡ old.has_room)) where
     -- a construction took its tick, and isn't at its end
-    pub visited-ticked : IsFed contents stamp before lower mid → ticks_of mid < 2 ^ mid.level → IsVisited contents stamp before old lower mid lower
+    pub visited-ticked : IsFed contents kind lower mid → ticks_of mid < 2 ^ mid.level → IsVisited contents kind old lower mid lower
     visited-ticked fed early = record {
       below = record {
         next_level = level ∙ h.next_level;
@@ -70,7 +70,7 @@ module _ {P Item : Type 0} (contents : P → Contents Item) (stamp : Item → �
 
     -- it was at its end, and its part was published
     pub visited-published : (new lower' : Slots P Item) → 2 ^ old.level ≡ ticks_of mid → IsPublication contents mid lower new lower' → new.level ≡ old.level
-        → lower'.level ≡ lower.level → new.has_room ≡ mid.has_room → IsVisited contents stamp before old lower new lower'
+        → lower'.level ≡ lower.level → new.has_room ≡ mid.has_room → IsVisited contents kind old lower new lower'
     visited-published new lower' ended p same_level same_below same_room = record {
       below = record {
         next_level = same_level ∙ h.next_level ∙ ap (λ k. k + 1) (sym same_below);

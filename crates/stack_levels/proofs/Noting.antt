@@ -1,7 +1,7 @@
 -- Two neighbouring levels, where an item of the lower one is marked as dead.
-use Rattle.std.proofs.Common.{◌≡◌, ℕ, ◌+◌, ◌≤◌, ◌∙◌, Bool, Option, Some, None, List, [], ◌∷◌, length, refl, sym, ap, subst, arith}
+use Rattle.std.proofs.Common.{◌≡◌, ℕ, ◌+◌, ◌≤◌, ◌∙◌, Option, Some, None, List, [], ◌∷◌, length, refl, sym, ap, subst, arith}
 use Rattle.std.specs.Option.{option_map, is_some}
-use Rattle.query_laws.specs.declared.item.Order.{Order}
+use Rattle.builder_trait.specs.Builders.{PartKind}
 use Rattle.builder_trait.specs.Parts.{Contents, marked}
 use Rattle.partial_build.specs.Construction.{Builds}
 use Rattle.stack_levels.specs.Slots.{Slots, ticks_of}
@@ -12,35 +12,35 @@ use Rattle.stack_levels.proofs.Marks.{unmarked, length-marked}
 use Rattle.stack_levels.proofs.Neighbouring.{not_some}
 use Rattle.stack_levels.proofs.Towers.{below-kept}
 
-module _ {P Item : Type 0} (contents : P → Contents Item) (stamp : Item → ℕ) (before : Order → Item → Item → Bool) (x : Item) where
+module _ {P Item : Type 0} (contents : P → Contents Item) (kind : PartKind Item) (x : Item) where
   -- what a note of the item does to the construction into a level, where the item was live at a place of the level below
   pub record Noted (place : Option ℕ) (next next' : Slots P Item) : Type 0 where
-    pub stays : ((k : ℕ) → place ≡ Some k → 2 ≤ k) → (a b : P) → IsConstructionOf contents stamp before a b next
-        → IsConstructionOf contents stamp before a b next'
-    pub of_a : place ≡ Some 0 → (a b a' : P) → IsLiveIn (contents a) x → contents a' ≡ marked stamp (stamp x) (contents a)
-        → IsConstructionOf contents stamp before a b next → IsConstructionOf contents stamp before a' b next'
-    pub of_b : place ≡ Some 1 → (a b b' : P) → IsLiveIn (contents b) x → contents b' ≡ marked stamp (stamp x) (contents b)
-        → IsConstructionOf contents stamp before a b next → IsConstructionOf contents stamp before a b' next'
+    pub stays : ((k : ℕ) → place ≡ Some k → 2 ≤ k) → (a b : P) → IsConstructionOf contents kind a b next
+        → IsConstructionOf contents kind a b next'
+    pub of_a : place ≡ Some 0 → (a b a' : P) → IsLiveIn (contents a) x → contents a' ≡ marked kind.stamp (kind.stamp x) (contents a)
+        → IsConstructionOf contents kind a b next → IsConstructionOf contents kind a' b next'
+    pub of_b : place ≡ Some 1 → (a b b' : P) → IsLiveIn (contents b) x → contents b' ≡ marked kind.stamp (kind.stamp x) (contents b)
+        → IsConstructionOf contents kind a b next → IsConstructionOf contents kind a b' next'
 
   -- a part in which the item isn't live is as it was
-  keeps_a : (a b a' : P) (l : Slots P Item) → contents a' ≡ marked stamp (stamp x) (contents a) → Lacks stamp (stamp x) (contents a)
-      → IsConstructionOf contents stamp before a b l → IsConstructionOf contents stamp before a' b l
+  keeps_a : (a b a' : P) (l : Slots P Item) → contents a' ≡ marked kind.stamp (kind.stamp x) (contents a) → Lacks kind.stamp (kind.stamp x) (contents a)
+      → IsConstructionOf contents kind a b l → IsConstructionOf contents kind a' b l
   keeps_a a b a' l same lacks built c is =
       let h = built c is in
-      subst (λ p. Builds stamp before c p (contents b)) (sym (unmarked contents stamp x a a' same h.valid.flagged lacks)) h
+      subst (λ p. Builds kind c p (contents b)) (sym (unmarked contents kind.stamp x a a' same h.valid.flagged lacks)) h
 
-  keeps_b : (a b b' : P) (l : Slots P Item) → contents b' ≡ marked stamp (stamp x) (contents b) → Lacks stamp (stamp x) (contents b)
-      → IsConstructionOf contents stamp before a b l → IsConstructionOf contents stamp before a b' l
+  keeps_b : (a b b' : P) (l : Slots P Item) → contents b' ≡ marked kind.stamp (kind.stamp x) (contents b) → Lacks kind.stamp (kind.stamp x) (contents b)
+      → IsConstructionOf contents kind a b l → IsConstructionOf contents kind a b' l
   keeps_b a b b' l same lacks built c is =
       let h = built c is in
-      subst (λ p. Builds stamp before c (contents a) p) (sym (unmarked contents stamp x b b' same h.other_valid.flagged lacks)) h
+      subst (λ p. Builds kind c (contents a) p) (sym (unmarked contents kind.stamp x b b' same h.other_valid.flagged lacks)) h
 
   far : (place : Option ℕ) (k : ℕ) → option_map (λ m. m + 1) (option_map (λ m. m + 1) place) ≡ Some k → 2 ≤ k
   far None k is = absurd cc
   far (Some m) k is = let e : m + 1 + 1 ≡ k = cc in omega (arith, e)
 
-  pub fed-marked : (place : Option ℕ) (parts parts' : List P) (l l' next next' : Slots P Item) → AreMarkedAt contents stamp x place parts parts'
-      → l.parts ≡ parts → l'.parts ≡ parts' → Noted place next next' → IsFed contents stamp before l next → IsFed contents stamp before l' next'
+  pub fed-marked : (place : Option ℕ) (parts parts' : List P) (l l' next next' : Slots P Item) → AreMarkedAt contents kind.stamp x place parts parts'
+      → l.parts ≡ parts → l'.parts ≡ parts' → Noted place next next' → IsFed contents kind l next → IsFed contents kind l' next'
   fed-marked place parts parts' l l' next next' nowhere was now h fed a b rest are = let wrong : [] ≡ a ∷ b ∷ rest = sym now ∙ are in absurd cc
   fed-marked place parts parts' l l' next next' (here p p' ps live same lacks) was now h fed a b rest are =
       let whole : p' ∷ ps ≡ a ∷ b ∷ rest = sym now ∙ are in
@@ -64,26 +64,26 @@ module _ {P Item : Type 0} (contents : P → Contents Item) (stamp : Item → �
 
   -- the level above has the same parts and ticks
   tower-upper : (l l' : Slots P Item) (above : List (Slots P Item)) → l'.level ≡ l.level → l'.parts ≡ l.parts → ticks_of l' ≡ ticks_of l
-      → IsTower contents stamp before l above → IsTower contents stamp before l' above
+      → IsTower contents kind l above → IsTower contents kind l' above
   tower-upper l l' [] level parts ticks tower = omega (arith, tower, ap length parts)
   tower-upper l l' (next ∷ above) level parts ticks tower = (
-    below-kept contents stamp before l l' next next tower.0 level (ap length parts) (omega (arith, ticks)) refl (λ none. none) refl
+    below-kept contents kind l l' next next tower.0 level (ap length parts) (omega (arith, ticks)) refl (λ none. none) refl
         (λ a b rest are. tower.0.fed a b rest (sym parts ∙ are)),
     tower.1,
   )
 
   -- the levels above a level whose parts were marked
-  pub tower-marked : {place : Option ℕ} (l l' : Slots P Item) (above above' : List (Slots P Item)) → AreMarkedAt contents stamp x place l.parts l'.parts
+  pub tower-marked : {place : Option ℕ} (l l' : Slots P Item) (above above' : List (Slots P Item)) → AreMarkedAt contents kind.stamp x place l.parts l'.parts
       → l'.level ≡ l.level → ticks_of l' ≡ ticks_of l → AreNoted above above'
       → ((next next' : Slots P Item) (rest : List (Slots P Item)) → above ≡ next ∷ rest → above' ≡ next' ∷ rest → Noted place next next')
-      → IsTower contents stamp before l above → IsTower contents stamp before l' above'
+      → IsTower contents kind l above → IsTower contents kind l' above'
   tower-marked l l' [] above' parts level ticks noted how tower =
-      subst (IsTower contents stamp before l') (sym noted) (omega (arith, tower, length-marked contents stamp x parts))
+      subst (IsTower contents kind l') (sym noted) (omega (arith, tower, length-marked contents kind.stamp x parts))
   tower-marked {place} l l' (next ∷ rest) above' parts level ticks noted how tower =
       let next' = noted.0 in
       let same_level : next'.level ≡ next.level = ap (λ v. v.level) noted.2 in
-      subst (IsTower contents stamp before l') (sym noted.1) (
-        below-kept contents stamp before l l' next next' tower.0 level (length-marked contents stamp x parts) (omega (arith, ticks)) same_level
+      subst (IsTower contents kind l') (sym noted.1) (
+        below-kept contents kind l l' next next' tower.0 level (length-marked contents kind.stamp x parts) (omega (arith, ticks)) same_level
             (λ none. not_some next'.construction (noted.4 ∙ ap is_some none)) noted.3
             (fed-marked place l.parts l'.parts l l' next next' parts refl refl (how next next' rest refl noted.1) tower.0.fed),
         tower-upper next next' rest same_level (ap (λ v. v.parts) noted.2) noted.3 tower.1,

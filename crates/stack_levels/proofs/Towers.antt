@@ -1,12 +1,12 @@
 -- The levels above one, through a tick.
-use Rattle.std.proofs.Common.{◌≡◌, ℕ, ◌+◌, ◌-◌, ◌*◌, ◌^◌, ◌<◌, ◌≤◌, ◌⊎◌, ◌∙◌, Bool, List, [], ◌∷◌, ◌++◌, Some, None, length, ⊎_elim, refl, ap, ap₂, sym, subst, arith, append_assoc}
+use Rattle.std.proofs.Common.{◌≡◌, ℕ, ◌+◌, ◌-◌, ◌*◌, ◌^◌, ◌<◌, ◌≤◌, ◌⊎◌, ◌∙◌, List, [], ◌∷◌, ◌++◌, Some, None, length, ⊎_elim, refl, ap, ap₂, sym, subst, arith, append_assoc}
 use Rattle.std.specs.List.{flat_map}
 use Rattle.std.specs.Option.{option_map_or}
 use Rattle.std.proofs.lemmas.Bool.{cases_lt}
 use Rattle.std.proofs.lemmas.List.{flat_map_more, length-append}
 use Rattle.query_laws.specs.Permuted.{Permuted, composed}
 use Rattle.query_laws.proofs.Permutations.{Permuted-append_comm, Permuted-append_left, Permuted-append_right}
-use Rattle.query_laws.specs.declared.item.Order.{Order}
+use Rattle.builder_trait.specs.Builders.{PartKind}
 use Rattle.builder_trait.specs.Parts.{Contents}
 use Rattle.stack_levels.specs.Slots.{Slots, IsPartOf, ticks_of, weight_in, live_in, items_in}
 use Rattle.stack_levels.specs.Levels.{weight_of, live_items, all_items}
@@ -16,9 +16,9 @@ use Rattle.stack_levels.proofs.Distinct.{IsPartOf-refl, IsPartOf-append, IsPartO
 use Rattle.stack_levels.proofs.Publishing.{doubled}
 use Rattle.stack_levels.proofs.Neighbouring.{none_ticks}
 
-module _ {P Item : Type 0} (contents : P → Contents Item) (stamp : Item → ℕ) (before : Order → Item → Item → Bool) where
+module _ {P Item : Type 0} (contents : P → Contents Item) (kind : PartKind Item) where
   -- no part arrives at a full level
-  pub place : (l : Slots P Item) (above : List (Slots P Item)) → IsTower contents stamp before l above → ticks_of l + 1 ≡ 2 ^ l.level
+  pub place : (l : Slots P Item) (above : List (Slots P Item)) → IsTower contents kind l above → ticks_of l + 1 ≡ 2 ^ l.level
       → length l.parts < 3
   place l [] tower ending = omega (arith, tower)
   place l (next ∷ above) tower ending =
@@ -33,7 +33,7 @@ module _ {P Item : Type 0} (contents : P → Contents Item) (stamp : Item → �
 
   -- what the two oldest parts are, where another one arrived
   fed-pushed : (parts : List P) (fresh : P) (l l' next : Slots P Item) → l.parts ≡ parts → l'.parts ≡ parts ++ fresh ∷ []
-      → (length parts < 2 → next.construction ≡ None) → IsFed contents stamp before l next → IsFed contents stamp before l' next
+      → (length parts < 2 → next.construction ≡ None) → IsFed contents kind l next → IsFed contents kind l' next
   fed-pushed [] fresh l l' next same pushed idle fed a b rest are c is = let wrong : fresh ∷ [] ≡ a ∷ b ∷ rest = sym pushed ∙ are in absurd cc
   fed-pushed (x ∷ []) fresh l l' next same pushed idle fed a b rest are c is =
       let none : next.construction ≡ None = idle (omega arith) in let wrong : Some c ≡ None = sym is ∙ none in absurd cc
@@ -44,10 +44,10 @@ module _ {P Item : Type 0} (contents : P → Contents Item) (stamp : Item → �
       fed a b parts (same ∙ ap₂ (λ p q. p ∷ q ∷ parts) first second) c is
 
   -- the lower level has as many parts, and isn't further on; the upper one has the same ticks, and runs if it did
-  pub below-kept : {ahead ahead' : ℕ} (lower lower' l l' : Slots P Item) → IsBelow contents stamp before ahead lower l → lower'.level ≡ lower.level
+  pub below-kept : {ahead ahead' : ℕ} (lower lower' l l' : Slots P Item) → IsBelow contents kind ahead lower l → lower'.level ≡ lower.level
       → length lower'.parts ≡ length lower.parts → ticks_of lower' + ahead' ≤ ticks_of lower + ahead → l'.level ≡ l.level
-      → (l.construction ≡ None → l'.construction ≡ None) → ticks_of l' ≡ ticks_of l → IsFed contents stamp before lower' l'
-      → IsBelow contents stamp before ahead' lower' l'
+      → (l.construction ≡ None → l'.construction ≡ None) → ticks_of l' ≡ ticks_of l → IsFed contents kind lower' l'
+      → IsBelow contents kind ahead' lower' l'
   below-kept lower lower' l l' h under as_long later level idle ticks fed =
       let weight : (length lower'.parts - 2) * 2 ^ lower'.level ≡ (length lower.parts - 2) * 2 ^ lower.level = ap₂ (λ n k. (n - 2) * 2 ^ k) as_long under in
       record {
@@ -59,8 +59,8 @@ module _ {P Item : Type 0} (contents : P → Contents Item) (stamp : Item → �
         clock = λ two. omega (arith, weight, later, ticks, h.clock (omega (arith, two, as_long)));
       }
 
-  pub halfway-from_tower : (l l' : Slots P Item) (above : List (Slots P Item)) → IsTower contents stamp before l above → HaveRooms IsDue l above
-      → Advances l l' → l'.level ≡ l.level → IsHalfway contents stamp before l' above
+  pub halfway-from_tower : (l l' : Slots P Item) (above : List (Slots P Item)) → IsTower contents kind l above → HaveRooms IsDue l above
+      → Advances l l' → l'.level ≡ l.level → IsHalfway contents kind l' above
   halfway-from_tower l l' [] tower rooms (stays parts ticks) level = subst (λ ps. length ps < 2) (sym parts) tower
   halfway-from_tower l l' [] tower rooms (arrives fresh parts none ending) level =
       let longer : length l'.parts ≡ length l.parts + 1 = ap length parts ∙ length-append l.parts (fresh ∷ []) in
@@ -104,8 +104,8 @@ module _ {P Item : Type 0} (contents : P → Contents Item) (stamp : Item → �
       )
 
   -- the lower level's parts may change above, not the construction
-  pub below-same : {ahead : ℕ} (lower l l' : Slots P Item) → IsBelow contents stamp before ahead lower l → l'.level ≡ l.level
-      → l'.construction ≡ l.construction → IsBelow contents stamp before ahead lower l'
+  pub below-same : {ahead : ℕ} (lower l l' : Slots P Item) → IsBelow contents kind ahead lower l → l'.level ≡ l.level
+      → l'.construction ≡ l.construction → IsBelow contents kind ahead lower l'
   below-same lower l l' h level same =
       below-kept lower lower l l' h refl refl (omega arith) level (λ none. same ∙ none) (ap (λ o. option_map_or (λ c. c.ticks) o 0) same)
       (λ a b rest are c is. h.fed a b rest are c (sym same ∙ is))
@@ -148,8 +148,8 @@ regrouped-part xs ys zs ys' zs' p =
 weighed : (l l' o n r r' m : ℕ) → n + l' ≡ o + l → m + r' ≡ n + r → l' + (m + r') ≡ l + (o + r)
 weighed l l' o n r r' m first second = omega (arith, first, second)
 
-module _ {P Item : Type 0} (contents : P → Contents Item) (stamp : Item → ℕ) (before : Order → Item → Item → Bool)
-    {old lower new lower' : Slots P Item} (h : IsVisited contents stamp before old lower new lower') (above : List (Slots P Item)) where
+module _ {P Item : Type 0} (contents : P → Contents Item) (kind : PartKind Item)
+    {old lower new lower' : Slots P Item} (h : IsVisited contents kind old lower new lower') (above : List (Slots P Item)) where
   pub live-walked : (rest : List (Slots P Item)) → Permuted (live_items contents rest) (live_items contents (new ∷ above))
       → Permuted (live_items contents (lower' ∷ rest)) (live_items contents (lower ∷ old ∷ above))
   live-walked rest p =
@@ -190,8 +190,8 @@ arrived f parts {parts'} xs {old} p pushed same =
     subst (λ l. Permuted l (f p ++ old)) (flat_map_more f xs parts p ∙ ap (λ ps. xs ++ flat_map f ps) (sym pushed))
     (subst (λ l. Permuted ((xs ++ flat_map f parts) ++ f p) (f p ++ l)) same (Permuted-append_comm (xs ++ flat_map f parts) (f p)))
 
-module _ {P Item : Type 0} (contents : P → Contents Item) (stamp : Item → ℕ) (before : Order → Item → Item → Bool)
-    (lowest : Slots P Item) (above : List (Slots P Item)) (h : AreAllLevels contents stamp before (lowest ∷ above)) where
+module _ {P Item : Type 0} (contents : P → Contents Item) (kind : PartKind Item)
+    (lowest : Slots P Item) (above : List (Slots P Item)) (h : AreAllLevels contents kind (lowest ∷ above)) where
   pub at_once : 2 ^ lowest.level ≡ ticks_of lowest + 1
   at_once = omega (arith, ap (λ k. 2 ^ k) h.0, none_ticks lowest h.1)
 

@@ -3,6 +3,11 @@ use Rattle.std.specs.Prelude.{ℕ, ◌+◌, List, [], ◌∷◌, ◌++◌, if◌
 use Rattle.builder_trait.specs.Parts.{Contents, has_stamp}
 use Rattle.stack_levels.specs.Slots.{Slots, held_in, weight_in, live_in, items_in, asked_in}
 
+-- one more on the lowest of some levels
+abbrev pub one_more : List ℕ → List ℕ
+one_more [] = []
+one_more (n ∷ above) = (n + 1) ∷ above
+
 module _ {P Item : Type 0} where
   -- the parts in memory of the lowest level, and of all
   abbrev pub lowest_held : List (Slots P Item) → ℕ

@@ -1,8 +1,9 @@
 -- An item that is marked as dead, in parts and levels.
-use Rattle.std.specs.Prelude.{◌≡◌, ℕ, ◌+◌, Option, Some, None, List, [], ◌∷◌, true, false, All, slice_get}
+use Rattle.std.specs.Prelude.{◌≡◌, ℕ, ◌+◌, Option, Some, None, List, [], ◌∷◌, true, false, All, length, map, slice_get}
 use Rattle.std.specs.Option.{option_map, is_some}
-use Rattle.builder_trait.specs.Parts.{Contents, has_stamp, marked, live_of}
-use Rattle.stack_levels.specs.Slots.{Slots, ticks_of}
+use Rattle.builder_trait.specs.Parts.{Contents, has_stamp, without, marked, live_of}
+use Rattle.stack_levels.specs.Slots.{Slots, ticks_of, held_in, live_in, items_in}
+use Rattle.stack_levels.specs.Levels.{weight_of, live_items, all_items}
 
 module _ {Item : Type 0} where
   -- the item is live in a part
@@ -33,3 +34,18 @@ module _ {P Item : Type 0} where
   abbrev pub IsSameBelow : List (Slots P Item) → List (Slots P Item) → Type 0
   IsSameBelow [] new = new ≡ []
   IsSameBelow (l ∷ above) new = (l' : Slots P Item) × (above' : List (Slots P Item)) × (new ≡ l' ∷ above') × (l' ≡ record l { parts = l'.parts })
+
+  module _ (contents : P → Contents Item) (stamp : Item → ℕ) (dead : ℕ) where
+    -- the level is as it was, but that the item with a stamp isn't live
+    pub record IsMarked (old new : Slots P Item) : Type 0 where
+      pub same : new ≡ record old { parts = new.parts }
+      pub live : live_in contents new ≡ without stamp dead (live_in contents old)
+      pub items : items_in contents new ≡ items_in contents old
+      pub as_many : length new.parts ≡ length old.parts
+
+    -- the item with a stamp isn't live in any of the levels; they have the same items, and the weight and what each holds are as they were
+    pub record AreMarked (old new : List (Slots P Item)) : Type 0 where
+      pub live : live_items contents new ≡ without stamp dead (live_items contents old)
+      pub items : all_items contents new ≡ all_items contents old
+      pub weight : weight_of new ≡ weight_of old
+      pub held : map held_in new ≡ map held_in old

@@ -1,15 +1,15 @@
 -- Two neighbouring levels, and what runs between them (Overmars and van Leeuwen 1981).
-use Rattle.std.specs.Prelude.{◌≡◌, ℕ, ◌+◌, ◌-◌, ◌*◌, ◌^◌, ◌<◌, ◌≤◌, ◌⊎◌, Bool, List, [], ◌∷◌, ◌++◌, Some, None, length}
+use Rattle.std.specs.Prelude.{◌≡◌, ℕ, ◌+◌, ◌-◌, ◌*◌, ◌^◌, ◌<◌, ◌≤◌, ◌⊎◌, List, [], ◌∷◌, ◌++◌, Some, None, length}
 use Rattle.query_laws.specs.Permuted.{Permuted}
-use Rattle.query_laws.specs.declared.item.Order.{Order}
+use Rattle.builder_trait.specs.Builders.{PartKind}
 use Rattle.builder_trait.specs.Parts.{Contents, live_of}
 use Rattle.partial_build.specs.Construction.{Construction, Builds, IsOnTime}
 use Rattle.stack_levels.specs.Slots.{Slots, IsPartOf, ticks_of, weight_in, live_in, items_in}
 
 module _ {P Item : Type 0} where
   -- the level takes its next tick in time
-  abbrev pub IsPunctual : ℕ → ℕ → Slots P Item → Type 0
-  IsPunctual slope base l = (c : Construction Item) → l.construction ≡ Some c → IsOnTime slope base c
+  abbrev pub IsPunctual : PartKind Item → Slots P Item → Type 0
+  IsPunctual kind l = (c : Construction Item) → l.construction ≡ Some c → IsOnTime kind c
 
   -- a level is as it was, but that at most one part arrived, and was the part under construction
   pub data Advances (old new : Slots P Item) : Type 0 where
@@ -28,10 +28,10 @@ module _ {P Item : Type 0} where
       pub live : Permuted (live_of (contents fresh)) (live_of (contents first) ++ live_of (contents second))
       pub items : IsPartOf (contents fresh).items ((contents first).items ++ (contents second).items)
 
-    module _ (stamp : Item → ℕ) (before : Order → Item → Item → Bool) where
+    module _ (kind : PartKind Item) where
       -- what is under construction into a level is made of a and b, as these are now
       abbrev pub IsConstructionOf : P → P → Slots P Item → Type 0
-      IsConstructionOf a b l = (c : Construction Item) → l.construction ≡ Some c → Builds stamp before c (contents a) (contents b)
+      IsConstructionOf a b l = (c : Construction Item) → l.construction ≡ Some c → Builds kind c (contents a) (contents b)
 
       -- it is made of the two oldest parts of the level below
       abbrev pub IsFed : Slots P Item → Slots P Item → Type 0

@@ -1,9 +1,11 @@
 -- The clocks of levels one above the other, and the rooms that they hold.
-use Rattle.std.specs.Prelude.{◌≡◌, ℕ, ◌+◌, ◌^◌, ◌<◌, ◌≤◌, Bool, true, List, [], ◌∷◌, None, length}
-use Rattle.query_laws.specs.declared.item.Order.{Order}
+use Rattle.std.specs.Prelude.{◌≡◌, ℕ, ◌+◌, ◌^◌, ◌<◌, ◌≤◌, true, List, [], ◌∷◌, All, None, length, map}
+use Rattle.query_laws.specs.Permuted.{Permuted}
+use Rattle.builder_trait.specs.Builders.{PartKind}
 use Rattle.builder_trait.specs.Parts.{Contents}
-use Rattle.stack_levels.specs.Slots.{Slots, ticks_of}
-use Rattle.stack_levels.specs.Neighbours.{IsBelow}
+use Rattle.stack_levels.specs.Slots.{Slots, IsPartOf, ticks_of, held_in}
+use Rattle.stack_levels.specs.Levels.{weight_of, live_items, all_items}
+use Rattle.stack_levels.specs.Neighbours.{IsBelow, IsPunctual}
 
 module _ {P Item : Type 0} where
   -- a part may arrive at the level within one tick, and would be its second
@@ -39,16 +41,16 @@ module _ {P Item : Type 0} where
   HaveRoomsNext [] = Unit {0}
   HaveRoomsNext (lowest ∷ above) = HaveRoomsAhead lowest above
 
-  module _ (contents : P → Contents Item) (stamp : Item → ℕ) (before : Order → Item → Item → Bool) where
+  module _ (contents : P → Contents Item) (kind : PartKind Item) where
     -- the levels between two ticks: above the last one there is no construction
     abbrev pub IsTower : Slots P Item → List (Slots P Item) → Type 0
     IsTower lower [] = length lower.parts < 2
-    IsTower lower (next ∷ above) = IsBelow contents stamp before 1 lower next × IsTower next above
+    IsTower lower (next ∷ above) = IsBelow contents kind 1 lower next × IsTower next above
 
     -- the levels within a tick that the lowest of these has taken, and the others haven't
     abbrev pub IsHalfway : Slots P Item → List (Slots P Item) → Type 0
     IsHalfway lower [] = length lower.parts < 2
-    IsHalfway lower (next ∷ above) = IsBelow contents stamp before 0 lower next × (2 ≤ length lower.parts → next.construction ≡ None → next.has_room ≡ true)
+    IsHalfway lower (next ∷ above) = IsBelow contents kind 0 lower next × (2 ≤ length lower.parts → next.construction ≡ None → next.has_room ≡ true)
         × IsTower next above
 
     -- levels between two ticks, from any one up
@@ -65,3 +67,16 @@ module _ {P Item : Type 0} where
     abbrev pub AreHalfway : List (Slots P Item) → Type 0
     AreHalfway [] = ⊥
     AreHalfway (lowest ∷ above) = (lowest.level ≡ 0) × (lowest.construction ≡ None) × IsHalfway lowest above
+
+    -- the levels of a stack, each of which takes its next tick in time
+    pub record AreOnTime (all : List (Slots P Item)) : Type 0 where
+      pub levels : AreAllLevels all
+      pub punctual : All (IsPunctual kind) all
+
+module _ {P Item : Type 0} (contents : P → Contents Item) where
+  -- what a tick leaves of levels: the same items live, no item is new, and the weight and what each level holds in memory are as they were
+  pub record AreTicked (old new : List (Slots P Item)) : Type 0 where
+    pub live : Permuted (live_items contents new) (live_items contents old)
+    pub items : IsPartOf (all_items contents new) (all_items contents old)
+    pub weight : weight_of new ≡ weight_of old
+    pub held : map held_in new ≡ map held_in old

@@ -17,7 +17,7 @@ mod rooms;
 mod visiting;
 
 use builder_trait::{Builder, Part};
-use partial_build::{Build, Room, Tables};
+use partial_build::{Build, Kinded, Room, Tables};
 use query_laws::step_ledger::Steps;
 use query_laws::{Item, NoMemory};
 use std::alloc::Global;
@@ -145,8 +145,8 @@ impl<B: Builder> Level<B> {
         requires other_fits { length (B.Part.Part.contents b.now).items ≤ 2 ^ (self.old.level - 1) }
         requires apart { AllStampsDiffer B.Item.stamp ((B.Part.Part.contents a.now).items ++ (B.Part.Part.contents b.now).items) }
         requires roomy { self.old.construction ≡ None → self.old.has_room ≡ true }
-        requires fed { IsConstructionOf B.Part.Part.contents B.Item.stamp B.Item.before a.now b.now self.old }
-        ensures fed { IsConstructionOf B.Part.Part.contents B.Item.stamp B.Item.before a.now b.now self.new }
+        requires fed { IsConstructionOf B.Part.Part.contents ⟦<B as Kinded>⟧.kind a.now b.now self.old }
+        ensures fed { IsConstructionOf B.Part.Part.contents ⟦<B as Kinded>⟧.kind a.now b.now self.new }
         ensures runs { is_some self.new.construction ≡ true }
         ensures same { self.new ≡ record self.old { construction = self.new.construction; has_room = self.new.has_room } }
         ensures ticks { ticks_of self.new ≡ ticks_of self.old }
@@ -175,12 +175,12 @@ impl<B: Builder> Level<B> {
     pub fn tick<L: Ledger>(&mut self, a: &B::Part, b: &B::Part, steps: &mut Steps<L>)
         requires runs { is_some self.old.construction ≡ true }
         requires early { ticks_of self.old < 2 ^ self.old.level }
-        requires fed { IsConstructionOf B.Part.Part.contents B.Item.stamp B.Item.before a.now b.now self.old }
-        ensures fed { IsConstructionOf B.Part.Part.contents B.Item.stamp B.Item.before a.now b.now self.new }
+        requires fed { IsConstructionOf B.Part.Part.contents ⟦<B as Kinded>⟧.kind a.now b.now self.old }
+        ensures fed { IsConstructionOf B.Part.Part.contents ⟦<B as Kinded>⟧.kind a.now b.now self.new }
         ensures runs { is_some self.new.construction ≡ true }
         ensures same { self.new ≡ record self.old { construction = self.new.construction } }
         ensures ticked { ticks_of self.new ≡ ticks_of self.old + 1 }
-        ensures punctual { IsPunctual B.SLOPE B.BASE self.new }
+        ensures punctual { IsPunctual ⟦<B as Kinded>⟧.kind self.new }
         ensures cost { IsWithin (quota B.SLOPE B.BASE self.old.level) 2 (B.Part.Part.mark_touches self.old.level) steps.old steps.new }
     {
         match &mut self.construction {
@@ -195,8 +195,8 @@ impl<B: Builder> Level<B> {
         requires two { 2 ≤ length lower.old.parts }
         requires within { ticks_of self.old ≤ 2 ^ self.old.level }
         requires place { ticks_of self.old ≡ 2 ^ self.old.level → length self.old.parts < 3 }
-        requires punctual { IsPunctual B.SLOPE B.BASE self.old }
-        requires fed { IsFed B.Part.Part.contents B.Item.stamp B.Item.before lower.old self.old }
+        requires punctual { IsPunctual ⟦<B as Kinded>⟧.kind self.old }
+        requires fed { IsFed B.Part.Part.contents ⟦<B as Kinded>⟧.kind lower.old self.old }
         ensures waits { ticks_of self.old < 2 ^ self.old.level → (self.new ≡ self.old) × (lower.new ≡ lower.old) }
         ensures ends { ticks_of self.old ≡ 2 ^ self.old.level → IsPublication B.Part.Part.contents self.old lower.old self.new lower.new }
         ensures same { self.new ≡ record self.old { parts = self.new.parts; construction = self.new.construction } }
@@ -266,7 +266,7 @@ impl<B: Builder> Level<B> {
     /// Takes note of an item that has just died in a part of the level below, where a construction is made of that part.
     pub fn note(&mut self, item: &B::Item)
         requires early { ticks_of self.old < 2 ^ self.old.level }
-        requires punctual { IsPunctual B.SLOPE B.BASE self.old }
+        requires punctual { IsPunctual ⟦<B as Kinded>⟧.kind self.old }
         ensures same { self.new ≡ record self.old { construction = self.new.construction } }
         ensures ticks { ticks_of self.new ≡ ticks_of self.old }
         ensures runs { is_some self.new.construction ≡ is_some self.old.construction }
@@ -274,12 +274,12 @@ impl<B: Builder> Level<B> {
         // Whichever the parts are: with the one in which it stood live and is marked now.
         ensures of_a { (a b a' : B.Part) → IsLiveIn (B.Part.Part.contents a) item.now
             → B.Part.Part.contents a' ≡ marked B.Item.stamp (B.Item.stamp item.now) (B.Part.Part.contents a)
-            → IsConstructionOf B.Part.Part.contents B.Item.stamp B.Item.before a b self.old
-            → IsConstructionOf B.Part.Part.contents B.Item.stamp B.Item.before a' b self.new }
+            → IsConstructionOf B.Part.Part.contents ⟦<B as Kinded>⟧.kind a b self.old
+            → IsConstructionOf B.Part.Part.contents ⟦<B as Kinded>⟧.kind a' b self.new }
         ensures of_b { (a b b' : B.Part) → IsLiveIn (B.Part.Part.contents b) item.now
             → B.Part.Part.contents b' ≡ marked B.Item.stamp (B.Item.stamp item.now) (B.Part.Part.contents b)
-            → IsConstructionOf B.Part.Part.contents B.Item.stamp B.Item.before a b self.old
-            → IsConstructionOf B.Part.Part.contents B.Item.stamp B.Item.before a b' self.new }
+            → IsConstructionOf B.Part.Part.contents ⟦<B as Kinded>⟧.kind a b self.old
+            → IsConstructionOf B.Part.Part.contents ⟦<B as Kinded>⟧.kind a b' self.new }
     {
         let Some(construction) = &mut self.construction else {
             return;

@@ -1,19 +1,20 @@
 //! The item of a delete: it is marked as dead, and a construction that reads its part takes note.
-ghost use Rattle.std.specs.Prelude.{◌≡◌, ℕ, ◌+◌, ◌*◌, ◌^◌, ◌<◌, ◌≤◌, false, List, ◌∷◌, All, Contains, length, map, drop};
+ghost use Rattle.std.specs.Prelude.{◌≡◌, ℕ, ◌+◌, ◌*◌, ◌^◌, ◌<◌, ◌≤◌, false, List, ◌∷◌, All, Contains, map};
 ghost use Rattle.query_laws.specs.Orders.{AllStampsDiffer};
 ghost use Rattle.query_laws.specs.Permuted.{Permuted};
 ghost use Rattle.query_laws.specs.StepLedger.{Spends};
 ghost use Rattle.builder_trait.specs.Parts.{OwnsStamp, has_stamp, without, marked};
 ghost use Rattle.stack_levels.specs.Slots.{Slots, IsPartOf, ticks_of, held_in, live_in, items_in, asked_in};
-ghost use Rattle.stack_levels.specs.Levels.{lowest_held, weight_of, live_items, all_items, asked};
+ghost use Rattle.stack_levels.specs.Levels.{weight_of, live_items, all_items, asked};
 ghost use Rattle.stack_levels.specs.Neighbours.{IsConstructionOf, IsPunctual};
-ghost use Rattle.stack_levels.specs.Towers.{IsDue, IsDueSoon, IsTower, HaveRoomsAbove, AreLevels, AreAllLevels};
+ghost use Rattle.stack_levels.specs.Towers.{IsDue, IsDueSoon, IsTower, HaveRoomsAbove, AreLevels, AreOnTime};
 ghost use Rattle.stack_levels.specs.Cost.{IsWithin, quotas};
-ghost use Rattle.stack_levels.specs.Marking.{IsLiveIn, AreNoted, IsSameBelow};
+ghost use Rattle.stack_levels.specs.Marking.{IsLiveIn, AreNoted, IsMarked, IsSameBelow, AreMarked};
 
 use crate::level::Level;
 use crate::visiting::take_tick;
 use builder_trait::{Builder, Part};
+use partial_build::Kinded;
 use query_laws::Item;
 use query_laws::step_ledger::Steps;
 use std::sync::ledger::Ledger;
@@ -21,19 +22,19 @@ use std::sync::ledger::Ledger;
 /// Has an item noted that has just died in a part of the level below, where a construction is made of that part.
 fn note_above<B: Builder>(above: &mut [Level<B>], place: usize, item: &B::Item)
     requires early { (l : Slots B.Part B.Item) (rest : List (Slots B.Part B.Item)) → above.old ≡ l ∷ rest
-        → (ticks_of l < 2 ^ l.level) × IsPunctual B.SLOPE B.BASE l }
+        → (ticks_of l < 2 ^ l.level) × IsPunctual ⟦<B as Kinded>⟧.kind l }
     ensures noted { AreNoted above.old above.new }
     ensures third { 2 ≤ place → above.new ≡ above.old }
     ensures of_a { place < 2 → (l l' : Slots B.Part B.Item) (rest : List (Slots B.Part B.Item)) → above.old ≡ l ∷ rest → above.new ≡ l' ∷ rest
         → (a b a' : B.Part) → IsLiveIn (B.Part.Part.contents a) item.now
         → B.Part.Part.contents a' ≡ marked B.Item.stamp (B.Item.stamp item.now) (B.Part.Part.contents a)
-        → IsConstructionOf B.Part.Part.contents B.Item.stamp B.Item.before a b l
-        → IsConstructionOf B.Part.Part.contents B.Item.stamp B.Item.before a' b l' }
+        → IsConstructionOf B.Part.Part.contents ⟦<B as Kinded>⟧.kind a b l
+        → IsConstructionOf B.Part.Part.contents ⟦<B as Kinded>⟧.kind a' b l' }
     ensures of_b { place < 2 → (l l' : Slots B.Part B.Item) (rest : List (Slots B.Part B.Item)) → above.old ≡ l ∷ rest → above.new ≡ l' ∷ rest
         → (a b b' : B.Part) → IsLiveIn (B.Part.Part.contents b) item.now
         → B.Part.Part.contents b' ≡ marked B.Item.stamp (B.Item.stamp item.now) (B.Part.Part.contents b)
-        → IsConstructionOf B.Part.Part.contents B.Item.stamp B.Item.before a b l
-        → IsConstructionOf B.Part.Part.contents B.Item.stamp B.Item.before a b' l' }
+        → IsConstructionOf B.Part.Part.contents ⟦<B as Kinded>⟧.kind a b l
+        → IsConstructionOf B.Part.Part.contents ⟦<B as Kinded>⟧.kind a b' l' }
 {
     if place >= 2 {
         return;
@@ -51,19 +52,15 @@ fn mark_and_note<B: Builder, L: Ledger>(
     item: &B::Item,
     steps: &mut Steps<L>,
 ) -> bool
-    requires tower { IsTower B.Part.Part.contents B.Item.stamp B.Item.before level.old above.old }
-    requires punctual { All (IsPunctual B.SLOPE B.BASE) above.old }
+    requires tower { IsTower B.Part.Part.contents ⟦<B as Kinded>⟧.kind level.old above.old }
+    requires punctual { All (IsPunctual ⟦<B as Kinded>⟧.kind) above.old }
     requires apart { AllStampsDiffer B.Item.stamp (items_in B.Part.Part.contents level.old) }
     requires owner { OwnsStamp B.Item.stamp item.now (items_in B.Part.Part.contents level.old) }
-    ensures tower { IsTower B.Part.Part.contents B.Item.stamp B.Item.before level.new above.new }
+    ensures tower { IsTower B.Part.Part.contents ⟦<B as Kinded>⟧.kind level.new above.new }
     ensures found { result ≡ has_stamp B.Item.stamp (B.Item.stamp item.now) (live_in B.Part.Part.contents level.old) }
     ensures noted { AreNoted above.old above.new }
     ensures unfound { result ≡ false → above.new ≡ above.old }
-    ensures same { level.new ≡ record level.old { parts = level.new.parts } }
-    ensures live { live_in B.Part.Part.contents level.new
-        ≡ without B.Item.stamp (B.Item.stamp item.now) (live_in B.Part.Part.contents level.old) }
-    ensures items { items_in B.Part.Part.contents level.new ≡ items_in B.Part.Part.contents level.old }
-    ensures as_many { length level.new.parts ≡ length level.old.parts }
+    ensures marked { IsMarked B.Part.Part.contents B.Item.stamp (B.Item.stamp item.now) level.old level.new }
     ensures cost { (h : ℕ) → level.old.level ≤ h
         → let marks = asked_in B.Part.Part.contents B.Item.stamp (B.Item.stamp item.now) level.old.parts in
         Spends steps.old steps.new 0 marks (marks * B.Part.Part.mark_touches h) }
@@ -84,23 +81,17 @@ fn mark_in<B: Builder, L: Ledger>(
     item: &B::Item,
     steps: &mut Steps<L>,
 ) -> bool
-    requires levels { AreLevels B.Part.Part.contents B.Item.stamp B.Item.before levels.old }
-    requires punctual { All (IsPunctual B.SLOPE B.BASE) levels.old }
+    requires levels { AreLevels B.Part.Part.contents ⟦<B as Kinded>⟧.kind levels.old }
+    requires punctual { All (IsPunctual ⟦<B as Kinded>⟧.kind) levels.old }
     requires apart { AllStampsDiffer B.Item.stamp (all_items B.Part.Part.contents levels.old) }
     requires owner { OwnsStamp B.Item.stamp item.now (all_items B.Part.Part.contents levels.old) }
-    ensures levels { AreLevels B.Part.Part.contents B.Item.stamp B.Item.before levels.new }
+    ensures levels { AreLevels B.Part.Part.contents ⟦<B as Kinded>⟧.kind levels.new }
     ensures found { result ≡ has_stamp B.Item.stamp (B.Item.stamp item.now) (live_items B.Part.Part.contents levels.old) }
-    ensures unfound { result ≡ false → All (IsPunctual B.SLOPE B.BASE) levels.new }
+    ensures unfound { result ≡ false → All (IsPunctual ⟦<B as Kinded>⟧.kind) levels.new }
     ensures same { IsSameBelow levels.old levels.new }
     ensures rooms { HaveRoomsAbove IsDue levels.old → HaveRoomsAbove IsDue levels.new }
     ensures rooms_ahead { HaveRoomsAbove IsDueSoon levels.old → HaveRoomsAbove IsDueSoon levels.new }
-    ensures live { live_items B.Part.Part.contents levels.new
-        ≡ without B.Item.stamp (B.Item.stamp item.now) (live_items B.Part.Part.contents levels.old) }
-    ensures items { all_items B.Part.Part.contents levels.new ≡ all_items B.Part.Part.contents levels.old }
-    ensures weight { weight_of levels.new ≡ weight_of levels.old }
-    ensures held { map held_in levels.new ≡ map held_in levels.old }
-    ensures lowest { lowest_held levels.new ≡ lowest_held levels.old }
-    ensures as_many { length levels.new ≡ length levels.old }
+    ensures marked { AreMarked B.Part.Part.contents B.Item.stamp (B.Item.stamp item.now) levels.old levels.new }
     ensures cost { (g : ℕ) → weight_of levels.old < 2 ^ (g + 1)
         → let marks = asked B.Part.Part.contents B.Item.stamp (B.Item.stamp item.now) levels.old in
         Spends steps.old steps.new 0 marks (marks * B.Part.Part.mark_touches g) }
@@ -122,21 +113,17 @@ pub fn take_out<B: Builder, L: Ledger>(
     item: &B::Item,
     steps: &mut Steps<L>,
 )
-    requires levels { AreAllLevels B.Part.Part.contents B.Item.stamp B.Item.before levels.old }
+    requires on_time { AreOnTime B.Part.Part.contents ⟦<B as Kinded>⟧.kind levels.old }
     requires rooms { HaveRoomsAbove IsDue levels.old }
-    requires punctual { All (IsPunctual B.SLOPE B.BASE) levels.old }
     requires apart { AllStampsDiffer B.Item.stamp (all_items B.Part.Part.contents levels.old) }
     requires live { Contains (live_items B.Part.Part.contents levels.old) item.now }
-    ensures levels { AreAllLevels B.Part.Part.contents B.Item.stamp B.Item.before levels.new }
-    ensures punctual { All (IsPunctual B.SLOPE B.BASE) levels.new }
+    ensures on_time { AreOnTime B.Part.Part.contents ⟦<B as Kinded>⟧.kind levels.new }
     ensures live { Permuted (live_items B.Part.Part.contents levels.new)
         (without B.Item.stamp (B.Item.stamp item.now) (live_items B.Part.Part.contents levels.old)) }
     ensures items { IsPartOf (all_items B.Part.Part.contents levels.new) (all_items B.Part.Part.contents levels.old) }
     ensures weight { weight_of levels.new ≡ weight_of levels.old }
-    ensures held_above { drop 1 (map held_in levels.new) ≡ drop 1 (map held_in levels.old) }
-    ensures lowest { lowest_held levels.new ≡ lowest_held levels.old }
+    ensures held { map held_in levels.new ≡ map held_in levels.old }
     ensures rooms { HaveRoomsAbove IsDueSoon levels.old → HaveRoomsAbove IsDue levels.new }
-    ensures as_many { length levels.new ≡ length levels.old }
     ensures cost { (g : ℕ) → weight_of levels.new < 2 ^ (g + 1)
         → IsWithin (quotas B.SLOPE B.BASE 1 g)
         (2 * g + asked B.Part.Part.contents B.Item.stamp (B.Item.stamp item.now) levels.old)

@@ -5,33 +5,29 @@ ghost use Rattle.query_laws.specs.Permuted.{Permuted};
 ghost use Rattle.builder_trait.specs.Parts.{live_of};
 ghost use Rattle.partial_build.specs.Quota.{quota};
 ghost use Rattle.stack_levels.specs.Slots.{Slots, IsPartOf, ticks_of, held_in, weight_in, live_in, items_in};
-ghost use Rattle.stack_levels.specs.Levels.{lowest_held, weight_of, live_items, all_items};
+ghost use Rattle.stack_levels.specs.Levels.{lowest_held, one_more, weight_of, live_items, all_items};
 ghost use Rattle.stack_levels.specs.Neighbours.{IsBelow, IsVisited, IsPunctual};
-ghost use Rattle.stack_levels.specs.Towers.{IsTower, IsHalfway, IsDue, IsDueSoon, HaveRooms, HaveRoomsAbove, HaveRoomsAhead, AreAllLevels, AreHalfway, HaveRoomsNow, HaveRoomsNext};
+ghost use Rattle.stack_levels.specs.Towers.{IsTower, IsHalfway, IsDue, IsDueSoon, HaveRooms, HaveRoomsAbove, HaveRoomsAhead, AreAllLevels, AreHalfway, AreOnTime, AreTicked, HaveRoomsNow, HaveRoomsNext};
 ghost use Rattle.stack_levels.specs.Level.{IsOfLevel};
 ghost use Rattle.stack_levels.specs.Cost.{IsWithin, quotas};
 
 use crate::level::Level;
 use builder_trait::{Builder, Part};
+use partial_build::Kinded;
 use query_laws::Item;
 use query_laws::step_ledger::Steps;
 use std::sync::ledger::Ledger;
 
 /// Visits the levels above one that has taken its tick, in rising order.
 fn walk<B: Builder, L: Ledger>(lower: &mut Level<B>, above: &mut [Level<B>], steps: &mut Steps<L>)
-    requires halfway { IsHalfway B.Part.Part.contents B.Item.stamp B.Item.before lower.old above.old }
+    requires halfway { IsHalfway B.Part.Part.contents ⟦<B as Kinded>⟧.kind lower.old above.old }
     requires rooms { HaveRoomsAbove IsDue above.old }
     requires apart { AllStampsDiffer B.Item.stamp (all_items B.Part.Part.contents (lower.old ∷ above.old)) }
-    ensures tower { IsTower B.Part.Part.contents B.Item.stamp B.Item.before lower.new above.new }
-    ensures punctual { All (IsPunctual B.SLOPE B.BASE) above.new }
-    ensures live { Permuted (live_items B.Part.Part.contents (lower.new ∷ above.new)) (live_items B.Part.Part.contents (lower.old ∷ above.old)) }
-    ensures items { IsPartOf (all_items B.Part.Part.contents (lower.new ∷ above.new)) (all_items B.Part.Part.contents (lower.old ∷ above.old)) }
-    ensures weight { weight_of (lower.new ∷ above.new) ≡ weight_of (lower.old ∷ above.old) }
+    ensures tower { IsTower B.Part.Part.contents ⟦<B as Kinded>⟧.kind lower.new above.new }
+    ensures punctual { All (IsPunctual ⟦<B as Kinded>⟧.kind) above.new }
+    ensures ticked { AreTicked B.Part.Part.contents (lower.old ∷ above.old) (lower.new ∷ above.new) }
     ensures same { lower.new ≡ record lower.old { parts = lower.new.parts; kept = lower.new.kept } }
-    ensures as_many { length above.new ≡ length above.old }
     ensures rooms { HaveRoomsAhead lower.old above.old → HaveRooms IsDue lower.new above.new }
-    ensures held { map held_in above.new ≡ map held_in above.old }
-    ensures held_below { held_in lower.new ≡ held_in lower.old }
     ensures cost { (g : ℕ) → weight_of (lower.old ∷ above.old) < 2 ^ (g + 1)
         → IsWithin (quotas B.SLOPE B.BASE (lower.old.level + 1) g) (2 * (g - lower.old.level)) (B.Part.Part.mark_touches g) steps.old steps.new }
 {
@@ -44,11 +40,11 @@ fn walk<B: Builder, L: Ledger>(lower: &mut Level<B>, above: &mut [Level<B>], ste
 /// Takes in a part of level 0: level 0 has then taken its tick.
 fn arrive<B: Builder>(levels: &mut [Level<B>], part: B::Part)
     requires some { 0 < length levels.old }
-    requires levels { AreAllLevels B.Part.Part.contents B.Item.stamp B.Item.before levels.old }
+    requires levels { AreAllLevels B.Part.Part.contents ⟦<B as Kinded>⟧.kind levels.old }
     requires rooms { HaveRoomsAbove IsDue levels.old }
     requires of_level { IsOfLevel 0 (B.Part.Part.contents part) }
     requires place { lowest_held levels.old < 5 }
-    ensures halfway { AreHalfway B.Part.Part.contents B.Item.stamp B.Item.before levels.new }
+    ensures halfway { AreHalfway B.Part.Part.contents ⟦<B as Kinded>⟧.kind levels.new }
     ensures rooms { HaveRoomsNow levels.new }
     ensures rooms_ahead { HaveRoomsAbove IsDueSoon levels.old → HaveRoomsNext levels.new }
     ensures live { Permuted (live_items B.Part.Part.contents levels.new)
@@ -56,9 +52,7 @@ fn arrive<B: Builder>(levels: &mut [Level<B>], part: B::Part)
     ensures items { Permuted (all_items B.Part.Part.contents levels.new)
         ((B.Part.Part.contents part).items ++ all_items B.Part.Part.contents levels.old) }
     ensures weight { weight_of levels.new ≡ weight_of levels.old + 1 }
-    ensures held_above { drop 1 (map held_in levels.new) ≡ drop 1 (map held_in levels.old) }
-    ensures lowest { lowest_held levels.new ≡ lowest_held levels.old + 1 }
-    ensures as_many { length levels.new ≡ length levels.old }
+    ensures held { map held_in levels.new ≡ one_more (map held_in levels.old) }
 {
     match levels.split_first_mut() {
         Some((lowest, _above)) => lowest.arrive(part),
@@ -68,18 +62,12 @@ fn arrive<B: Builder>(levels: &mut [Level<B>], part: B::Part)
 
 /// The rest of a tick that level 0 has taken: all levels above are visited.
 pub(crate) fn take_tick<B: Builder, L: Ledger>(levels: &mut [Level<B>], steps: &mut Steps<L>)
-    requires halfway { AreHalfway B.Part.Part.contents B.Item.stamp B.Item.before levels.old }
+    requires halfway { AreHalfway B.Part.Part.contents ⟦<B as Kinded>⟧.kind levels.old }
     requires rooms { HaveRoomsNow levels.old }
     requires apart { AllStampsDiffer B.Item.stamp (all_items B.Part.Part.contents levels.old) }
-    ensures levels { AreAllLevels B.Part.Part.contents B.Item.stamp B.Item.before levels.new }
-    ensures punctual { All (IsPunctual B.SLOPE B.BASE) levels.new }
-    ensures live { Permuted (live_items B.Part.Part.contents levels.new) (live_items B.Part.Part.contents levels.old) }
-    ensures items { IsPartOf (all_items B.Part.Part.contents levels.new) (all_items B.Part.Part.contents levels.old) }
-    ensures weight { weight_of levels.new ≡ weight_of levels.old }
+    ensures on_time { AreOnTime B.Part.Part.contents ⟦<B as Kinded>⟧.kind levels.new }
+    ensures ticked { AreTicked B.Part.Part.contents levels.old levels.new }
     ensures rooms { HaveRoomsNext levels.old → HaveRoomsAbove IsDue levels.new }
-    ensures held_above { drop 1 (map held_in levels.new) ≡ drop 1 (map held_in levels.old) }
-    ensures lowest { lowest_held levels.new ≡ lowest_held levels.old }
-    ensures as_many { length levels.new ≡ length levels.old }
     ensures cost { (g : ℕ) → weight_of levels.old < 2 ^ (g + 1)
         → IsWithin (quotas B.SLOPE B.BASE 1 g) (2 * g) (B.Part.Part.mark_touches g) steps.old steps.new }
 {
@@ -92,22 +80,19 @@ pub(crate) fn take_tick<B: Builder, L: Ledger>(levels: &mut [Level<B>], steps: &
 /// One tick in which a part of level 0 arrives.
 pub fn take_in<B: Builder, L: Ledger>(levels: &mut [Level<B>], part: B::Part, steps: &mut Steps<L>)
     requires some { 0 < length levels.old }
-    requires levels { AreAllLevels B.Part.Part.contents B.Item.stamp B.Item.before levels.old }
+    requires levels { AreAllLevels B.Part.Part.contents ⟦<B as Kinded>⟧.kind levels.old }
     requires rooms { HaveRoomsAbove IsDue levels.old }
     requires of_level { IsOfLevel 0 (B.Part.Part.contents part) }
     requires place { lowest_held levels.old < 5 }
     requires apart { AllStampsDiffer B.Item.stamp ((B.Part.Part.contents part).items ++ all_items B.Part.Part.contents levels.old) }
-    ensures levels { AreAllLevels B.Part.Part.contents B.Item.stamp B.Item.before levels.new }
-    ensures punctual { All (IsPunctual B.SLOPE B.BASE) levels.new }
+    ensures on_time { AreOnTime B.Part.Part.contents ⟦<B as Kinded>⟧.kind levels.new }
     ensures live { Permuted (live_items B.Part.Part.contents levels.new)
         (live_of (B.Part.Part.contents part) ++ live_items B.Part.Part.contents levels.old) }
     ensures items { IsPartOf (all_items B.Part.Part.contents levels.new)
         ((B.Part.Part.contents part).items ++ all_items B.Part.Part.contents levels.old) }
     ensures weight { weight_of levels.new ≡ weight_of levels.old + 1 }
     ensures rooms { HaveRoomsAbove IsDueSoon levels.old → HaveRoomsAbove IsDue levels.new }
-    ensures held_above { drop 1 (map held_in levels.new) ≡ drop 1 (map held_in levels.old) }
-    ensures lowest { lowest_held levels.new ≡ lowest_held levels.old + 1 }
-    ensures as_many { length levels.new ≡ length levels.old }
+    ensures held { map held_in levels.new ≡ one_more (map held_in levels.old) }
     ensures cost { (g : ℕ) → weight_of levels.new < 2 ^ (g + 1)
         → IsWithin (quotas B.SLOPE B.BASE 1 g) (2 * g) (B.Part.Part.mark_touches g) steps.old steps.new }
 {

@@ -17,12 +17,10 @@ use std::{fs, mem};
 /// The most updates after the first inserts where answers are compared.
 const COMPARED_UPDATES: usize = 128;
 
-/// How often each question is asked where answers are compared, where costs are told, and for how many of these a list is scanned too.
-const COMPARED: usize = 2;
+/// How often each question is asked where answers are compared, and where costs are told; there a list is scanned for one of 64.
+const COMPARED: usize = 17;
 
 const ASKED: usize = 1_024;
-
-const SCANNED: usize = 16;
 
 /// How something is tried. Where the items lie densely, answers are compared with those of a plain list, and elsewhere costs are told.
 #[derive(Clone, Copy)]
@@ -45,7 +43,7 @@ pub enum Layer {
 }
 
 /// Tries a layer of a kind. Where items lie densely it is compared with a plain list, at each size up to that of the plan which is at most
-/// 1 away from a power of two, and elsewhere measured.
+/// 1 away from a power of two, or 16 above one, and elsewhere measured.
 pub fn try_layer<K: Kind, L: Ledger>(bench: &mut Bench<L>, layer: Layer, plan: Plan) -> Outcome {
     match layer {
         Layer::Part => try_sizes::<K, Marked<RowsBuilder<K>>, L>(bench, plan),
@@ -63,7 +61,7 @@ fn try_sizes<K: Kind, T: Tried<RowsBuilder<K>>, L: Ledger>(
     }
     for size in 0..=plan.size {
         let mut near = size.saturating_sub(1)..=size.saturating_add(1);
-        if near.any(|n| n.is_power_of_two()) {
+        if near.any(|n| n.is_power_of_two()) || size.saturating_sub(16).is_power_of_two() {
             let seed = plan.seed.wrapping_add(size as u64);
             let plan = Plan { seed, size, ..plan };
             let mut done = run_trial::<K, T, L>(bench, plan);
@@ -197,12 +195,12 @@ impl<K: Kind, T: Tried<RowsBuilder<K>>> Trial<K, T> {
     ) -> Outcome {
         let (asked, scanned) = match (self.is_compared(), bench.is_timed) {
             (true, _) => (COMPARED, COMPARED),
-            (false, true) => (ASKED, SCANNED),
+            (false, true) => (ASKED, ASKED / 64),
             (false, false) => (ASKED, 0),
         };
         for number in 0..asked {
             let scanned = (number < scanned).then_some(live);
-            match self.put(word, class, scanned, bench) {
+            match self.put((word, class, number), scanned, bench) {
                 Err(Failure::NoMemory(_)) => bench.refused = bench.refused.wrapping_add(1),
                 done => done?,
             }
@@ -211,15 +209,14 @@ impl<K: Kind, T: Tried<RowsBuilder<K>>> Trial<K, T> {
         self.tell_costs(words.as_str(), bench)
     }
 
-    /// Puts a drawn question, and compares the answer with that of a scan.
+    /// Puts a drawn question, by its word, class and number, and compares the answer with that of a scan.
     fn put<L: Ledger>(
         &mut self,
-        word: &str,
-        class: u32,
+        (word, class, number): (&str, u32, usize),
         scanned: Option<&[K::Item]>,
         bench: &mut Bench<L>,
     ) -> Outcome {
-        let question = drawn_question(word, class, self.plan.spread, &mut self.generator);
+        let question = drawn_question(word, class, number, self.plan.spread, &mut self.generator);
         let begun = bench.begin()?;
         let answer = K::ask(&self.set, &question, bench)?;
         bench.take_in(begun, &mut self.costs)?;

@@ -8,6 +8,7 @@ ghost use Rattle.stack_levels.specs.Cost.{IsWithin};
 
 use crate::level::Level;
 use builder_trait::{Builder, Part};
+use partial_build::Kinded;
 use query_laws::Item;
 use query_laws::step_ledger::Steps;
 use std::sync::ledger::Ledger;
@@ -16,12 +17,12 @@ impl<B: Builder> Level<B> {
     /// Visits the level, above one that has taken its tick: where that one has two parts or more, a construction of the two oldest begins,
     /// takes its tick, or ends.
     pub fn visit<L: Ledger>(&mut self, lower: &mut Level<B>, steps: &mut Steps<L>)
-        requires below { IsBelow B.Part.Part.contents B.Item.stamp B.Item.before 0 lower.old self.old }
+        requires below { IsBelow B.Part.Part.contents ⟦<B as Kinded>⟧.kind 0 lower.old self.old }
         requires roomy { 2 ≤ length lower.old.parts → self.old.construction ≡ None → self.old.has_room ≡ true }
         requires place { ticks_of self.old + 1 ≡ 2 ^ self.old.level → length self.old.parts < 3 }
         requires apart { AllStampsDiffer B.Item.stamp (items_in B.Part.Part.contents lower.old) }
-        ensures visited { IsVisited B.Part.Part.contents B.Item.stamp B.Item.before self.old lower.old self.new lower.new }
-        ensures punctual { IsPunctual B.SLOPE B.BASE self.new }
+        ensures visited { IsVisited B.Part.Part.contents ⟦<B as Kinded>⟧.kind self.old lower.old self.new lower.new }
+        ensures punctual { IsPunctual ⟦<B as Kinded>⟧.kind self.new }
         ensures same { self.new ≡ record self.old {
           parts = self.new.parts;
           construction = self.new.construction;

@@ -3,13 +3,13 @@ use Rattle.level_slots.proofs.Forecasting.{IsKept-then}
 use Rattle.level_slots.proofs.preparing.add_levels.Goals as goal
 
 pub is_short-requires-clause-levels : goal.is_short-requires-clause-levels
-is_short-requires-clause-levels g c = rw c.deref.ensures.value (c.loop-alloc.invariant.kept.levels _ _ c.requires.levels)
+is_short-requires-clause-levels g c = rw c.deref.ensures.value (c.loop-alloc.invariant.kept.levels _ c.requires.levels)
 
 pub is_short-requires-clause-few : goal.is_short-requires-clause-few
 is_short-requires-clause-few g c = rw c.deref.ensures.value (c.loop-alloc.invariant.kept.few c.requires.few)
 
 pub add_level-requires-clause-levels : goal.add_level-requires-clause-levels
-add_level-requires-clause-levels g c = c.loop-alloc.invariant.kept.levels _ _ c.requires.levels
+add_level-requires-clause-levels g c = c.loop-alloc.invariant.kept.levels _ c.requires.levels
 
 pub add_level-requires-clause-few : goal.add_level-requires-clause-few
 add_level-requires-clause-few g c = rw c.deref.ensures.value at (c.is_short.ensures.wanted c.loop-alloc-test.true)

@@ -1,14 +1,12 @@
-use Rattle.std.proofs.Common.{◌≡◌, ◌+◌, ◌-◌, ◌≤◌, All, length}
-use Rattle.builder_trait.specs.Builders.{begun}
+use Rattle.std.proofs.Common.{◌≡◌, ◌+◌, ◌-◌, ◌≤◌, length}
 use Rattle.stack_levels.specs.Levels.{held_of, lowest_held}
-use Rattle.level_slots.specs.Preparing.{IsKept}
+use Rattle.level_slots.specs.Preparing.{IsKept, AreStarters}
 use Rattle.level_slots.proofs.preparing.add_starters.Given as goal
 
 abbrev pub invariant-loop-alloc : goal.invariant-loop-alloc
 invariant-loop-alloc g l = record {
   kept : IsKept g.B.Part.Part.contents l.initial.levels l.levels;
-  begun : All (λ b. g.B.Builder.progress b ≡ begun 0) l.starters.items;
-  few : length l.starters.items ≤ 2;
+  starters : AreStarters g.B.Builder.progress l.starters.items;
   more : length l.initial.starters.items ≤ length l.starters.items;
   lowest : lowest_held l.levels + length l.starters.items ≤ 5;
   no_less : held_of l.initial.levels + length l.initial.starters.items ≤ held_of l.levels + length l.starters.items;

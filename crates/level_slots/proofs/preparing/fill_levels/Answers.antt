@@ -2,7 +2,7 @@ use Rattle.level_slots.proofs.Forecasting.{IsKept-then, anyway_ok}
 use Rattle.level_slots.proofs.preparing.fill_levels.Goals as goal
 
 pub forecast_rooms-requires : goal.forecast_rooms-requires
-forecast_rooms-requires g c = c.add_starters.ensures.kept.levels _ _ c.requires.levels
+forecast_rooms-requires g c = c.add_starters.ensures.kept.levels _ c.requires.levels
 
 pub returns-clause-kept : goal.returns-clause-kept
 returns-clause-kept g c =

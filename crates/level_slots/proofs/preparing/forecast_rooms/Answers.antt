@@ -1,16 +1,20 @@
 use Rattle.std.proofs.Common.{refl, ap}
+use Rattle.builder_trait.specs.Builders.{PartKind}
 use Rattle.level_slots.specs.Preparing.{AreNumbered}
 use Rattle.level_slots.proofs.Forecasting.{KeepRooms-from, IsKept-rooms, numbered-from, numbered-kept, numbered-tower, rooms-few, rooms-ready, when_ok}
 use Rattle.level_slots.proofs.preparing.forecast_rooms.Given.{Over}
 use Rattle.level_slots.proofs.preparing.forecast_rooms.Goals.{After-give_back_room}
 use Rattle.level_slots.proofs.preparing.forecast_rooms.Goals as goal
 
+abbrev kind : (g : Over) → PartKind g.row.B-Item.Denot
+kind g = record { stamp = g.B.Item.Item.stamp; before = g.B.Item.Item.before; slope = g.B.Builder.SLOPE; base = g.B.Builder.BASE }
+
 -- the level numbers above the lowest one
 numbered : (g : Over) (c : After-give_back_room g) → AreNumbered c.give_back_room.new.self c.in-Some.above.now
 numbered g c =
     let h = rw c.in-Some.ensures.cases.0 at c.requires in
     numbered-from c.in-Some.lowest.now c.give_back_room.new.self c.in-Some.above.now (ap (λ v. v.level) c.give_back_room.ensures.same)
-    (numbered-tower g.B.Part.Part.contents g.B.Item.Item.stamp g.B.Item.Item.before c.in-Some.lowest.now c.in-Some.above.now h.2)
+    (numbered-tower g.B.Part.Part.contents (kind g) c.in-Some.lowest.now c.in-Some.above.now h.2)
 
 pub make_rooms-requires : goal.make_rooms-requires
 make_rooms-requires g c = numbered g (goal.at.make_rooms-requires g c).After-give_back_room

@@ -1,7 +1,12 @@
 use Rattle.std.proofs.Common.{◌+◌, ◌^◌, ◌<◌, ◌∙◌, length, sym, arith, leb-false, ltb-false}
+use Rattle.builder_trait.specs.Builders.{PartKind}
 use Rattle.stack_levels.specs.Slots.{ticks_of}
 use Rattle.level_slots.proofs.Forecasting.{enough-highest, enough-light}
+use Rattle.level_slots.proofs.preparing.is_short.Given.{Over}
 use Rattle.level_slots.proofs.preparing.is_short.Goals as goal
+
+abbrev kind : (g : Over) → PartKind g.row.B-Item.Denot
+kind g = record { stamp = g.B.Item.Item.stamp; before = g.B.Item.Item.before; slope = g.B.Builder.SLOPE; base = g.B.Builder.BASE }
 
 pub returns-then-levels-lt-LEVELS-clause-enough : goal.returns-then-levels-lt-LEVELS-clause-enough
 returns-then-levels-lt-LEVELS-clause-enough g c quiet light =
@@ -11,5 +16,5 @@ returns-then-levels-lt-LEVELS-clause-enough g c quiet light =
 
 pub returns-else-levels-lt-LEVELS-clause-enough : goal.returns-else-levels-lt-LEVELS-clause-enough
 returns-else-levels-lt-LEVELS-clause-enough g c quiet light =
-    enough-light g.B.Part.Part.contents g.B.Item.Item.stamp g.B.Item.Item.before c.args.levels.now c.requires.levels
+    enough-light g.B.Part.Part.contents (kind g) c.args.levels.now c.requires.levels
     (omega (arith, c.requires.few, ltb-false (length c.args.levels.now) 32 quiet)) light

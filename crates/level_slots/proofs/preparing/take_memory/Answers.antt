@@ -1,12 +1,16 @@
 use Rattle.std.proofs.Common.{◌≡◌, ◌++◌, length, take, drop, ap, arith}
 use Rattle.std.proofs.lemmas.List.{take_at}
+use Rattle.builder_trait.specs.Builders.{PartKind}
 use Rattle.stack_levels.specs.Levels.{held_of, lowest_held}
-use Rattle.level_slots.proofs.Forecasting.{IsKept-then, anyway_ok, when_ok}
+use Rattle.level_slots.proofs.Forecasting.{IsKept-then, both_ok, when_ok}
 use Rattle.level_slots.proofs.preparing.take_memory.Given.{Over}
 use Rattle.level_slots.proofs.preparing.take_memory.Goals as goal
 
+abbrev kind : (g : Over) → PartKind g.row.B-Item.Denot
+kind g = record { stamp = g.B.Item.Item.stamp; before = g.B.Item.Item.before; slope = g.B.Builder.SLOPE; base = g.B.Builder.BASE }
+
 pub fill_levels-requires-clause-levels : goal.fill_levels-requires-clause-levels
-fill_levels-requires-clause-levels g c = rw c.deref_mut.ensures.value (c.add_levels.ensures.kept.levels _ _ c.requires.levels)
+fill_levels-requires-clause-levels g c = rw c.deref_mut.ensures.value (c.add_levels.ensures.kept.levels _ c.requires.levels)
 
 pub fill_levels-requires-clause-lowest : goal.fill_levels-requires-clause-lowest
 fill_levels-requires-clause-lowest g c = omega (arith, c.requires.lowest, c.add_levels.ensures.lowest, ap lowest_held c.deref_mut.ensures.value)
@@ -22,20 +26,17 @@ pub returns-clause-kept : goal.returns-clause-kept
 returns-clause-kept g c =
     rw (whole g c) (IsKept-then _ c.add_levels.ensures.kept (rw c.deref_mut.ensures.value at c.fill_levels.ensures.kept))
 
-pub returns-clause-some : goal.returns-clause-some
-returns-clause-some g c =
-    rw (whole g c) (anyway_ok c.fill_levels.result
-    (omega (arith, c.in_ok-add_levels.ensures.some, ap length c.deref_mut.ensures.value, c.fill_levels.ensures.kept.some)))
-
 pub returns-clause-ready : goal.returns-clause-ready
 returns-clause-ready g c =
-    let kept = rw c.deref_mut.ensures.value at c.fill_levels.ensures.kept in
-    rw (whole g c) (when_ok c.fill_levels.result (λ f light. f (c.fill_levels.ensures.kept.enough g.B.Item.Item.stamp g.B.Item.Item.before
-    (rw c.deref_mut.ensures.value (c.add_levels.ensures.kept.levels _ _ c.requires.levels))
-    (rw c.deref_mut.ensures.value (c.in_ok-add_levels.ensures.enough (omega (arith, light, kept.weight)))))) c.fill_levels.ensures.ready)
-
-pub returns-clause-few_rooms : goal.returns-clause-few_rooms
-returns-clause-few_rooms g c = rw (whole g c) c.fill_levels.ensures.few_rooms
+    let e = c.fill_levels.ensures in
+    let kept = rw c.deref_mut.ensures.value at e.kept in
+    rw (whole g c) (when_ok c.fill_levels.result (λ h. record {
+      both = h.0;
+      some = omega (arith, c.in_ok-add_levels.ensures.some, ap length c.deref_mut.ensures.value, e.kept.some);
+      rooms = λ light. h.1.0 (e.kept.enough (kind g) (rw c.deref_mut.ensures.value (c.add_levels.ensures.kept.levels _ c.requires.levels))
+          (rw c.deref_mut.ensures.value (c.in_ok-add_levels.ensures.enough (omega (arith, light, kept.same.weight)))));
+      few_rooms = h.1.1;
+    }) (both_ok _ _ c.fill_levels.result e.both (both_ok _ _ c.fill_levels.result e.ready e.few_rooms)))
 
 pub returns-clause-lowest : goal.returns-clause-lowest
 returns-clause-lowest g c = omega (arith, ap lowest_held (whole g c), c.fill_levels.ensures.lowest)

@@ -1,14 +1,18 @@
 use Rattle.std.proofs.Common.{◌≡◌, ◌-◌, ⊎_elim, IfOk, ap, subst, arith}
 use Rattle.std.proofs.lemmas.Bool.{cases_lt}
-use Rattle.builder_trait.specs.Builders.{begun}
+use Rattle.builder_trait.specs.Builders.{PartKind, begun}
 use Rattle.stack_levels.specs.Slots.{held_in}
 use Rattle.level_slots.proofs.Forecasting.{IsSame-kept, IsKept-lowest, lowest_level, lowest_construction, held-lowest, when_err}
+use Rattle.level_slots.proofs.preparing.take_starter.Given.{Over}
 use Rattle.level_slots.proofs.preparing.take_starter.Goals as goal
+
+abbrev kind : (g : Over) → PartKind g.row.B-Item.Denot
+kind g = record { stamp = g.B.Item.Item.stamp; before = g.B.Item.Item.before; slope = g.B.Builder.SLOPE; base = g.B.Builder.BASE }
 
 pub returns-clause-begun : goal.returns-clause-begun
 returns-clause-begun g c =
     subst (λ k. IfOk c.take_builder.result (λ b. g.B.Builder.progress b ≡ begun k))
-    (lowest_level g.B.Part.Part.contents g.B.Item.Item.stamp g.B.Item.Item.before c.args.levels.now c.in-Some.lowest.now c.requires.some
+    (lowest_level g.B.Part.Part.contents (kind g) c.args.levels.now c.in-Some.lowest.now c.requires.some
     c.in-Some.ensures.item.1 c.requires.levels)
     c.take_builder.ensures.begun
 
@@ -23,8 +27,8 @@ returns-clause-lowest g c most four within =
     let contents = g.B.Part.Part.contents in
     let lowest = c.in-Some.lowest.now in
     let held = held-lowest c.args.levels.now lowest c.take_builder.new.self c.requires.some c.in-Some.ensures.item.1 in
-    let zero = lowest_level contents g.B.Item.Item.stamp g.B.Item.Item.before c.args.levels.now lowest c.requires.some c.in-Some.ensures.item.1 c.requires.levels in
-    let none = lowest_construction contents g.B.Item.Item.stamp g.B.Item.Item.before c.args.levels.now lowest c.requires.some c.in-Some.ensures.item.1 c.requires.levels in
+    let zero = lowest_level contents (kind g) c.args.levels.now lowest c.requires.some c.in-Some.ensures.item.1 c.requires.levels in
+    let none = lowest_construction contents (kind g) c.args.levels.now lowest c.requires.some c.in-Some.ensures.item.1 c.requires.levels in
     ⊎_elim
     (λ some. omega (arith, some, within, held.0, held.1, ap held_in c.take_builder.ensures.same))
     (λ empty. omega (arith, four, held.1, c.take_builder.ensures.lowest zero none (omega (arith, empty))))

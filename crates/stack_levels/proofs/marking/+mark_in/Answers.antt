@@ -4,9 +4,10 @@ use Rattle.std.proofs.lemmas.List.Elements.{All-cons, All-head, All-tail}
 use Rattle.query_laws.specs.Orders.{AllStampsDiffer}
 use Rattle.query_laws.specs.StepLedger.{Spends}
 use Rattle.query_laws.proofs.Counting.{Spends-nothing, Spends-within}
+use Rattle.builder_trait.specs.Builders.{PartKind}
 use Rattle.builder_trait.specs.Parts.{OwnsStamp, has_stamp, without}
 use Rattle.stack_levels.specs.Slots.{Slots, held_in, weight_in, live_in, items_in, asked_in}
-use Rattle.stack_levels.specs.Levels.{lowest_held, weight_of, live_items, all_items, asked}
+use Rattle.stack_levels.specs.Levels.{weight_of, live_items, all_items, asked}
 use Rattle.stack_levels.specs.Neighbours.{IsPunctual}
 use Rattle.stack_levels.specs.Towers.{IsDue, IsDueSoon, HaveRoomsAbove, AreLevels}
 use Rattle.stack_levels.specs.Marking.{IsSameBelow}
@@ -14,7 +15,11 @@ use Rattle.stack_levels.proofs.Distinct.{AllStampsDiffer-front, AllStampsDiffer-
 use Rattle.stack_levels.proofs.Publishing.{none_of}
 use Rattle.stack_levels.proofs.Marks.{All-first, All-second, has_stamp-append, without-append, without-lacking, Spends-both}
 use Rattle.stack_levels.proofs.MarkedLevels.{Follows-due, Follows-soon, rooms-over, rooms-marked, same-noted, held-noted, tower-over, lacks-below, asked-above, asked-both, light_level, levels_from_tower}
+use Rattle.stack_levels.proofs.marking.+mark_in.Given.{Over}
 use Rattle.stack_levels.proofs.marking.+mark_in.Goals as goal
+
+abbrev kind : (g : Over) → PartKind g.row.B-Item.Denot
+kind g = record { stamp = g.B.Item.Item.stamp; before = g.B.Item.Item.before; slope = g.B.Builder.SLOPE; base = g.B.Builder.BASE }
 
 lighter : {m : ℕ} (a b : ℕ) → a + b < m → b < m
 lighter a b light = omega (arith, light)
@@ -23,13 +28,12 @@ pub mark_in-requires : goal.mark_in-requires
 mark_in-requires g p c κs lives =
     let contents = g.B.Part.Part.contents in
     let stamp = g.B.Item.Item.stamp in
-    let before = g.B.Item.Item.before in
     let x = c.args.item.now in
     let level = c.in-Some.level.now in
     let above = c.in-Some.above.now in
     let split = c.in-Some.ensures.cases.0 in
-    let punctual : Slots g.row.B-Part.Denot g.row.B-Item.Denot → Type 0 = IsPunctual g.B.Builder.SLOPE g.B.Builder.BASE in
-    let levels = levels_from_tower contents stamp before level above (subst (AreLevels contents stamp before) split c.requires.levels) in
+    let punctual : Slots g.row.B-Part.Denot g.row.B-Item.Denot → Type 0 = IsPunctual (kind g) in
+    let levels = levels_from_tower contents (kind g) level above (subst (AreLevels contents (kind g)) split c.requires.levels) in
     let on_time = All-tail punctual level above (subst (All punctual) split c.requires.punctual) in
     let apart = AllStampsDiffer-front stamp (all_items contents above) (items_in contents level)
     (subst (λ ls. AllStampsDiffer stamp (all_items contents ls)) split c.requires.apart) in
@@ -41,7 +45,6 @@ pub returns-then-mark_in : goal.returns-then-mark_in
 returns-then-mark_in g p c =
     let contents = g.B.Part.Part.contents in
     let stamp = g.B.Item.Item.stamp in
-    let before = g.B.Item.Item.before in
     let s = stamp c.args.item.now in
     let level = c.in-Some.level.now in
     let above = c.in-Some.above.now in
@@ -51,20 +54,20 @@ returns-then-mark_in g p c =
     let on : has_stamp stamp s (live_items contents above) ≡ true = sym h.found ∙ c.if-mark_in.true in
     let lacks = lacks-below contents stamp s level above (subst (λ ls. AllStampsDiffer stamp (all_items contents ls)) split c.requires.apart) on in
     record {
-      levels = tower-over contents stamp before level above new (subst (AreLevels contents stamp before) split c.requires.levels) h.levels h.same;
+      levels = tower-over contents (kind g) level above new (subst (AreLevels contents (kind g)) split c.requires.levels) h.levels h.same;
       found = sym (ap (λ ls. has_stamp stamp s (live_items contents ls)) split
           ∙ has_stamp-append stamp s (live_items contents above) (live_in contents level) ∙ ap (λ b. b || has_stamp stamp s (live_in contents level)) on);
       unfound = λ off. absurd cc;
       same = subst (λ ls. IsSameBelow ls (level ∷ new)) (sym split) (level, new, refl, refl);
       rooms = λ rooms. rooms-over IsDue Follows-due level above new h.same h.rooms (subst (HaveRoomsAbove IsDue) split rooms);
       rooms_ahead = λ rooms. rooms-over IsDueSoon Follows-soon level above new h.same h.rooms_ahead (subst (HaveRoomsAbove IsDueSoon) split rooms);
-      live = ap₂ (λ l m. l ++ m) h.live (sym (without-lacking stamp s (live_in contents level) lacks))
-          ∙ sym (ap (λ ls. without stamp s (live_items contents ls)) split ∙ without-append stamp s (live_items contents above) (live_in contents level));
-      items = ap (λ l. l ++ items_in contents level) h.items ∙ sym (ap (all_items contents) split);
-      weight = ap (λ n. weight_in level + n) h.weight ∙ sym (ap weight_of split);
-      held = ap (λ ns. held_in level ∷ ns) h.held ∙ sym (ap (map held_in) split);
-      lowest = sym (ap lowest_held split);
-      as_many = omega (arith, h.as_many, c.in-Some.ensures.cases.1);
+      marked = record {
+        live = ap₂ (λ l m. l ++ m) h.marked.live (sym (without-lacking stamp s (live_in contents level) lacks))
+            ∙ sym (ap (λ ls. without stamp s (live_items contents ls)) split ∙ without-append stamp s (live_items contents above) (live_in contents level));
+        items = ap (λ l. l ++ items_in contents level) h.marked.items ∙ sym (ap (all_items contents) split);
+        weight = ap (λ n. weight_in level + n) h.marked.weight ∙ sym (ap weight_of split);
+        held = ap (λ ns. held_in level ∷ ns) h.marked.held ∙ sym (ap (map held_in) split);
+      };
       cost = λ g' light. subst (λ n. Spends c.args.steps.now c.mark_in.new.steps 0 n (n * g.B.Part.Part.mark_touches g'))
           (sym (ap (asked contents stamp s) split ∙ asked-above contents stamp s level above on))
           (h.cost g' (lighter (weight_in level) (weight_of above) (subst (λ ls. weight_of ls < 2 ^ (g' + 1)) split light)));
@@ -74,14 +77,13 @@ pub mark_and_note-requires : goal.mark_and_note-requires
 mark_and_note-requires g p c =
     let contents = g.B.Part.Part.contents in
     let stamp = g.B.Item.Item.stamp in
-    let before = g.B.Item.Item.before in
     let x = c.args.item.now in
     let level = c.in-Some.level.now in
     let above = c.in-Some.above.now in
     let split = c.in-Some.ensures.cases.0 in
     let h = c.mark_in.ensures in
     record {
-      tower = tower-over contents stamp before level above c.mark_in.new.levels (subst (AreLevels contents stamp before) split c.requires.levels) h.levels h.same;
+      tower = tower-over contents (kind g) level above c.mark_in.new.levels (subst (AreLevels contents (kind g)) split c.requires.levels) h.levels h.same;
       punctual = h.unfound c.if-mark_in.false;
       apart = AllStampsDiffer-back stamp (all_items contents above) (items_in contents level)
           (subst (λ ls. AllStampsDiffer stamp (all_items contents ls)) split c.requires.apart);
@@ -97,38 +99,42 @@ returns-else-mark_in g p c =
     let level = c.in-Some.level.now in
     let above = c.in-Some.above.now in
     let split = c.in-Some.ensures.cases.0 in
-    let punctual : Slots g.row.B-Part.Denot g.row.B-Item.Denot → Type 0 = IsPunctual g.B.Builder.SLOPE g.B.Builder.BASE in
+    let punctual : Slots g.row.B-Part.Denot g.row.B-Item.Denot → Type 0 = IsPunctual (kind g) in
     let mid = c.mark_in.new.levels in
     let level' = c.mark_and_note.new.level in
     let above' = c.mark_and_note.new.above in
     let h = c.mark_in.ensures in
     let n = c.mark_and_note.ensures in
+    let m = n.marked in
     let off : has_stamp stamp s (live_items contents above) ≡ false = sym h.found ∙ c.if-mark_in.false in
     let marks = asked_in contents stamp s level.parts in
-    let held : held_in level' ≡ held_in level = omega (arith, ap held_in n.same, n.as_many) in
+    let held : held_in level' ≡ held_in level = omega (arith, ap held_in m.same, m.as_many) in
     record {
       levels = n.tower;
       found = n.found ∙ sym (ap (λ ls. has_stamp stamp s (live_items contents ls)) split
           ∙ has_stamp-append stamp s (live_items contents above) (live_in contents level) ∙ ap (λ b. b || has_stamp stamp s (live_in contents level)) off);
       unfound = λ unfound. All-cons punctual level' above'
-          (λ c' is. All-head punctual level above (subst (All punctual) split c.requires.punctual) c' (sym (ap (λ v. v.construction) n.same) ∙ is))
+          (λ c' is. All-head punctual level above (subst (All punctual) split c.requires.punctual) c' (sym (ap (λ v. v.construction) m.same) ∙ is))
           (subst (All punctual) (sym (n.unfound unfound)) (h.unfound c.if-mark_in.false));
-      same = subst (λ ls. IsSameBelow ls (level' ∷ above')) (sym split) (level', above', refl, n.same);
-      rooms = λ rooms. rooms-marked IsDue Follows-due level level' mid above' n.as_many n.same n.noted
+      same = subst (λ ls. IsSameBelow ls (level' ∷ above')) (sym split) (level', above', refl, m.same);
+      rooms = λ rooms. rooms-marked IsDue Follows-due level level' mid above' m.as_many m.same n.noted
           (rooms-over IsDue Follows-due level above mid h.same h.rooms (subst (HaveRoomsAbove IsDue) split rooms));
-      rooms_ahead = λ rooms. rooms-marked IsDueSoon Follows-soon level level' mid above' n.as_many n.same n.noted
+      rooms_ahead = λ rooms. rooms-marked IsDueSoon Follows-soon level level' mid above' m.as_many m.same n.noted
           (rooms-over IsDueSoon Follows-soon level above mid h.same h.rooms_ahead (subst (HaveRoomsAbove IsDueSoon) split rooms));
-      live = ap₂ (λ l m. l ++ m)
-          (same-noted (live_items contents) (λ l l' rest same _. ap (λ v. live_items contents rest ++ live_in contents v) same) mid above' n.noted ∙ h.live) n.live
-          ∙ sym (ap (λ ls. without stamp s (live_items contents ls)) split ∙ without-append stamp s (live_items contents above) (live_in contents level));
-      items = ap₂ (λ l m. l ++ m)
-          (same-noted (all_items contents) (λ l l' rest same _. ap (λ v. all_items contents rest ++ items_in contents v) same) mid above' n.noted ∙ h.items) n.items
-          ∙ sym (ap (all_items contents) split);
-      weight = ap₂ (λ m k. m + k) (ap₂ (λ m k. m * 2 ^ k) n.as_many (ap (λ v. v.level) n.same))
-          (same-noted weight_of (λ l l' rest same _. ap (λ v. weight_in v + weight_of rest) same) mid above' n.noted ∙ h.weight) ∙ sym (ap weight_of split);
-      held = ap₂ (λ m ns. m ∷ ns) held (same-noted (map held_in) held-noted mid above' n.noted ∙ h.held) ∙ sym (ap (map held_in) split);
-      lowest = held ∙ sym (ap lowest_held split);
-      as_many = omega (arith, same-noted length (λ l l' rest _ _. refl) mid above' n.noted, h.as_many, c.in-Some.ensures.cases.1);
+      marked = record {
+        live = ap₂ (λ l k. l ++ k)
+            (same-noted (live_items contents) (λ l l' rest same _. ap (λ v. live_items contents rest ++ live_in contents v) same) mid above' n.noted
+            ∙ h.marked.live) m.live
+            ∙ sym (ap (λ ls. without stamp s (live_items contents ls)) split ∙ without-append stamp s (live_items contents above) (live_in contents level));
+        items = ap₂ (λ l k. l ++ k)
+            (same-noted (all_items contents) (λ l l' rest same _. ap (λ v. all_items contents rest ++ items_in contents v) same) mid above' n.noted
+            ∙ h.marked.items) m.items
+            ∙ sym (ap (all_items contents) split);
+        weight = ap₂ (λ l k. l + k) (ap₂ (λ l k. l * 2 ^ k) m.as_many (ap (λ v. v.level) m.same))
+            (same-noted weight_of (λ l l' rest same _. ap (λ v. weight_in v + weight_of rest) same) mid above' n.noted ∙ h.marked.weight)
+            ∙ sym (ap weight_of split);
+        held = ap₂ (λ l ns. l ∷ ns) held (same-noted (map held_in) held-noted mid above' n.noted ∙ h.marked.held) ∙ sym (ap (map held_in) split);
+      };
       cost = λ g' light.
           let t = g.B.Part.Part.mark_touches g' in
           let spends = λ (n : ℕ) (m : ℕ). Spends c.mark_in.new.steps c.mark_and_note.new.steps 0 n (n * m) in

@@ -1,12 +1,17 @@
 use Rattle.std.proofs.Common.{◌≡◌, ℕ, ◌∙◌, Some, None, ◌∷◌, All, sym, ap, subst, arith}
 use Rattle.std.proofs.lemmas.List.Elements.{All-head}
+use Rattle.builder_trait.specs.Builders.{PartKind}
 use Rattle.stack_levels.specs.Slots.{ticks_of}
 use Rattle.stack_levels.specs.Neighbours.{IsConstructionOf, IsPunctual}
 use Rattle.stack_levels.specs.Towers.{IsTower}
-use Rattle.stack_levels.proofs.Marks.{live-marked, items-marked, length-marked}
+use Rattle.stack_levels.proofs.Marks.{IsMarked-of}
 use Rattle.stack_levels.proofs.MarkedLevels.{AreNoted-refl}
 use Rattle.stack_levels.proofs.Noting.{tower-marked}
+use Rattle.stack_levels.proofs.marking.mark_and_note.Given.{Over}
 use Rattle.stack_levels.proofs.marking.mark_and_note.Goals as goal
+
+abbrev kind : (g : Over) → PartKind g.row.B-Item.Denot
+kind g = record { stamp = g.B.Item.Item.stamp; before = g.B.Item.Item.before; slope = g.B.Builder.SLOPE; base = g.B.Builder.BASE }
 
 is_at : {m n : ℕ} → Some m ≡ Some n → m ≡ n
 is_at e = cc
@@ -15,8 +20,8 @@ pub note_above-requires : goal.note_above-requires
 note_above-requires g c =
     record {
       early = λ l rest was. (
-        (subst (IsTower g.B.Part.Part.contents g.B.Item.Item.stamp g.B.Item.Item.before c.args.level.now) was c.requires.tower).0.early,
-        All-head (IsPunctual g.B.Builder.SLOPE g.B.Builder.BASE) l rest (subst (All (IsPunctual g.B.Builder.SLOPE g.B.Builder.BASE)) was c.requires.punctual),
+        (subst (IsTower g.B.Part.Part.contents (kind g) c.args.level.now) was c.requires.tower).0.early,
+        All-head (IsPunctual (kind g)) l rest (subst (All (IsPunctual (kind g))) was c.requires.punctual),
       );
     }
 
@@ -24,14 +29,13 @@ pub returns-in-Some-clause-tower : goal.returns-in-Some-clause-tower
 returns-in-Some-clause-tower g c =
     let contents = g.B.Part.Part.contents in
     let stamp = g.B.Item.Item.stamp in
-    let before = g.B.Item.Item.before in
-    tower-marked contents stamp before c.args.item.now c.args.level.now c.mark.new.self c.args.above.now c.note_above.new.above c.mark.ensures.marked
+    tower-marked contents (kind g) c.args.item.now c.args.level.now c.mark.new.self c.args.above.now c.note_above.new.above c.mark.ensures.marked
     (ap (λ v. v.level) c.mark.ensures.same) (ap ticks_of c.mark.ensures.same) c.note_above.ensures.noted
     (λ next next' rest was now. record {
       stays = λ far a b built.
           let same : next ∷ rest ≡ next' ∷ rest = sym was ∙ sym (c.note_above.ensures.third (far c.in-Some.place c.in-Some.is)) ∙ now in
           let head : next ≡ next' = cc in
-          subst (IsConstructionOf contents stamp before a b) head built;
+          subst (IsConstructionOf contents (kind g) a b) head built;
       of_a = λ first a b new live same built.
           let at : c.in-Some.place ≡ 0 = is_at (sym c.in-Some.is ∙ first) in
           c.note_above.ensures.of_a (omega (arith, at)) next next' rest was now a b new live same built;
@@ -44,14 +48,13 @@ pub returns-in-None-clause-tower : goal.returns-in-None-clause-tower
 returns-in-None-clause-tower g c =
     let contents = g.B.Part.Part.contents in
     let stamp = g.B.Item.Item.stamp in
-    let before = g.B.Item.Item.before in
-    tower-marked contents stamp before c.args.item.now c.args.level.now c.mark.new.self c.args.above.now c.args.above.now c.mark.ensures.marked
+    tower-marked contents (kind g) c.args.item.now c.args.level.now c.mark.new.self c.args.above.now c.args.above.now c.mark.ensures.marked
     (ap (λ v. v.level) c.mark.ensures.same) (ap ticks_of c.mark.ensures.same) (AreNoted-refl c.args.above.now)
     (λ next next' rest was now.
     let same : next ∷ rest ≡ next' ∷ rest = sym was ∙ now in
     let head : next ≡ next' = cc in
     record {
-      stays = λ far a b built. subst (IsConstructionOf contents stamp before a b) head built;
+      stays = λ far a b built. subst (IsConstructionOf contents (kind g) a b) head built;
       of_a = λ first a b new live marked built. let wrong : None ≡ Some 0 = sym c.in-None.is ∙ first in absurd cc;
       of_b = λ second a b new live marked built. let wrong : None ≡ Some 1 = sym c.in-None.is ∙ second in absurd cc;
     }) c.requires.tower
@@ -59,20 +62,8 @@ returns-in-None-clause-tower g c =
 pub returns-in-None-clause-noted : goal.returns-in-None-clause-noted
 returns-in-None-clause-noted g c = AreNoted-refl c.args.above.now
 
-pub returns-in-Some-clause-live : goal.returns-in-Some-clause-live
-returns-in-Some-clause-live g c = live-marked g.B.Part.Part.contents g.B.Item.Item.stamp c.args.item.now c.mark.ensures.marked
+pub returns-in-Some-clause-marked : goal.returns-in-Some-clause-marked
+returns-in-Some-clause-marked g c = IsMarked-of g.B.Part.Part.contents g.B.Item.Item.stamp c.args.item.now c.mark.ensures.same c.mark.ensures.marked
 
-pub returns-in-Some-clause-items : goal.returns-in-Some-clause-items
-returns-in-Some-clause-items g c = items-marked g.B.Part.Part.contents g.B.Item.Item.stamp c.args.item.now c.mark.ensures.marked
-
-pub returns-in-Some-clause-as_many : goal.returns-in-Some-clause-as_many
-returns-in-Some-clause-as_many g c = length-marked g.B.Part.Part.contents g.B.Item.Item.stamp c.args.item.now c.mark.ensures.marked
-
-pub returns-in-None-clause-live : goal.returns-in-None-clause-live
-returns-in-None-clause-live g c = live-marked g.B.Part.Part.contents g.B.Item.Item.stamp c.args.item.now c.mark.ensures.marked
-
-pub returns-in-None-clause-items : goal.returns-in-None-clause-items
-returns-in-None-clause-items g c = items-marked g.B.Part.Part.contents g.B.Item.Item.stamp c.args.item.now c.mark.ensures.marked
-
-pub returns-in-None-clause-as_many : goal.returns-in-None-clause-as_many
-returns-in-None-clause-as_many g c = length-marked g.B.Part.Part.contents g.B.Item.Item.stamp c.args.item.now c.mark.ensures.marked
+pub returns-in-None-clause-marked : goal.returns-in-None-clause-marked
+returns-in-None-clause-marked g c = IsMarked-of g.B.Part.Part.contents g.B.Item.Item.stamp c.args.item.now c.mark.ensures.same c.mark.ensures.marked

@@ -1,9 +1,14 @@
 use Rattle.std.proofs.Common.{◌≡◌, ◌∙◌, List, ◌∷◌, refl, sym, subst}
+use Rattle.builder_trait.specs.Builders.{PartKind}
 use Rattle.stack_levels.specs.Slots.{Slots}
 use Rattle.stack_levels.specs.Neighbours.{IsConstructionOf}
 use Rattle.stack_levels.specs.Marking.{AreNoted}
 use Rattle.stack_levels.proofs.MarkedLevels.{AreNoted-refl}
+use Rattle.stack_levels.proofs.marking.note_above.Given.{Over}
 use Rattle.stack_levels.proofs.marking.note_above.Goals as goal
+
+abbrev kind : (g : Over) → PartKind g.row.B-Item.Denot
+kind g = record { stamp = g.B.Item.Item.stamp; before = g.B.Item.Item.before; slope = g.B.Builder.SLOPE; base = g.B.Builder.BASE }
 
 -- two levels that were read of the same list
 read_twice : {P Item : Type 0} {levels : List (Slots P Item)} {next l next' l' : Slots P Item} {above rest : List (Slots P Item)}
@@ -32,10 +37,10 @@ returns-in-Some-clause-noted g c =
 
 pub returns-in-Some-clause-of_a : goal.returns-in-Some-clause-of_a
 returns-in-Some-clause-of_a g c early l l' rest was is a b new live same =
-    let built = IsConstructionOf g.B.Part.Part.contents g.B.Item.Item.stamp g.B.Item.Item.before in
+    let built = IsConstructionOf g.B.Part.Part.contents (kind g) in
     read_twice (λ v v'. built a b v → built new b v') c.in-Some.ensures.cases.0 was is (c.note.ensures.of_a a b new live same)
 
 pub returns-in-Some-clause-of_b : goal.returns-in-Some-clause-of_b
 returns-in-Some-clause-of_b g c early l l' rest was is a b new live same =
-    let built = IsConstructionOf g.B.Part.Part.contents g.B.Item.Item.stamp g.B.Item.Item.before in
+    let built = IsConstructionOf g.B.Part.Part.contents (kind g) in
     read_twice (λ v v'. built a b v → built a new v') c.in-Some.ensures.cases.0 was is (c.note.ensures.of_b a b new live same)

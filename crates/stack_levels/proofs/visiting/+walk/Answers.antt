@@ -1,8 +1,9 @@
-use Rattle.std.proofs.Common.{◌≡◌, ℕ, ◌+◌, ◌-◌, ◌*◌, ◌^◌, ◌<◌, ◌≤◌, ◌∙◌, ◌∷◌, length, map, subst, sym, ap, ap₂, ⊎_elim, arith}
+use Rattle.std.proofs.Common.{◌≡◌, ℕ, ◌+◌, ◌-◌, ◌*◌, ◌^◌, ◌<◌, ◌≤◌, ◌∙◌, ◌∷◌, length, map, refl, subst, sym, ap, ap₂, ⊎_elim, arith}
 use Rattle.std.proofs.lemmas.Bool.{cases_lt}
 use Rattle.std.proofs.lemmas.List.Elements.{All-cons}
 use Rattle.query_laws.specs.Orders.{AllStampsDiffer}
 use Rattle.query_laws.proofs.Permutations.{Permuted-refl}
+use Rattle.builder_trait.specs.Builders.{PartKind}
 use Rattle.partial_build.specs.Quota.{quota}
 use Rattle.stack_levels.specs.Slots.{ticks_of, held_in, items_in}
 use Rattle.stack_levels.specs.Levels.{weight_of, live_items, all_items}
@@ -14,7 +15,11 @@ use Rattle.stack_levels.proofs.Publishing.{none_of}
 use Rattle.stack_levels.proofs.MarkedLevels.{light_below}
 use Rattle.stack_levels.proofs.Towers.{place, rooms_above, halfway-from_tower, below-same, rooms-walked, live-walked, items-walked, part_of_rest, weight-walked, weight-rest}
 use Rattle.stack_levels.proofs.Spending.{IsWithin-level, IsWithin-above}
+use Rattle.stack_levels.proofs.visiting.+walk.Given.{Over}
 use Rattle.stack_levels.proofs.visiting.+walk.Goals as goal
+
+abbrev kind : (g : Over) → PartKind g.row.B-Item.Denot
+kind g = record { stamp = g.B.Item.Item.stamp; before = g.B.Item.Item.before; slope = g.B.Builder.SLOPE; base = g.B.Builder.BASE }
 
 lighter : {a b m : ℕ} → a ≤ b → b < m → a < m
 lighter le lt = omega (arith, le, lt)
@@ -23,13 +28,12 @@ pub visit-requires : goal.visit-requires
 visit-requires g p c =
     let contents = g.B.Part.Part.contents in
     let stamp = g.B.Item.Item.stamp in
-    let before = g.B.Item.Item.before in
     let lower = c.args.lower.now in
-    let h = subst (IsHalfway contents stamp before lower) c.in-Some.ensures.cases.0 c.requires.halfway in
+    let h = subst (IsHalfway contents (kind g) lower) c.in-Some.ensures.cases.0 c.requires.halfway in
     record {
       below = h.0;
       roomy = h.1;
-      place = place contents stamp before c.in-Some.level.now c.in-Some.above.now h.2;
+      place = place contents (kind g) c.in-Some.level.now c.in-Some.above.now h.2;
       apart = AllStampsDiffer-back stamp (all_items contents c.args.above.now) (items_in contents lower) c.requires.apart;
     }
 
@@ -37,16 +41,15 @@ pub walk-requires : goal.walk-requires
 walk-requires g p c κs lives =
     let contents = g.B.Part.Part.contents in
     let stamp = g.B.Item.Item.stamp in
-    let before = g.B.Item.Item.before in
     let split = c.in-Some.ensures.cases.0 in
     let lower = c.args.lower.now in
     let level = c.in-Some.level.now in
     let above = c.in-Some.above.now in
     let rooms : HaveRooms IsDue level above = subst (HaveRoomsAbove IsDue) split c.requires.rooms in
-    let halfway = halfway-from_tower contents stamp before level c.visit.new.self above (subst (IsHalfway contents stamp before lower) split c.requires.halfway).2
+    let halfway = halfway-from_tower contents (kind g) level c.visit.new.self above (subst (IsHalfway contents (kind g) lower) split c.requires.halfway).2
     rooms c.visit.ensures.visited.advances (ap (λ v. v.level) c.visit.ensures.same) in
     let apart = AllStampsDiffer-part stamp (all_items contents (c.visit.new.self ∷ above)) (all_items contents (lower ∷ level ∷ above))
-    (part_of_rest contents stamp before c.visit.ensures.visited above)
+    (part_of_rest contents (kind g) c.visit.ensures.visited above)
     (subst (λ ls. AllStampsDiffer stamp (all_items contents (lower ∷ ls))) split c.requires.apart) in (
       omega (arith, c.decreases, c.in-Some.ensures.cases.1),
       (lives.0, (lives.1.0, (lives.1.1.0, (lives.1.1.1, (halfway, (rooms_above IsDue level above rooms, apart)))))),
@@ -56,7 +59,6 @@ pub returns-in-Some : goal.returns-in-Some
 returns-in-Some g p c =
     let contents = g.B.Part.Part.contents in
     let stamp = g.B.Item.Item.stamp in
-    let before = g.B.Item.Item.before in
     let slope = g.B.Builder.SLOPE in
     let base = g.B.Builder.BASE in
     let touches = g.B.Part.Part.mark_touches in
@@ -70,27 +72,27 @@ returns-in-Some g p c =
     let v = c.visit.ensures in
     let w = c.walk.ensures in
     let k = lower.level in
-    let next : level.level ≡ k + 1 = (subst (IsHalfway contents stamp before lower) split c.requires.halfway).0.next_level in
+    let next : level.level ≡ k + 1 = (subst (IsHalfway contents (kind g) lower) split c.requires.halfway).0.next_level in
     record {
       tower = (
-        below-same contents stamp before lower' c.visit.new.self level' v.visited.below (ap (λ l. l.level) w.same) (ap (λ l. l.construction) w.same),
+        below-same contents (kind g) lower' c.visit.new.self level' v.visited.below (ap (λ l. l.level) w.same) (ap (λ l. l.construction) w.same),
         w.tower,
       );
-      punctual = All-cons (IsPunctual slope base) level' above' (λ c' is. v.punctual c' (sym (ap (λ l. l.construction) w.same) ∙ is)) w.punctual;
-      live = rw split (live-walked contents stamp before v.visited above (level' ∷ above') w.live);
-      items = rw split (items-walked contents stamp before v.visited above (level' ∷ above') w.items);
-      weight = weight-walked contents stamp before v.visited above level' above' w.weight ∙ ap (λ ls. weight_of (lower ∷ ls)) (sym split);
+      punctual = All-cons (IsPunctual (kind g)) level' above' (λ c' is. v.punctual c' (sym (ap (λ l. l.construction) w.same) ∙ is)) w.punctual;
+      ticked = record {
+        live = rw split (live-walked contents (kind g) v.visited above (level' ∷ above') w.ticked.live);
+        items = rw split (items-walked contents (kind g) v.visited above (level' ∷ above') w.ticked.items);
+        weight = weight-walked contents (kind g) v.visited above level' above' w.ticked.weight ∙ ap (λ ls. weight_of (lower ∷ ls)) (sym split);
+        held = ap₂ (λ n ns. n ∷ ns) v.held_below (w.ticked.held ∙ ap (λ n. n ∷ map held_in above) v.held) ∙ ap (λ ls. map held_in (lower ∷ ls)) (sym split);
+      };
       same = v.same_below;
-      as_many = omega (arith, w.as_many, c.in-Some.ensures.cases.1);
       rooms = λ ahead. rooms-walked lower lower' level c.visit.new.self level' above above' v.visited.advances (ap (λ l. l.level) v.same) v.visited.rooms
           (ap (λ l. l.level) v.same_below) (ap ticks_of v.same_below) (ap (λ l. l.has_room) w.same) w.rooms (subst (HaveRoomsAhead lower) split ahead);
-      held = ap₂ (λ n ns. n ∷ ns) (w.held_below ∙ v.held) w.held ∙ sym (ap (map held_in) split);
-      held_below = v.held_below;
       cost = λ g' light.
           let light' : weight_of (lower ∷ level ∷ above) < 2 ^ (g' + 1) = subst (λ ls. weight_of (lower ∷ ls) < 2 ^ (g' + 1)) split light in
           let rest : IsWithin (quotas slope base (k + 1 + 1) g') (2 * (g' - (k + 1))) (touches g') c.visit.new.steps c.walk.new.steps =
           subst (λ n. IsWithin (quotas slope base (n + 1) g') (2 * (g' - n)) (touches g') c.visit.new.steps c.walk.new.steps)
-          (ap (λ l. l.level) v.same ∙ next) (w.cost g' (lighter (weight-rest contents stamp before v.visited above) light')) in
+          (ap (λ l. l.level) v.same ∙ next) (w.cost g' (lighter (weight-rest contents (kind g) v.visited above) light')) in
           ⊎_elim
           (λ less. subst (λ s. IsWithin (quotas slope base (k + 1) g') (2 * (g' - k)) (touches g') s c.walk.new.steps) (v.idle less)
           (IsWithin-above slope base k g' rest))
@@ -105,14 +107,17 @@ returns-in_default-clause-tower g p c =
     let none = none_of c.args.above.now (omega (arith, c.in_default.ensures.cases)) in
     let contents = g.B.Part.Part.contents in
     let stamp = g.B.Item.Item.stamp in
-    let before = g.B.Item.Item.before in
-    subst (IsTower contents stamp before c.args.lower.now) (sym none) (subst (IsHalfway contents stamp before c.args.lower.now) none c.requires.halfway)
+    subst (IsTower contents (kind g) c.args.lower.now) (sym none) (subst (IsHalfway contents (kind g) c.args.lower.now) none c.requires.halfway)
 
-pub returns-in_default-clause-live : goal.returns-in_default-clause-live
-returns-in_default-clause-live g p c = Permuted-refl (live_items g.B.Part.Part.contents (c.args.lower.now ∷ c.args.above.now))
-
-pub returns-in_default-clause-items : goal.returns-in_default-clause-items
-returns-in_default-clause-items g p c = IsPartOf-refl (all_items g.B.Part.Part.contents (c.args.lower.now ∷ c.args.above.now))
+pub returns-in_default-clause-ticked : goal.returns-in_default-clause-ticked
+returns-in_default-clause-ticked g p c =
+    let levels = c.args.lower.now ∷ c.args.above.now in
+    record {
+      live = Permuted-refl (live_items g.B.Part.Part.contents levels);
+      items = IsPartOf-refl (all_items g.B.Part.Part.contents levels);
+      weight = refl;
+      held = refl;
+    }
 
 pub returns-in_default-clause-rooms : goal.returns-in_default-clause-rooms
 returns-in_default-clause-rooms g p c ahead =

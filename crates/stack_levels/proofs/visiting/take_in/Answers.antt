@@ -12,17 +12,17 @@ take_tick-requires-clause-apart g c =
     (IsPartOf-permuted (all_items contents c.arrive.new.levels) c.arrive.ensures.items) c.requires.apart
 
 pub returns-clause-live : goal.returns-clause-live
-returns-clause-live g c = composed c.take_tick.ensures.live c.arrive.ensures.live
+returns-clause-live g c = composed c.take_tick.ensures.ticked.live c.arrive.ensures.live
 
 pub returns-clause-items : goal.returns-clause-items
 returns-clause-items g c =
     let contents = g.B.Part.Part.contents in
     IsPartOf-then (all_items contents c.take_tick.new.levels) (all_items contents c.arrive.new.levels)
-    ((contents c.args.part).items ++ all_items contents c.args.levels.now) c.take_tick.ensures.items
+    ((contents c.args.part).items ++ all_items contents c.args.levels.now) c.take_tick.ensures.ticked.items
     (IsPartOf-permuted (all_items contents c.arrive.new.levels) c.arrive.ensures.items)
 
 pub returns-clause-rooms : goal.returns-clause-rooms
 returns-clause-rooms g c soon = c.take_tick.ensures.rooms (c.arrive.ensures.rooms_ahead soon)
 
-pub returns-clause-held_above : goal.returns-clause-held_above
-returns-clause-held_above g c = c.take_tick.ensures.held_above ∙ c.arrive.ensures.held_above
+pub returns-clause-held : goal.returns-clause-held
+returns-clause-held g c = c.take_tick.ensures.ticked.held ∙ c.arrive.ensures.held

@@ -1,15 +1,11 @@
-use Rattle.std.proofs.Common.{rules, ◌≡◌, None, ◌∙◌, Some, Result, Ok, Err, IfOk, ap, arith}
-use Rattle.level_slots.proofs.Forecasting.{when_ok, anyway_ok}
+use Rattle.std.proofs.Common.{rules, ◌≡◌, None, ◌∙◌, Some, ap, arith}
+use Rattle.level_slots.proofs.Forecasting.{when_ok, anyway_ok, both_ok}
 use Rattle.level_slots.specs.Stack.{memory_of}
 use Rattle.global_rebuild.specs.Index.{Shadow}
 use Rattle.global_rebuild.proofs.Swapping.{IsSwapped, ended, not_swapped, IsMade, made}
 use Rattle.global_rebuild.proofs.index.Index.prepare.Given.{Over}
 use Rattle.global_rebuild.proofs.index.Index.prepare.Goals.{then-has_walked, else-has_walked}
 use Rattle.global_rebuild.proofs.index.Index.prepare.Goals as goal
-
-both_ok : {A E : Type 0} (p q : Type 0) (r : Result A E) → IfOk r (λ _. p) → IfOk r (λ _. q) → IfOk r (λ _. p × q)
-both_ok p q (Ok x) h k = (h, k)
-both_ok p q (Err e) h k = tt
 
 is_swapped : (g : Over) (c : goal.After-take_memory g)
     → IsSwapped c.walk.new.self c.if-has_walked.self-inside.main c.if-has_walked.self-inside.shadow c.if-has_walked.self-inside.retired

@@ -11,11 +11,11 @@ use Rattle.global_rebuild.proofs.shadow.Shadow.take_next.Goals as goal
 -- one more is live
 more : (g : Over) (c : goal.After-self-1 g) → live_in g.B.Part.Part.contents c.insert.new.self ≡ live_in g.B.Part.Part.contents c.args.self.now.stack + 1
 more g c =
-    omega (arith, Permuted-length c.insert.ensures.live, ap length c.in_ok-prepare.ensures.live, ap (λ r. live_in g.B.Part.Part.contents r.stack) c.self.view_is)
+    omega (arith, Permuted-length c.insert.ensures.live, ap length c.in_ok-prepare.ensures.same.live, ap (λ r. live_in g.B.Part.Part.contents r.stack) c.self.view_is)
 
 pub returns-clause-dead : goal.returns-clause-dead
 returns-clause-dead g c =
-    omega (arith, more g c, c.insert.ensures.weight, c.in_ok-prepare.ensures.weight, ap (λ r. weight_of r.stack.levels) c.self.view_is)
+    omega (arith, more g c, c.insert.ensures.weight, c.in_ok-prepare.ensures.same.weight, ap (λ r. weight_of r.stack.levels) c.self.view_is)
 
 pub returns-clause-taken : goal.returns-clause-taken
 returns-clause-taken g c = inr (more g c)
@@ -29,5 +29,5 @@ returns-clause-shadow g c stamps rise h =
     IsShadowOf-next contents g.B.Item.Item.stamp c.args.self.now (record { stack = c.insert.new.self; cursor = c.next-self-inside.result }) c.args.chain.now.entries
     stamps c.in-Some.handle c.item.result rise h (sym (ap (λ r. r.cursor) c.self.view_is) ∙ c.in-Some.is) c.item.ensures.item c.next-self-inside.ensures.linked
     (c.next-self-inside.ensures.before ∙ c.item.ensures.up_to)
-    (subst (λ l. Permuted (live_items contents c.insert.new.self.levels) (c.item.result ∷ l)) (c.in_ok-prepare.ensures.live ∙ ap (λ r. live_items contents r.stack.levels) c.self.view_is) c.insert.ensures.live)
-    (subst (λ l. IsPartOf (all_items contents c.insert.new.self.levels) (c.item.result ∷ l)) (c.in_ok-prepare.ensures.items ∙ ap (λ r. all_items contents r.stack.levels) c.self.view_is) c.insert.ensures.items)
+    (subst (λ l. Permuted (live_items contents c.insert.new.self.levels) (c.item.result ∷ l)) (c.in_ok-prepare.ensures.same.live ∙ ap (λ r. live_items contents r.stack.levels) c.self.view_is) c.insert.ensures.live)
+    (subst (λ l. IsPartOf (all_items contents c.insert.new.self.levels) (c.item.result ∷ l)) (c.in_ok-prepare.ensures.same.items ∙ ap (λ r. all_items contents r.stack.levels) c.self.view_is) c.insert.ensures.items)

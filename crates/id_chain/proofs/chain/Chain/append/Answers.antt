@@ -25,14 +25,15 @@ returns-clause-entries g c =
     let chain = opened _ _ _ _ c.self.invariant (ap (λ v. v.entries) c.self.view_is) in
     list_of-chain _ _ _ _ (appended_at _ _ _ _ _ _ _ _ _ c.args.item _ chain c.insert_reserved-place.ensures.was_vacant c.insert_reserved-place.ensures.updates (grind arith) c.insert_reserved-place.ensures.len (omega arith) c.link_next.ensures.nodes c.link_next.ensures.first)
 
-pub returns-clause-before : goal.returns-clause-before
-returns-clause-before g c = λ other linked. ap (before other) (returns-clause-entries g c) ∙ before-append other c.args.self.now.entries _ linked
-
-pub returns-clause-after : goal.returns-clause-after
-returns-clause-after g c = λ other linked. ap (after other) (returns-clause-entries g c) ∙ after-append other c.args.self.now.entries _ linked
-
 pub returns-clause-others : goal.returns-clause-others
-returns-clause-others g c = λ other linked. rw (returns-clause-entries g c) (others-append other c.args.self.now.entries _ linked)
+returns-clause-others g c = λ other linked.
+    let kept = others-append other c.args.self.now.entries _ linked in
+    record {
+      linked = rw (returns-clause-entries g c) kept.0;
+      item = rw (returns-clause-entries g c) kept.1;
+      front = ap (before other) (returns-clause-entries g c) ∙ before-append other c.args.self.now.entries _ linked;
+      rest = ap (after other) (returns-clause-entries g c) ∙ after-append other c.args.self.now.entries _ linked;
+    }
 
 pub returns-clause-linked : goal.returns-clause-linked
 returns-clause-linked g c = ap (is_linked _) (returns-clause-entries g c) ∙ linked-append c.args.self.now.entries _

@@ -40,24 +40,23 @@ returns-clause-entries g c =
     list_of-chain _ _ _ _ (unlinked_at _ _ _ _ _ _ _ _ _ c.handle.inside.place _ _ chain linked c.remove-node.ensures.value c.remove-node.ensures.updates c.remove-node.ensures.len c.link_next.ensures.nodes c.link_prev.ensures.nodes (grind arith) c.link_next.ensures.first c.link_prev.ensures.last)
     ∙ ap (λ h. before h c.args.self.now.entries ++ after h c.args.self.now.entries) c.handle.view_is
 
-pub returns-clause-before : goal.returns-clause-before
-returns-clause-before g c = λ other apart. ap (before other) (returns-clause-entries g c) ∙ before-without c.args.handle other c.args.self.now.entries apart
-
-pub returns-clause-before_kept : goal.returns-clause-before_kept
-returns-clause-before_kept g c = λ other apart none. returns-clause-before g c other apart ∙ without_handle-other c.args.handle (before other c.args.self.now.entries) none
-
 pub returns-clause-unlinked : goal.returns-clause-unlinked
 returns-clause-unlinked g c =
     let chain = opened _ _ _ _ c.self.invariant (ap (λ v. v.entries) c.self.view_is) in
     ap (is_linked c.args.handle) (returns-clause-entries g c) ∙ unlinked-without c.args.handle c.args.self.now.entries chain.differ
 
 pub returns-clause-others : goal.returns-clause-others
-returns-clause-others g c = λ other apart. rw (returns-clause-entries g c) (others-without c.args.handle other c.args.self.now.entries apart)
-
-pub returns-clause-after : goal.returns-clause-after
-returns-clause-after g c = λ other apart.
+returns-clause-others g c = λ other apart.
     let chain = opened _ _ _ _ c.self.invariant (ap (λ v. v.entries) c.self.view_is) in
-    ap (after other) (returns-clause-entries g c) ∙ after-without c.args.handle other c.args.self.now.entries chain.differ apart
+    let kept = others-without c.args.handle other c.args.self.now.entries apart in
+    let front = ap (before other) (returns-clause-entries g c) ∙ before-without c.args.handle other c.args.self.now.entries apart in
+    record {
+      linked = rw (returns-clause-entries g c) kept.0;
+      item = rw (returns-clause-entries g c) kept.1;
+      front = front;
+      rest = ap (after other) (returns-clause-entries g c) ∙ after-without c.args.handle other c.args.self.now.entries chain.differ apart;
+      front_kept = λ none. front ∙ without_handle-other c.args.handle (before other c.args.self.now.entries) none;
+    }
 
 pub returns-clause-before_next : goal.returns-clause-before_next
 returns-clause-before_next g c =

@@ -1,25 +1,28 @@
 use Rattle.std.proofs.Common.{◌≡◌, ◌+◌, ◌^◌, ◌<◌, ◌∙◌, ◌++◌, length, take, drop, ap, arith}
 use Rattle.std.proofs.lemmas.List.{take_at}
 use Rattle.query_laws.proofs.Permutations.{Permuted-length}
+use Rattle.builder_trait.specs.Builders.{PartKind}
 use Rattle.stack_levels.specs.Levels.{lowest_held, weight_of, live_items, all_items}
 use Rattle.stack_levels.proofs.Distinct.{AllStampsDiffer-part}
 use Rattle.stack_levels.proofs.MarkedLevels.{one_fewer}
+use Rattle.stack_levels.proofs.Held.{as_many-held, lowest-held}
 use Rattle.level_slots.proofs.Stacks.{IsStack-ticked, IsPartOf-length}
 use Rattle.level_slots.proofs.FewParts.{asked-few, parts-few}
 use Rattle.level_slots.proofs.HeldByLevel.{AreSameHeld, same_held}
 use Rattle.level_slots.proofs.stack.Stack.delete.Given.{Over}
 use Rattle.level_slots.proofs.stack.Stack.delete.Goals as goal
 
-pub take_out-requires-clause-levels : goal.take_out-requires-clause-levels
-take_out-requires-clause-levels g c = rw c.deref_mut.ensures.value c.self.invariant.0.levels
+abbrev kind : (g : Over) → PartKind g.row.B-Item.Denot
+kind g = record { stamp = g.B.Item.Item.stamp; before = g.B.Item.Item.before; slope = g.B.Builder.SLOPE; base = g.B.Builder.BASE }
+
+pub take_out-requires-clause-on_time : goal.take_out-requires-clause-on_time
+take_out-requires-clause-on_time g c =
+    rw c.deref_mut.ensures.value (record { levels = c.self.invariant.0.levels; punctual = c.self.invariant.0.punctual })
 
 pub take_out-requires-clause-rooms : goal.take_out-requires-clause-rooms
 take_out-requires-clause-rooms g c =
     rw c.deref_mut.ensures.value (c.self.invariant.0.rooms (omega (arith, c.requires.spare, ap (λ v. v.spare) c.self.view_is))
     (omega (arith, c.requires.light, ap (λ v. weight_of v.levels) c.self.view_is)))
-
-pub take_out-requires-clause-punctual : goal.take_out-requires-clause-punctual
-take_out-requires-clause-punctual g c = rw c.deref_mut.ensures.value c.self.invariant.0.punctual
 
 pub take_out-requires-clause-apart : goal.take_out-requires-clause-apart
 take_out-requires-clause-apart g c = rw c.deref_mut.ensures.value c.self.invariant.0.apart
@@ -42,7 +45,7 @@ whole : (g : Over) (c : goal.After-self-3-1 g)
     → take c.self.inside.levels.len (c.take_out.new.levels ++ drop (length c.take_out.new.levels) c.self.inside.levels.items) ≡ c.take_out.new.levels
 whole g c =
     take_at c.take_out.new.levels (drop (length c.take_out.new.levels) c.self.inside.levels.items) c.self.inside.levels.len
-    (omega (arith, c.take_out.ensures.as_many, c.deref_mut.ensures.len))
+    (omega (arith, as_many-held _ _ c.take_out.ensures.held, c.deref_mut.ensures.len))
 
 pub invariant_of-self : goal.invariant_of-self
 invariant_of-self g c =
@@ -58,9 +61,9 @@ invariant_of-self g c =
     let live : length (live_items contents new) + 1 ≡ length (live_items contents old) =
     ap (λ n. n + 1) (Permuted-length (rw value at e.live)) ∙ one_fewer contents stamp old c.args.item.now st.apart (rw (← c.self.view_is) at c.requires.live) in
     rw (whole g c) (
-      IsStack-ticked st e.levels e.punctual (AllStampsDiffer-part stamp (all_items contents new) (all_items contents old) (rw value at e.items) st.apart)
-          (omega (arith, weight)) (omega (arith, weight, light)) (e.as_many ∙ ap length value) (omega (arith, c.requires.spare, ap (λ s. s.spare) c.self.view_is))
-          st.starters_few (omega (arith, st.spare_few)) (omega (arith, st.lowest_few, e.lowest, ap lowest_held value))
+      IsStack-ticked st e.on_time (AllStampsDiffer-part stamp (all_items contents new) (all_items contents old) (rw value at e.items) st.apart)
+          (omega (arith, weight)) (omega (arith, weight, light)) (as_many-held _ _ e.held ∙ ap length value) (omega (arith, c.requires.spare, ap (λ s. s.spare) c.self.view_is))
+          st.starters_few (omega (arith, st.spare_few)) (omega (arith, st.lowest_few, lowest-held _ _ e.held, ap lowest_held value))
           (omega (arith, IsPartOf-length (all_items contents new) (all_items contents old) (rw value at e.items), st.small, weight)) (rw value at e.rooms),
       omega (arith, weight, c.self.invariant.1),
       omega (arith, live, c.self.invariant.2),
@@ -79,7 +82,8 @@ returns-clause-weight g c = rw (whole g c, ← seen g c) c.take_out.ensures.weig
 
 held : (g : Over) (c : goal.After-self-3-1 g)
     → AreSameHeld c.take_out.new.levels c.deref_mut.result.now (length c.self.inside.starters.items) c.args.self.now.starters
-held g c = same_held _ _ _ _ (omega (arith, c.take_out.ensures.lowest, ap (λ s. s.starters) c.self.view_is)) c.take_out.ensures.held_above
+held g c =
+    same_held _ _ _ _ (omega (arith, lowest-held _ _ c.take_out.ensures.held, ap (λ s. s.starters) c.self.view_is)) (ap (drop 1) c.take_out.ensures.held)
 
 pub returns-clause-each_level : goal.returns-clause-each_level
 returns-clause-each_level g c = rw (whole g c, ← seen g c) (held g c).each_level
@@ -102,5 +106,5 @@ returns-clause-few_asked g c g' light =
     rw (← c.self.view_is) (omega (
       arith,
       asked-few contents stamp (stamp c.args.item.now) old,
-      parts-few contents stamp g.B.Item.Item.before old c.self.invariant.0.levels g' lighter,
+      parts-few contents (kind g) old c.self.invariant.0.levels g' lighter,
     ))

@@ -4,6 +4,7 @@ use Rattle.query_laws.specs.Orders.{AllStampsDiffer}
 use Rattle.query_laws.proofs.Permutations.{Permuted-length}
 use Rattle.stack_levels.specs.Levels.{lowest_held, weight_of, all_items}
 use Rattle.stack_levels.proofs.Distinct.{AllStampsDiffer-push, AllStampsDiffer-part}
+use Rattle.stack_levels.proofs.Held.{as_many-more, lowest-more, above-more}
 use Rattle.level_slots.proofs.Stacks.{IsStack-ticked, IsPartOf-length, IsWithin-first}
 use Rattle.level_slots.proofs.HeldByLevel.{AreSameHeld, same_held}
 use Rattle.level_slots.proofs.stack.Stack.insert.Given.{Over}
@@ -49,11 +50,15 @@ overflow_add-self-2 g c =
 seen : (g : Over) (c : goal.After-self-4-1 g) → c.deref_mut.result.now ≡ c.args.self.now.levels
 seen g c = c.deref_mut.ensures.value ∙ ap (λ s. s.levels) c.self.view_is
 
+some_there : (g : Over) (c : goal.After-self-4-1 g) → 0 < length c.deref_mut.result.now
+some_there g c =
+    omega (arith, c.self.invariant.0.some (omega (arith, c.requires.spare, ap (λ v. v.spare) c.self.view_is)), ap length c.deref_mut.ensures.value)
+
 whole : (g : Over) (c : goal.After-self-4-1 g)
     → take c.self.inside.levels.len (c.take_in.new.levels ++ drop (length c.take_in.new.levels) c.self.inside.levels.items) ≡ c.take_in.new.levels
 whole g c =
     take_at c.take_in.new.levels (drop (length c.take_in.new.levels) c.self.inside.levels.items) c.self.inside.levels.len
-    (omega (arith, c.take_in.ensures.as_many, c.deref_mut.ensures.len))
+    (omega (arith, as_many-more _ _ c.take_in.ensures.held, c.deref_mut.ensures.len))
 
 pub invariant_of-self : goal.invariant_of-self
 invariant_of-self g c =
@@ -72,11 +77,11 @@ invariant_of-self g c =
     let more = IsPartOf-length (all_items contents new) (c.args.item ∷ all_items contents old) (rw (value, c.part_of-part.ensures.items) at e.items) in
     let items = apart g (goal.at.invariant_of-self g c).After-part_of-part in
     rw (whole g c) (
-      IsStack-ticked st e.levels e.punctual
+      IsStack-ticked st e.on_time
           (AllStampsDiffer-part stamp (all_items contents new) ((contents c.part_of-part.result).items ++ all_items contents old) (rw value at e.items) items)
-          (omega (arith, weight)) (omega (arith, weight, light)) (e.as_many ∙ ap length value) (omega (arith, spare))
+          (omega (arith, weight)) (omega (arith, weight, light)) (as_many-more _ _ e.held ∙ ap length value) (omega (arith, spare))
           (omega (arith, fewer, st.starters_few)) (omega (arith, fewer, st.spare_few, spare))
-          (omega (arith, fewer, st.lowest_few, e.lowest, ap lowest_held value)) (omega (arith, more, st.small, weight)) (rw value at e.rooms),
+          (omega (arith, fewer, st.lowest_few, lowest-more _ _ (some_there g c) e.held, ap lowest_held value)) (omega (arith, more, st.small, weight)) (rw value at e.rooms),
       omega (arith, weight, c.self.invariant.1),
       omega (arith, live, c.self.invariant.2),
       c.part_of-part.ensures.begun,
@@ -95,7 +100,9 @@ returns-clause-weight g c = rw (whole g c, ← seen g c) c.take_in.ensures.weigh
 held : (g : Over) (c : goal.After-self-4-1 g)
     → AreSameHeld c.take_in.new.levels c.deref_mut.result.now (length c.part_of-part.new.starters.items) c.args.self.now.starters
 held g c =
-    same_held _ _ _ _ (omega (arith, c.take_in.ensures.lowest, c.part_of-part.ensures.one_fewer, ap (λ s. s.starters) c.self.view_is)) c.take_in.ensures.held_above
+    same_held _ _ _ _
+    (omega (arith, lowest-more _ _ (some_there g c) c.take_in.ensures.held, c.part_of-part.ensures.one_fewer, ap (λ s. s.starters) c.self.view_is))
+    (above-more _ _ c.take_in.ensures.held)
 
 pub returns-clause-each_level : goal.returns-clause-each_level
 returns-clause-each_level g c = rw (whole g c, ← seen g c) (held g c).each_level

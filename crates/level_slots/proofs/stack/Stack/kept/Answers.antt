@@ -1,14 +1,19 @@
 use Rattle.std.proofs.Common.{◌≤◌, ◌∙◌, All, sym, subst, ap}
+use Rattle.builder_trait.specs.Builders.{PartKind}
 use Rattle.stack_levels.specs.Slots.{held_in}
 use Rattle.level_slots.specs.Rooms.{kept_in}
 use Rattle.level_slots.specs.Preparing.{AreRising}
 use Rattle.level_slots.proofs.Forecasting.{rising}
+use Rattle.level_slots.proofs.stack.Stack.kept.Given.{Over}
 use Rattle.level_slots.proofs.stack.Stack.kept.Goals as goal
+
+abbrev kind : (g : Over) → PartKind g.row.B-Item.Denot
+kind g = record { stamp = g.B.Item.Item.stamp; before = g.B.Item.Item.before; slope = g.B.Builder.SLOPE; base = g.B.Builder.BASE }
 
 pub builders_kept-requires : goal.builders_kept-requires
 builders_kept-requires g c =
     subst AreRising (sym c.deref.ensures.value)
-    (rising g.B.Part.Part.contents g.B.Item.Item.stamp g.B.Item.Item.before c.self.inside.levels.items c.self.invariant.0.levels)
+    (rising g.B.Part.Part.contents (kind g) c.self.inside.levels.items c.self.invariant.0.levels)
 
 pub returns-clause-value : goal.returns-clause-value
 returns-clause-value g c = c.builders_kept.ensures.value ∙ ap kept_in c.deref.ensures.value ∙ ap (λ s. kept_in s.levels) c.self.view_is

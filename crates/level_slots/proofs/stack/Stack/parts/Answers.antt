@@ -4,12 +4,17 @@ use Rattle.std.proofs.lemmas.List.{take_all}
 use Rattle.std.proofs.lemmas.List.Elements.{All-more}
 use Rattle.std.proofs.lemmas.List.Sums.{sum_by_more}
 use Rattle.std.proofs.lemmas.List.Recursion.{is_sum_by}
+use Rattle.builder_trait.specs.Builders.{PartKind}
 use Rattle.builder_trait.specs.Parts.{Contents}
 use Rattle.stack_levels.specs.Slots.{Slots}
 use Rattle.stack_levels.specs.Levels.{weight_of, parts_of}
 use Rattle.stack_levels.specs.Level.{IsOfLevel}
 use Rattle.level_slots.proofs.FewParts.{parts-few, parts-small}
+use Rattle.level_slots.proofs.stack.Stack.parts.Given.{Over}
 use Rattle.level_slots.proofs.stack.Stack.parts.Goals as goal
+
+abbrev kind : (g : Over) → PartKind g.row.B-Item.Denot
+kind g = record { stamp = g.B.Item.Item.stamp; before = g.B.Item.Item.before; slope = g.B.Builder.SLOPE; base = g.B.Builder.BASE }
 
 summed : {P Item : Type 0} (levels : List (Slots P Item)) (n : ℕ) → n ≡ length levels
     → sum_by (λ v. length v.parts) (take n levels) ≡ parts_of levels
@@ -45,7 +50,7 @@ returns-clause-value g c =
 pub returns-clause-few : goal.returns-clause-few
 returns-clause-few g c =
     subst (λ ls. (g' : ℕ) → weight_of ls < 2 ^ (g' + 1) → parts_of ls ≤ 3 * (g' + 1)) (ap (λ s. s.levels) c.self.view_is)
-    (parts-few g.B.Part.Part.contents g.B.Item.Item.stamp g.B.Item.Item.before c.self.inside.levels.items c.self.invariant.0.levels)
+    (parts-few g.B.Part.Part.contents (kind g) c.self.inside.levels.items c.self.invariant.0.levels)
 
 pub returns-clause-sizes : goal.returns-clause-sizes
 returns-clause-sizes g c g' light =

@@ -1,13 +1,18 @@
 use Rattle.std.proofs.Common.{◌≡◌, ◌+◌, ◌∙◌, length, sym, subst, ap, arith}
+use Rattle.builder_trait.specs.Builders.{PartKind}
 use Rattle.level_slots.specs.Rooms.{rooms_in, rooms_of}
 use Rattle.level_slots.specs.Preparing.{AreRising}
 use Rattle.level_slots.proofs.Forecasting.{rising, IsBounded-fits}
+use Rattle.level_slots.proofs.stack.Stack.rooms.Given.{Over}
 use Rattle.level_slots.proofs.stack.Stack.rooms.Goals as goal
+
+abbrev kind : (g : Over) → PartKind g.row.B-Item.Denot
+kind g = record { stamp = g.B.Item.Item.stamp; before = g.B.Item.Item.before; slope = g.B.Builder.SLOPE; base = g.B.Builder.BASE }
 
 pub rooms_held-requires : goal.rooms_held-requires
 rooms_held-requires g c =
     subst AreRising (sym c.deref.ensures.value)
-    (rising g.B.Part.Part.contents g.B.Item.Item.stamp g.B.Item.Item.before c.self.inside.levels.items c.self.invariant.0.levels)
+    (rising g.B.Part.Part.contents (kind g) c.self.inside.levels.items c.self.invariant.0.levels)
 
 pub overflow_add-result : goal.overflow_add-result
 overflow_add-result g c =

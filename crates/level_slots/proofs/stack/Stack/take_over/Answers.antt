@@ -7,8 +7,8 @@ invariant_of-self g c =
     let h = c.self.invariant in
     let k = c.keep.ensures.kept in (
       IsStack-kept _ h.0 k _ (omega arith) h.0.starters_few (omega (arith, c.keep.ensures.lowest, c.len.ensures)),
-      h.1 ∙ sym k.weight,
-      h.2 ∙ ap length (sym k.live),
+      h.1 ∙ sym k.same.weight,
+      h.2 ∙ ap length (sym k.same.live),
       h.3,
       h.4,
     )

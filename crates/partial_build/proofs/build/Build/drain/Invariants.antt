@@ -6,8 +6,8 @@ use Rattle.partial_build.proofs.build.Build.drain.Given as goal
 
 abbrev pub invariant-loop-drained : goal.invariant-loop-drained
 invariant-loop-drained g l = record {
-  builds : (a b : Contents g.row.B-Item.Denot) → Builds g.B.Item.Item.stamp g.B.Item.Item.before l.initial.self a b
-      → Builds g.B.Item.Item.stamp g.B.Item.Item.before l.self a b;
+  builds : (a b : Contents g.row.B-Item.Denot) → Builds (record { stamp = g.B.Item.Item.stamp; before = g.B.Item.Item.before; slope = g.B.Builder.SLOPE; base = g.B.Builder.BASE }) l.initial.self a b
+      → Builds (record { stamp = g.B.Item.Item.stamp; before = g.B.Item.Item.before; slope = g.B.Builder.SLOPE; base = g.B.Builder.BASE }) l.self a b;
   same : l.self ≡ record l.initial.self {
     part = record l.initial.self.part { contents = l.self.part.contents };
     waiting = l.self.waiting;

@@ -1,7 +1,12 @@
 use Rattle.std.proofs.Common.{◌≡◌, ◌∙◌, Some, ap, sym, subst, arith}
+use Rattle.builder_trait.specs.Builders.{PartKind}
 use Rattle.partial_build.specs.Construction.{Builds}
 use Rattle.stack_levels.proofs.Held.{IsLevel-building, counted}
+use Rattle.stack_levels.proofs.level.Level.note.Given.{Over}
 use Rattle.stack_levels.proofs.level.Level.note.Goals as goal
+
+abbrev kind : (g : Over) → PartKind g.row.B-Item.Denot
+kind g = record { stamp = g.B.Item.Item.stamp; before = g.B.Item.Item.before; slope = g.B.Builder.SLOPE; base = g.B.Builder.BASE }
 
 pub invariant_of-self-2 : goal.invariant_of-self-2
 invariant_of-self-2 g c =
@@ -11,7 +16,7 @@ invariant_of-self-2 g c =
 pub returns-clause-of_a : goal.returns-clause-of_a
 returns-clause-of_a g c a b new live same old c' is =
     let contents = g.B.Part.Part.contents in
-    let built = Builds g.B.Item.Item.stamp g.B.Item.Item.before in
+    let built = Builds (kind g) in
     let was : c.args.self.now.construction ≡ Some c.in-Some.construction = sym (ap (λ v. v.construction) c.self.view_is) ∙ c.in-Some.is in
     let e : c.note.new.self ≡ c' = cc in
     subst (λ d. built d (contents new) (contents b)) e
@@ -21,7 +26,7 @@ returns-clause-of_a g c a b new live same old c' is =
 pub returns-clause-of_b : goal.returns-clause-of_b
 returns-clause-of_b g c a b new live same old c' is =
     let contents = g.B.Part.Part.contents in
-    let built = Builds g.B.Item.Item.stamp g.B.Item.Item.before in
+    let built = Builds (kind g) in
     let was : c.args.self.now.construction ≡ Some c.in-Some.construction = sym (ap (λ v. v.construction) c.self.view_is) ∙ c.in-Some.is in
     let e : c.note.new.self ≡ c' = cc in
     subst (λ d. built d (contents a) (contents new)) e

@@ -1,16 +1,21 @@
 use Rattle.std.proofs.Common.{◌≡◌, ◌+◌, ◌^◌, ◌<◌, ◌≤◌, ◌⊎◌, ◌∙◌, Option, Some, None, true, List, ◌++◌, length, drop, refl, sym, ap, subst, inl, inr, ⊎_elim, arith}
 use Rattle.std.specs.Option.{is_some}
 use Rattle.std.proofs.lemmas.Bool.{cases_lt}
+use Rattle.builder_trait.specs.Builders.{PartKind}
 use Rattle.stack_levels.specs.Slots.{ticks_of, items_in}
 use Rattle.stack_levels.specs.Neighbours.{IsVisited}
 use Rattle.stack_levels.proofs.Distinct.{AllStampsDiffer-part}
 use Rattle.stack_levels.proofs.Publishing.{are_oldest, oldest_items}
 use Rattle.stack_levels.proofs.Neighbouring.{fed_by, visited-idle, visited-ticked, visited-published}
+use Rattle.stack_levels.proofs.level.Level.visit.Given.{Over}
 use Rattle.stack_levels.proofs.level.Level.visit.Goals as goal
+
+abbrev kind : (g : Over) → PartKind g.row.B-Item.Denot
+kind g = record { stamp = g.B.Item.Item.stamp; before = g.B.Item.Item.before; slope = g.B.Builder.SLOPE; base = g.B.Builder.BASE }
 
 pub returns-in_default-clause-visited : goal.returns-in_default-clause-visited
 returns-in_default-clause-visited g c =
-    visited-idle g.B.Part.Part.contents g.B.Item.Item.stamp g.B.Item.Item.before c.requires.below
+    visited-idle g.B.Part.Part.contents (kind g) c.requires.below
     (subst (λ ps. length ps < 2) c.parts.ensures.value c.in_default.len_below)
 
 pub begin-requires-clause-apart : goal.begin-requires-clause-apart
@@ -29,7 +34,7 @@ begin-requires-clause-fed g c c' is =
 
 pub publish-requires-clause-fed : goal.publish-requires-clause-fed
 publish-requires-clause-fed g c =
-    fed_by g.B.Part.Part.contents g.B.Item.Item.stamp g.B.Item.Item.before c.args.lower.now c.tick.new.self
+    fed_by g.B.Part.Part.contents (kind g) c.args.lower.now c.tick.new.self
     (are_oldest c.args.lower.now.parts c.parts.ensures.value c.in-len2-up.len_at_least c.a-item.is c.b-item.is) c.tick.ensures.fed
 
 either : {A : Type 0} (o : Option A) → (o ≡ None) ⊎ (is_some o ≡ true)
@@ -41,7 +46,7 @@ returns-clause-visited g c =
     let h = c.requires.below in
     let mid = c.tick.new.self in
     let old = c.args.self.now in
-    let is_visited = IsVisited g.B.Part.Part.contents g.B.Item.Item.stamp g.B.Item.Item.before old c.args.lower.now in
+    let is_visited = IsVisited g.B.Part.Part.contents (kind g) old c.args.lower.now in
     let two : 2 ≤ length c.args.lower.now.parts = subst (λ ps. 2 ≤ length ps) c.parts.ensures.value c.in-len2-up.len_at_least in
     let parts : mid.parts ≡ old.parts = ap (λ v. v.parts) c.tick.ensures.same ∙ ap (λ v. v.parts) c.begin.ensures.same in
     let level : mid.level ≡ old.level = ap (λ v. v.level) c.tick.ensures.same ∙ ap (λ v. v.level) c.begin.ensures.same in
@@ -49,15 +54,15 @@ returns-clause-visited g c =
     let rooms : (old.construction ≡ None) ⊎ (mid.has_room ≡ old.has_room) =
     ⊎_elim (λ none. inl none) (λ some. inr (ap (λ v. v.has_room) c.tick.ensures.same ∙ ap (λ v. v.has_room) (c.begin.ensures.running some)))
     (either old.construction) in
-    let fed = fed_by g.B.Part.Part.contents g.B.Item.Item.stamp g.B.Item.Item.before c.args.lower.now mid
+    let fed = fed_by g.B.Part.Part.contents (kind g) c.args.lower.now mid
     (are_oldest c.args.lower.now.parts c.parts.ensures.value c.in-len2-up.len_at_least c.a-item.is c.b-item.is) c.tick.ensures.fed in
     ⊎_elim
     (λ early. let w = c.publish.ensures.waits early in
     subst (λ n. is_visited n c.publish.new.lower) (sym w.0)
     (subst (λ l. is_visited mid l) (sym w.1)
-    (visited-ticked g.B.Part.Part.contents g.B.Item.Item.stamp g.B.Item.Item.before h two parts level ticked rooms fed early)))
+    (visited-ticked g.B.Part.Part.contents (kind g) h two parts level ticked rooms fed early)))
     (λ late. let ended : ticks_of mid ≡ 2 ^ mid.level = omega (arith, late, ticked, h.early, ap (λ k. 2 ^ k) level) in
-    visited-published g.B.Part.Part.contents g.B.Item.Item.stamp g.B.Item.Item.before h two parts level ticked rooms c.publish.new.self c.publish.new.lower
+    visited-published g.B.Part.Part.contents (kind g) h two parts level ticked rooms c.publish.new.self c.publish.new.lower
     (sym (ended ∙ ap (λ k. 2 ^ k) level)) (c.publish.ensures.ends ended)
     (ap (λ v. v.level) c.publish.ensures.same ∙ level) (ap (λ v. v.level) c.publish.ensures.same_below) (ap (λ v. v.has_room) c.publish.ensures.same))
     (cases_lt (ticks_of mid) (2 ^ mid.level))
