@@ -1,5 +1,5 @@
 -- Rooms by forecast, and what a preparation keeps.
-use Rattle.std.proofs.Common.{◌≡◌, ℕ, suc, ◌+◌, ◌-◌, ◌*◌, ◌^◌, ◌<◌, ◌≤◌, ◌∙◌, Bool, false, List, [], ◌∷◌, ◌++◌, Some, None, length, All, if◌then◌else◌, nat_le, ⊎_elim, Result, Ok, Err, IfOk, OnErr, slice_get, get_or, set, refl, ap, ap₂, sym, subst, arith, pow_mono, le-leb}
+use Rattle.std.proofs.Common.{◌≡◌, ℕ, suc, ◌+◌, ◌-◌, ◌*◌, ◌^◌, ◌<◌, ◌≤◌, ◌∙◌, false, List, [], ◌∷◌, ◌++◌, Some, None, length, All, if◌then◌else◌, nat_le, ⊎_elim, Result, Ok, Err, IfOk, OnErr, slice_get, get_or, set, refl, ap, ap₂, sym, subst, arith, pow_mono, le-leb}
 use Rattle.std.proofs.Math.Nat.{mul-le-mul_left, mul-le-mul_right}
 use Rattle.std.proofs.lemmas.Bool.{cases_lt}
 use Rattle.std.proofs.lemmas.List.{length-append}

@@ -1,5 +1,5 @@
 -- Neighbouring levels through a tick.
-use Rattle.std.proofs.Common.{◌≡◌, ℕ, suc, ◌+◌, ◌*◌, ◌^◌, ◌<◌, ◌≤◌, ◌⊎◌, ◌∙◌, Option, [], ◌∷◌, ◌++◌, Some, None, false, length, drop, inl, inr, refl, ap, ap₂, sym, subst, arith}
+use Rattle.std.proofs.Common.{◌≡◌, suc, ◌+◌, ◌*◌, ◌^◌, ◌<◌, ◌≤◌, ◌⊎◌, ◌∙◌, Option, [], ◌∷◌, ◌++◌, Some, None, false, length, drop, inl, inr, refl, ap, ap₂, sym, subst, arith}
 use Rattle.std.specs.Option.{option_map_or, is_some}
 use Rattle.std.proofs.lemmas.Nat.{pow_pos}
 use Rattle.query_laws.proofs.Permutations.{Permuted-refl}

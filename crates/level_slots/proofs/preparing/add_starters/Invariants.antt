@@ -1,4 +1,4 @@
-use Rattle.std.proofs.Common.{◌≡◌, ◌+◌, ◌-◌, ◌≤◌, length}
+use Rattle.std.proofs.Common.{◌+◌, ◌-◌, ◌≤◌, length}
 use Rattle.stack_levels.specs.Levels.{held_of, lowest_held}
 use Rattle.level_slots.specs.Preparing.{IsKept, AreStarters}
 use Rattle.level_slots.proofs.preparing.add_starters.Given as goal

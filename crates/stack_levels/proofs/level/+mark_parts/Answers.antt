@@ -1,10 +1,10 @@
-use Rattle.std.proofs.Common.{◌≡◌, ℕ, ◌+◌, ◌*◌, ◌^◌, ◌<◌, ◌≤◌, ◌∙◌, Bool, Option, Some, None, IfSome, List, ◌∷◌, ◌++◌, length, All, refl, sym, ap, subst, arith}
+use Rattle.std.proofs.Common.{◌≡◌, ℕ, ◌+◌, ◌*◌, ◌^◌, ◌<◌, ◌≤◌, ◌∙◌, Option, Some, None, IfSome, List, ◌∷◌, ◌++◌, length, All, refl, sym, ap, subst, arith}
 use Rattle.std.specs.List.{flat_map}
 use Rattle.std.specs.Option.{option_map}
 use Rattle.std.proofs.lemmas.List.Elements.{All-head, All-tail}
 use Rattle.query_laws.specs.Orders.{AllStampsDiffer}
 use Rattle.query_laws.specs.StepLedger.{Counts, Spends}
-use Rattle.builder_trait.specs.Parts.{Contents, OwnsStamp, has_stamp, marked}
+use Rattle.builder_trait.specs.Parts.{Contents, OwnsStamp, marked}
 use Rattle.stack_levels.specs.Slots.{asked_in}
 use Rattle.stack_levels.specs.Marking.{Lacks, AreMarkedAt, nowhere, here, later}
 use Rattle.stack_levels.proofs.Distinct.{AllStampsDiffer-back}
