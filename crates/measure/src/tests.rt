@@ -25,7 +25,7 @@ fn differences<L: Ledger>(rt: &HostRuntime, blank: Blank) -> Outcome<[bool; 3]>
     let mut trial = Trial::<RangeRows, Marked<RowsBuilder<RangeRows>>>::new(rt.alloc(), plan)?;
     trial.fill(&mut bench)?;
     trial.items.clear();
-    let part = trial.ask_each(&mut bench);
+    let part = trial.ask_each(2, &mut bench);
     let update = trial.update(&mut bench);
     let mut map = PlainMap::new(rt.alloc());
     check_made_script(&mut bench, &mut map, 0, 500)?;

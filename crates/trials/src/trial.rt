@@ -17,10 +17,8 @@ use std::{fs, mem};
 /// The most updates after the first inserts where answers are compared.
 const COMPARED_UPDATES: usize = 128;
 
-/// How often each question is asked where answers are compared, and where costs are told; there a list is scanned for one of 64.
-const COMPARED: usize = 17;
-
-const ASKED: usize = 1_024;
+/// How often each question is asked before all updates and after them where answers are compared; in between it is twice.
+const SWEPT: usize = 17;
 
 /// How something is tried. Where the items lie densely, answers are compared with those of a plain list, and elsewhere costs are told.
 #[derive(Clone, Copy)]
@@ -147,7 +145,7 @@ impl<K: Kind, T: Tried<RowsBuilder<K>>> Trial<K, T> {
         self.set.settle(&mut bench.steps)?;
         bench.take_in(begun, &mut self.costs)?;
         self.tell_costs("settle", bench)?;
-        self.ask_each(bench)
+        self.ask_each(SWEPT, bench)
     }
 
     /// Makes the updates. Where answers are compared, it asks each question after each tenth.
@@ -160,7 +158,7 @@ impl<K: Kind, T: Tried<RowsBuilder<K>>> Trial<K, T> {
             let change = self.drawn_change(T::DELETES);
             self.change(change, bench)?;
             if self.is_compared() && number % 10 == 0 {
-                self.ask_each(bench)?;
+                self.ask_each(2, bench)?;
             }
         }
         self.tell_costs(T::UPDATES.0, bench)
@@ -174,32 +172,34 @@ impl<K: Kind, T: Tried<RowsBuilder<K>>> Trial<K, T> {
         for pick in 0..self.items.len() {
             self.change(Change::Delete(pick), bench)?;
         }
-        self.ask_each(bench)
+        self.ask_each(SWEPT, bench)
     }
 
-    /// Asks each question of the kind, so often as the plan wants. `Differs` where an answer isn't that of a scan.
-    pub fn ask_each<L: Ledger>(&mut self, bench: &mut Bench<L>) -> Outcome {
+    /// Asks each question of the kind, so often where answers are compared. `Differs` where one isn't that of a scan.
+    pub fn ask_each<L: Ledger>(&mut self, asked: usize, bench: &mut Bench<L>) -> Outcome {
         let live: Vec<K::Item> = self.items.iter().flatten().copied().collect(bench.alloc)?;
         for (word, class) in K::ASKED {
-            self.ask(word, *class, &live, bench)?;
+            self.ask((word, *class, asked), &live, bench)?;
         }
         Ok(())
     }
 
+    /// Asks a question, and tells what that costs: of 1,024 where nothing is compared.
     fn ask<L: Ledger>(
         &mut self,
-        word: &str,
-        class: u32,
+        (word, class, asked): (&str, u32, usize),
         live: &[K::Item],
         bench: &mut Bench<L>,
     ) -> Outcome {
         let (asked, scanned) = match (self.is_compared(), bench.is_timed) {
-            (true, _) => (COMPARED, COMPARED),
-            (false, true) => (ASKED, ASKED / 64),
-            (false, false) => (ASKED, 0),
+            (true, _) => (asked, asked),
+            (false, true) => (1_024, 16),
+            (false, false) => (1_024, 0),
         };
         for number in 0..asked {
             let scanned = (number < scanned).then_some(live);
+            let drawn = self.generator.below(SWEPT as u32) as usize;
+            let number = if asked == SWEPT { number } else { drawn };
             match self.put((word, class, number), scanned, bench) {
                 Err(Failure::NoMemory(_)) => bench.refused = bench.refused.wrapping_add(1),
                 done => done?,
@@ -265,7 +265,7 @@ impl<K: Kind, T: Tried<RowsBuilder<K>>> Trial<K, T> {
         let mut done = self.make(change, bench);
         if matches!(done, Err(Failure::NoMemory(_))) {
             bench.refused = bench.refused.wrapping_add(1);
-            self.ask_each(bench)?;
+            self.ask_each(2, bench)?;
             done = self.make(change, bench);
         }
         done?;
