@@ -6,7 +6,7 @@ use Rattle.builder_trait.specs.Parts.{Contents}
 use Rattle.id_chain.specs.Chain.{Entry}
 use Rattle.stack_levels.specs.Levels.{live_items, weight_of}
 use Rattle.level_slots.specs.Stack.{Stacked, memory_of}
-use Rattle.global_rebuild.specs.Index.{Shadow, Indexed, IsKept, IsIndexOf, IsInTime, live_in, unwalked, walked_on, shadow_weight, retired_parts, retired_parts_on, main_weight_on, shadow_weight_on}
+use Rattle.global_rebuild.specs.Index.{Shadow, Indexed, IsKept, IsIndexOf, IsInTime, live_in, retired_parts, IsWalkedOn, HasPaused}
 use Rattle.global_rebuild.proofs.Weights.{walked_few, ended_all}
 
 none_before : {A : Type 0} (a b : Option A) → is_some a ≡ is_some b → a ≡ None → b ≡ None
@@ -35,10 +35,7 @@ not_swapped {P} {Item} i {main} {shadow} {retired} some main_is shadow_is put = 
 
 -- what a preparation makes of an index, and that it is four items ahead while a rebuild runs
 pub record IsMade {P Item : Type 0} (contents : P → Contents Item) (old new : Indexed P Item) : Type 0 where
-  pub walked : unwalked contents new ≡ walked_on (unwalked contents old)
-  pub weight : weight_of new.main.levels ≡ main_weight_on contents old
-  pub shadow_weight : shadow_weight new ≡ shadow_weight_on contents old
-  pub retired : retired_parts new ≡ retired_parts_on contents old
+  pub on : IsWalkedOn contents old new
   pub ahead : (r : Shadow P Item) → new.shadow ≡ Some r → IsInTime contents 4 new.main r × (1 ≤ live_in contents new.main - live_in contents r.stack)
 
 -- the walk makes `i` of the index, the swap puts three fields in it, and then a retired part is given up and memory is taken
@@ -69,10 +66,12 @@ module _ {P Item : Type 0} {contents : P → Contents Item} {stamp : Item → �
     | quiet at same over put ↦
         let was = none_before i.shadow old.shadow runs at in
         record {
-          walked = rw (none over, was);
-          weight = rw was (same_weight same);
-          shadow_weight = rw (none over, was);
-          retired = rw was (one_fewer put);
+          on = record {
+            walked = rw (none over, was);
+            weight = rw was (same_weight same);
+            shadow_weight = rw (none over, was);
+            retired = rw was (one_fewer put);
+          };
           ahead = gone over;
         }
     | going r is at same same' put ↦
@@ -86,10 +85,12 @@ module _ {P Item : Type 0} {contents : P → Contents Item} {stamp : Item → �
         let many : nat_le (live_in contents old.main - live_in contents x.0.stack) 4 ≡ false = grind (arith, nat_tests, fewer, four, total) in
         let t = in_time r is at in
         record {
-          walked = rw (k.1, x.1, many) (ap Some (omega (arith, all, total, kept, four)));
-          weight = rw (x.1, many) (same_weight same);
-          shadow_weight = rw (k.1, x.1, many) (omega (arith, k.2.weight, dead x.0 r x.1 is, four));
-          retired = rw (x.1, many) (one_fewer put);
+          on = record {
+            walked = rw (k.1, x.1, many) (ap Some (omega (arith, all, total, kept, four)));
+            weight = rw (x.1, many) (same_weight same);
+            shadow_weight = rw (k.1, x.1, many) (omega (arith, k.2.weight, dead x.0 r x.1 is, four));
+            retired = rw (x.1, many) (one_fewer put);
+          };
           ahead = λ r' there.
               let itself : k.0 ≡ r' = let both : Some k.0 ≡ Some r' = sym k.1 ∙ there in cc in
               subst (λ y. IsInTime contents 4 new.main y × (1 ≤ live_in contents new.main - live_in contents y.stack)) itself (
@@ -107,11 +108,26 @@ module _ {P Item : Type 0} {contents : P → Contents Item} {stamp : Item → �
         let total = ap (live_in contents) main_is in
         let few : nat_le (live_in contents old.main - live_in contents x.0.stack) 4 ≡ true = grind (arith, nat_tests, all, at_most x.0 r x.1 is, total) in
         record {
-          walked = rw (none over, x.1, few);
-          weight = rw (x.1, few)
-              (omega (arith, weight, ap (λ m. weight_of m.levels) same, dead x.0 r x.1 is, no_fewer x.0 r x.1 is, all, total));
-          shadow_weight = rw (none over, x.1, few);
-          retired = rw (x.1, few) (one ∙ ap (λ o. option_map_or (λ n. n) o 0 - 1) put ∙ ap (λ m. memory_of m - 1) main_is);
+          on = record {
+            walked = rw (none over, x.1, few);
+            weight = rw (x.1, few)
+                (omega (arith, weight, ap (λ m. weight_of m.levels) same, dead x.0 r x.1 is, no_fewer x.0 r x.1 is, all, total));
+            shadow_weight = rw (none over, x.1, few);
+            retired = rw (x.1, few) (one ∙ ap (λ o. option_map_or (λ n. n) o 0 - 1) put ∙ ap (λ m. memory_of m - 1) main_is);
+          };
           ahead = gone over;
         }
   ]
+
+-- the walk was refused memory
+pub paused : {P Item : Type 0} {contents : P → Contents Item} (old new : Indexed P Item)
+    → (new.main ≡ old.main) × (new.retired ≡ old.retired) × (is_some new.shadow ≡ is_some old.shadow)
+    → ((r r' : Shadow P Item) → old.shadow ≡ Some r → new.shadow ≡ Some r' → live_in contents r'.stack ≤ live_in contents r.stack + 4)
+    → ((r r' : Shadow P Item) → old.shadow ≡ Some r → new.shadow ≡ Some r' → live_in contents r.stack ≤ live_in contents r'.stack)
+    → HasPaused contents old new
+paused old new same at_most no_fewer = record {
+  main = same.0;
+  retired = same.1;
+  none = none_before old.shadow new.shadow (sym same.2);
+  going = λ r there. let x = some_before old.shadow new.shadow (sym same.2) there in (x.0, x.1, no_fewer r x.0 there x.1, at_most r x.0 there x.1);
+}

@@ -6,7 +6,7 @@ use Rattle.builder_trait.specs.Parts.{Contents}
 use Rattle.id_chain.specs.Chain.{Entry, HandlesDiffer, item_at, IsCursor, before_cursor}
 use Rattle.id_chain.specs.StampsRise.{StampsRise}
 use Rattle.stack_levels.specs.Levels.{live_items, all_items, weight_of}
-use Rattle.level_slots.specs.Stack.{Stacked, memory_of}
+use Rattle.level_slots.specs.Stack.{Stacked, held_by_level, memory_of}
 use Rattle.level_slots.specs.Rooms.{rooms_of, forecast_of}
 
 -- the stack that is being made, and the cursor of the walk along the chain: the handle of the item that comes next
@@ -43,6 +43,14 @@ shadow_weight i = option_map_or (λ r. weight_of r.stack.levels) i.shadow 0
 abbrev pub shadow_rooms : {P Item : Type 0} → Indexed P Item → ℕ
 shadow_rooms i = option_map_or (λ r. rooms_of r.stack) i.shadow 0
 
+-- no memory was taken and none was freed: each stack holds what it held on each level, a shadow that is new holds none, and of a retired
+-- stack as many parts are left
+pub record HoldsAsMuch {P Item : Type 0} (old new : Indexed P Item) : Type 0 where
+  pub main : held_by_level new.main ≡ held_by_level old.main
+  pub shadow : (r r' : Shadow P Item) → old.shadow ≡ Some r → new.shadow ≡ Some r' → held_by_level r'.stack ≡ held_by_level r.stack
+  pub fresh : old.shadow ≡ None → (r' : Shadow P Item) → new.shadow ≡ Some r' → memory_of r'.stack ≡ 0
+  pub retired : new.retired ≡ old.retired
+
 -- a stack holds no more rooms than may be wanted within two ticks
 abbrev pub IsForecast : {P Item : Type 0} → Stacked P Item → Type 0
 IsForecast s = rooms_of s ≤ 2 + forecast_of s.levels
@@ -77,6 +85,21 @@ module _ {P Item : Type 0} (contents : P → Contents Item) where
   -- how many parts of a retired stack are in memory then, of which one is given up
   abbrev pub retired_parts_on : Indexed P Item → ℕ
   retired_parts_on i = option_map_or (λ w. if nat_le w 4 then memory_of i.main else retired_parts i) (unwalked i) (retired_parts i) - 1
+
+  -- what a preparation makes of a walk and of the weights: the walk goes on by four, and ends the rebuild where it comes by all
+  pub record IsWalkedOn (old new : Indexed P Item) : Type 0 where
+    pub walked : unwalked new ≡ walked_on (unwalked old)
+    pub weight : weight_of new.main.levels ≡ main_weight_on old
+    pub shadow_weight : shadow_weight new ≡ shadow_weight_on old
+    pub retired : retired_parts new ≡ retired_parts_on old
+
+  -- a walk that was refused memory: some items were handed over, four at most, and nothing else changed
+  pub record HasPaused (old new : Indexed P Item) : Type 0 where
+    pub main : new.main ≡ old.main
+    pub retired : new.retired ≡ old.retired
+    pub none : old.shadow ≡ None → new.shadow ≡ None
+    pub going : (r : Shadow P Item) → old.shadow ≡ Some r → (r' : Shadow P Item) × (new.shadow ≡ Some r')
+        × (live_in r.stack ≤ live_in r'.stack) × (live_in r'.stack ≤ live_in r.stack + 4)
 
   -- more of the weight is dead than half of what is live, and eight
   abbrev pub is_heavy : Stacked P Item → Bool

@@ -1,5 +1,5 @@
 //! The index.
-ghost use Rattle.std.specs.Prelude.{◌≡◌, ℕ, ◌+◌, ◌-◌, ◌*◌, ◌^◌, ◌<◌, ◌≤◌, ◌⊎◌, ◌++◌, ◌∷◌, [], List, None, Some, true, false, if◌then◌else◌, IfOk, IsTrue, IsErr, OnErr, length, map};
+ghost use Rattle.std.specs.Prelude.{◌≡◌, ℕ, ◌+◌, ◌-◌, ◌*◌, ◌^◌, ◌<◌, ◌≤◌, ◌⊎◌, ◌++◌, ◌∷◌, [], All, List, None, Some, true, false, if◌then◌else◌, IfOk, IsTrue, IsErr, OnErr, length, map};
 ghost use Rattle.std.specs.Option.{is_some, option_map, option_map_or};
 ghost use Rattle.query_laws.specs.StepLedger.{Spends};
 ghost use Rattle.id_chain.specs.Chain.{Entry, HandlesDiffer, is_linked, item_at, IsCursor, before_cursor, without_handle};
@@ -8,12 +8,14 @@ ghost use Rattle.level_slots.specs.Stack.{memory_of};
 ghost use Rattle.level_slots.specs.Rooms.{rooms_of};
 ghost use Rattle.level_slots.specs.Height.{HaveAtMost, AreFew, size_of};
 ghost use Rattle.stack_levels.specs.Cost.{IsWithin, quotas};
-ghost use Rattle.global_rebuild.specs.Index.{Shadow as Walked, live_in, unwalked, walked_on, shadow_weight, main_weight_on, shadow_weight_on, shadow_rooms, retired_parts, retired_parts_on, is_heavy, IsForecast, IsKept, IsInTime, IsIndex, IsIndexOf, IsPrepared};
+ghost use Rattle.stack_levels.specs.Towers.{AreOnTime};
+ghost use Rattle.global_rebuild.specs.Index.{Shadow as Walked, live_in, unwalked, shadow_weight, shadow_rooms, retired_parts, is_heavy, IsForecast, IsKept, IsInTime, IsIndex, IsIndexOf, IsPrepared, HoldsAsMuch, IsWalkedOn, HasPaused};
 
 use crate::shadow::Shadow;
 use builder_trait::{Answers, Asking, Builder, Part};
 use id_chain::{Chain, Handle};
 use level_slots::{Retired, Stack};
+use partial_build::Kinded;
 use query_laws::step_ledger::Steps;
 use query_laws::{Item, NoMemory, Question};
 use std::alloc::Global;
@@ -76,10 +78,10 @@ impl<B: Builder> Index<B> {
         ensures prepared { IfOk result (λ _. IsPrepared B.Part.Part.contents self.new) }
         ensures rooms { IfOk result (λ _. IsForecast self.new.main) }
         ensures shadow_rooms { IfOk result (λ _. (r : Walked B.Part B.Item) → self.new.shadow ≡ Some r → IsForecast r.stack) }
-        ensures walked { IfOk result (λ _. unwalked B.Part.Part.contents self.new ≡ walked_on (unwalked B.Part.Part.contents self.old)) }
-        ensures weights { IfOk result (λ _. (weight_of self.new.main.levels ≡ main_weight_on B.Part.Part.contents self.old)
-            × (shadow_weight self.new ≡ shadow_weight_on B.Part.Part.contents self.old)) }
-        ensures retired { IfOk result (λ _. retired_parts self.new ≡ retired_parts_on B.Part.Part.contents self.old) }
+        ensures walked { IfOk result (λ _. IsWalkedOn B.Part.Part.contents self.old self.new) }
+
+        // No rebuild begins, and none that runs is given up.
+        ensures refused { OnErr result (IsWalkedOn B.Part.Part.contents self.old self.new ⊎ HasPaused B.Part.Part.contents self.old self.new) }
         ensures cost { (g : ℕ) → 2 * live_in B.Part.Part.contents self.old.main + 10 < 2 ^ (g + 1)
             → IsWithin (4 * quotas B.SLOPE B.BASE 0 g) (4 * (2 * g)) (B.Part.Part.mark_touches g) steps.old steps.new }
     {
@@ -107,7 +109,8 @@ impl<B: Builder> Index<B> {
         ensures chain { (item : B.Item) → item_at handle chain.now.entries ≡ Some item
             → IsIndexOf B.Part.Part.contents B.Item.stamp self.new chain.now.entries (B.Item.stamp item + 1) }
         ensures weight { weight_of self.new.main.levels ≡ weight_of self.old.main.levels + 1 }
-        ensures rebuild { (self.new.shadow ≡ self.old.shadow) × (self.new.retired ≡ self.old.retired) }
+        ensures rebuild { self.new.shadow ≡ self.old.shadow }
+        ensures held { HoldsAsMuch self.old self.new }
         ensures some_turns { steps.old.turns + 3 ≤ steps.new.turns }
         ensures cost { (g : ℕ) → 2 * live_in B.Part.Part.contents self.old.main + 10 < 2 ^ (g + 1)
             → IsWithin (quotas B.SLOPE B.BASE 0 g) (2 * g) (B.Part.Part.mark_touches g) steps.old steps.new }
@@ -131,7 +134,7 @@ impl<B: Builder> Index<B> {
             → IsIndexOf B.Part.Part.contents B.Item.stamp self.new (without_handle handle chain.now.entries) stamps }
         ensures weight { weight_of self.new.main.levels ≡ weight_of self.old.main.levels }
         ensures shadow_weight { shadow_weight self.new ≡ shadow_weight self.old }
-        ensures retired { self.new.retired ≡ self.old.retired }
+        ensures held { HoldsAsMuch self.old self.new }
         ensures starts { self.old.shadow ≡ None → unwalked B.Part.Part.contents self.new
             ≡ (if is_heavy B.Part.Part.contents self.new.main then Some (live_in B.Part.Part.contents self.new.main) else None) }
         ensures goes_on { (r : Walked B.Part B.Item) → self.old.shadow ≡ Some r → unwalked B.Part.Part.contents self.new
@@ -227,7 +230,9 @@ impl<B: Builder> Index<B> {
     pub fn parts(&self) -> u32
         ensures value { result ≡ parts_of self.now.main.levels }
 
-        // At most three of a level.
+        // The levels stand as between two ticks, each construction on time, and with at most three parts each.
+        ensures on_time { AreOnTime B.Part.Part.contents ⟦<B as Kinded>⟧.kind self.now.main.levels }
+        ensures three { All (λ l. length l.parts ≤ 3) self.now.main.levels }
         ensures few { (g : ℕ) → 2 * live_in B.Part.Part.contents self.now.main + 10 < 2 ^ (g + 1) → parts_of self.now.main.levels ≤ 3 * (g + 1) }
         ensures sizes { (g : ℕ) → 2 * live_in B.Part.Part.contents self.now.main + 10 < 2 ^ (g + 1) → HaveAtMost B.Part.Part.contents (2 ^ g) self.now.main.levels }
     {

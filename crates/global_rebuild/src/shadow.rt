@@ -7,6 +7,7 @@ ghost use Rattle.id_chain.specs.StampsRise.{StampsRise};
 ghost use Rattle.stack_levels.specs.Slots.{IsPartOf};
 ghost use Rattle.stack_levels.specs.Levels.{weight_of, live_items, all_items};
 ghost use Rattle.stack_levels.specs.Cost.{IsWithin, quotas};
+ghost use Rattle.level_slots.specs.Stack.{held_by_level};
 ghost use Rattle.level_slots.specs.Rooms.{rooms_of};
 ghost use Rattle.global_rebuild.specs.Index.{live_in, IsForecast, IsShadowOf};
 
@@ -119,6 +120,7 @@ impl<B: Builder> Shadow<B> {
         ensures items { IsPartOf (all_items B.Part.Part.contents self.new.stack.levels) (all_items B.Part.Part.contents self.old.stack.levels) }
         ensures weight { weight_of self.new.stack.levels ≡ weight_of self.old.stack.levels }
         ensures cursor { self.new.cursor ≡ self.old.cursor }
+        ensures each_level { held_by_level self.new.stack ≡ held_by_level self.old.stack }
         ensures cost { (g : ℕ) → weight_of self.new.stack.levels < 2 ^ (g + 1)
             → IsWithin (quotas B.SLOPE B.BASE 1 g) (5 * g + 3) (B.Part.Part.mark_touches g) steps.old steps.new }
     {

@@ -66,6 +66,16 @@ module _ {P Item : Type 0} (contents : P → Contents Item) where
         counted (length l.parts) l.level g (parts_of (next ∷ above)) h.few
         (λ some. light_level (length l.parts) l.level g (weight_of (next ∷ above)) some light) rest
 
+    tower-three : (l : Slots P Item) (above : List (Slots P Item)) → IsTower contents kind l above → All (λ v. length v.parts ≤ 3) (l ∷ above)
+    tower-three l [] tower = All-cons (λ v. length v.parts ≤ 3) l [] (omega (arith, tower)) (All-nil (λ v. length v.parts ≤ 3))
+    tower-three l (next ∷ above) tower =
+        All-cons (λ v. length v.parts ≤ 3) l (next ∷ above) tower.0.few (tower-three next above tower.1)
+
+    -- no level has more than three
+    pub three : (levels : List (Slots P Item)) → AreAllLevels contents kind levels → All (λ v. length v.parts ≤ 3) levels
+    three [] h = All-nil (λ v. length v.parts ≤ 3)
+    three (lowest ∷ above) h = tower-three lowest above h.2
+
     -- at most three of each level, and none is of a level above that of the weight
     pub parts-few : (levels : List (Slots P Item)) → AreAllLevels contents kind levels → (g : ℕ) → weight_of levels < 2 ^ (g + 1)
         → parts_of levels ≤ 3 * (g + 1)

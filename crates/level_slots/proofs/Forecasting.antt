@@ -169,6 +169,10 @@ pub both_ok : {A E : Type 0} (p q : Type 0) (r : Result A E) → IfOk r (λ _. p
 both_ok p q (Ok x) h k = (h, k)
 both_ok p q (Err e) h k = tt
 
+pub anyway_err : {A E p : Type 0} (r : Result A E) → p → OnErr r p
+anyway_err (Ok x) h = tt
+anyway_err (Err e) h = h
+
 pub anyway_ok : {A E p : Type 0} (r : Result A E) → p → IfOk r (λ _. p)
 anyway_ok (Ok x) h = h
 anyway_ok (Err e) h = tt

@@ -11,11 +11,13 @@ ghost use Rattle.level_slots.specs.Stack.{Stacked, HaveSameItems, held_by_level,
 ghost use Rattle.level_slots.specs.Height.{IsHeight, HaveAtMost, AreFew, size_of};
 ghost use Rattle.stack_levels.specs.Level.{IsOfLevel};
 ghost use Rattle.stack_levels.specs.Cost.{IsWithin, quotas};
+ghost use Rattle.stack_levels.specs.Towers.{AreOnTime};
 ghost use Rattle.level_slots.specs.Rooms.{rooms_of, kept_in, forecast_of};
 
 use crate::preparing::{builders_kept, rooms_held, take_memory};
 use crate::retired::{Retired, keep};
 use builder_trait::{Answers, Asking, Builder, Part, part_of_one};
+use partial_build::Kinded;
 use query_laws::step_ledger::Steps;
 use query_laws::{Item, NoMemory, Question};
 use stack_levels::{Level, ask_levels, take_in, take_out};
@@ -181,6 +183,10 @@ impl<B: Builder> Stack<B> {
     /// The number of complete parts.
     pub fn parts(&self) -> u32
         ensures value { result ≡ parts_of self.now.levels }
+
+        // The levels stand as between two ticks, each construction on time, and with at most three parts each.
+        ensures on_time { AreOnTime B.Part.Part.contents ⟦<B as Kinded>⟧.kind self.now.levels }
+        ensures three { All (λ l. length l.parts ≤ 3) self.now.levels }
 
         // Whichever bound g there is, as for an insert.
         ensures few { (g : ℕ) → weight_of self.now.levels < 2 ^ (g + 1) → parts_of self.now.levels ≤ 3 * (g + 1) }

@@ -17,7 +17,7 @@ use std::{fs, mem};
 /// The most updates after the first inserts where answers are compared.
 const COMPARED_UPDATES: usize = 128;
 
-/// How often each question is asked before all updates and after them where answers are compared; in between it is twice.
+/// How often each question is asked before all updates where answers are compared; afterwards it is twice each time.
 const SWEPT: usize = 17;
 
 /// How something is tried. Where the items lie densely, answers are compared with those of a plain list, and elsewhere costs are told.
@@ -172,7 +172,7 @@ impl<K: Kind, T: Tried<RowsBuilder<K>>> Trial<K, T> {
         for pick in 0..self.items.len() {
             self.change(Change::Delete(pick), bench)?;
         }
-        self.ask_each(SWEPT, bench)
+        self.ask_each(2, bench)
     }
 
     /// Asks each question of the kind, so often where answers are compared. `Differs` where one isn't that of a scan.

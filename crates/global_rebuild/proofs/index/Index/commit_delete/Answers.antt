@@ -1,14 +1,22 @@
-use Rattle.std.proofs.Common.{rules, ◌≡◌, ℕ, ◌+◌, ◌*◌, ◌^◌, ◌<◌, true, arith}
+use Rattle.std.proofs.Common.{rules, ◌≡◌, ℕ, ◌+◌, ◌*◌, ◌^◌, ◌<◌, ◌∙◌, true, Option, Some, None, [], ap, sym, arith}
 use Rattle.id_chain.specs.Chain.{is_linked, before_cursor}
 use Rattle.stack_levels.specs.Levels.{weight_of}
 use Rattle.stack_levels.specs.Cost.{IsWithin, quotas}
-use Rattle.global_rebuild.specs.Index.{IsIndexOf, live_in}
+use Rattle.level_slots.specs.Stack.{held_by_level, memory_of}
+use Rattle.global_rebuild.specs.Index.{Shadow, IsIndexOf, live_in}
 use Rattle.global_rebuild.proofs.Forgetting.{live_item}
 use Rattle.global_rebuild.proofs.Weights.{main_few, main_light}
 use Rattle.global_rebuild.proofs.Dropping.{IsDropped, few_left, walked_light, walked_few_enough, walked_item, starts, stays_quiet, goes_on_without, goes_on_moved, goes_on_after, left_without, left_after, one_delete, at_most_two, both_deletes}
 use Rattle.global_rebuild.proofs.index.Index.commit_delete.Given.{Over}
 use Rattle.global_rebuild.proofs.index.Index.commit_delete.Goals.{After-delete}
 use Rattle.global_rebuild.proofs.index.Index.commit_delete.Goals as goal
+
+-- a stack without levels holds nothing
+fresh_holds_none : {P Item : Type 0} (cursor : Option ℕ) (r : Shadow P Item)
+    → Some (record { stack = record { levels = []; spare = 0; starters = 0 }; cursor = cursor }) ≡ Some r → memory_of r.stack ≡ 0
+fresh_holds_none {P} {Item} cursor r is =
+    let same : record { stack = record { levels = []; spare = 0; starters = 0 }; cursor = cursor } ≡ r = cc in
+    ap (λ (s : Shadow P Item). memory_of s.stack) (sym same)
 
 pub delete-requires-clause-light : goal.delete-requires-clause-light
 delete-requires-clause-light g c = main_light c.self.view_is c.self.invariant c.requires.chain.1
@@ -147,3 +155,13 @@ returns-then-eq-clause-goes_on g c r there =
 pub returns-else-eq-clause-goes_on : goal.returns-else-eq-clause-goes_on
 returns-else-eq-clause-goes_on g c r there =
     left_after (some_dropped g (goal.at.returns-else-eq-clause-goes_on g c).After-delete) c.in-Some.shadow c.in-Some.is r there (search rules)
+
+pub returns-then-weight-live-clause-held : goal.returns-then-weight-live-clause-held
+returns-then-weight-live-clause-held g c =
+    let none : c.self.inside.shadow ≡ None = search rules in
+    rw (c.start.ensures.started, c.new.ensures) (record {
+      main = c.delete.ensures.each_level ∙ ap (λ i. held_by_level i.main) c.self.view_is;
+      shadow = λ r r' was now. let wrong : None ≡ Some r = sym none ∙ ap (λ i. i.shadow) c.self.view_is ∙ was in absurd cc;
+      fresh = λ _ r' now. fresh_holds_none c.first_but.result r' now;
+      retired = ap (λ i. i.retired) c.self.view_is;
+    })

@@ -1,8 +1,8 @@
-use Rattle.std.proofs.Common.{rules, ◌≡◌, None, ◌∙◌, Some, ap, arith}
-use Rattle.level_slots.proofs.Forecasting.{when_ok, anyway_ok, both_ok}
+use Rattle.std.proofs.Common.{rules, ◌≡◌, None, ◌∙◌, Some, inl, inr, ap, arith}
+use Rattle.level_slots.proofs.Forecasting.{when_ok, anyway_ok, anyway_err, both_ok}
 use Rattle.level_slots.specs.Stack.{memory_of}
 use Rattle.global_rebuild.specs.Index.{Shadow}
-use Rattle.global_rebuild.proofs.Swapping.{IsSwapped, ended, not_swapped, IsMade, made}
+use Rattle.global_rebuild.proofs.Swapping.{IsSwapped, ended, not_swapped, IsMade, made, paused}
 use Rattle.global_rebuild.proofs.index.Index.prepare.Given.{Over}
 use Rattle.global_rebuild.proofs.index.Index.prepare.Goals.{then-has_walked, else-has_walked}
 use Rattle.global_rebuild.proofs.index.Index.prepare.Goals as goal
@@ -39,10 +39,10 @@ returns-clause-prepared g c =
     }) (both_ok _ _ c.take_memory.result e.spare e.spare_too)
 
 pub returns-clause-walked : goal.returns-clause-walked
-returns-clause-walked g c = anyway_ok c.take_memory.result (made_of g c).walked
+returns-clause-walked g c = anyway_ok c.take_memory.result (made_of g c).on
 
-pub returns-clause-weights : goal.returns-clause-weights
-returns-clause-weights g c = anyway_ok c.take_memory.result ((made_of g c).weight, (made_of g c).shadow_weight)
+pub returns-clause-refused : goal.returns-clause-refused
+returns-clause-refused g c = anyway_err c.take_memory.result (inl (made_of g c).on)
 
-pub returns-clause-retired : goal.returns-clause-retired
-returns-clause-retired g c = anyway_ok c.take_memory.result (made_of g c).retired
+pub returns-in_err-walk-clause-refused : goal.returns-in_err-walk-clause-refused
+returns-in_err-walk-clause-refused g c = anyway_err _ (inr (paused _ _ c.walk.ensures.same c.walk.ensures.at_most c.walk.ensures.no_fewer))

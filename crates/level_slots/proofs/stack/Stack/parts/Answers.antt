@@ -9,7 +9,8 @@ use Rattle.builder_trait.specs.Parts.{Contents}
 use Rattle.stack_levels.specs.Slots.{Slots}
 use Rattle.stack_levels.specs.Levels.{weight_of, parts_of}
 use Rattle.stack_levels.specs.Level.{IsOfLevel}
-use Rattle.level_slots.proofs.FewParts.{parts-few, parts-small}
+use Rattle.stack_levels.specs.Towers.{AreOnTime}
+use Rattle.level_slots.proofs.FewParts.{three, parts-few, parts-small}
 use Rattle.level_slots.proofs.stack.Stack.parts.Given.{Over}
 use Rattle.level_slots.proofs.stack.Stack.parts.Goals as goal
 
@@ -59,3 +60,13 @@ returns-clause-sizes g c g' light =
     let all : take c.loop-level.level-index levels ≡ levels =
     take_all c.loop-level.level-index levels (omega (arith, c.loop-level-test.false, c.loop-level.auto.level-index-end, ap length same)) in
     parts-small g.B.Part.Part.contents levels (subst (All (IsLevelOf g.B.Part.Part.contents)) all c.loop-level.invariant.of_level) g' light
+
+pub returns-clause-on_time : goal.returns-clause-on_time
+returns-clause-on_time g c =
+    subst (AreOnTime g.B.Part.Part.contents (kind g)) (ap (λ s. s.levels) c.self.view_is)
+    (record { levels = c.self.invariant.0.levels; punctual = c.self.invariant.0.punctual })
+
+pub returns-clause-three : goal.returns-clause-three
+returns-clause-three g c =
+    subst (All (λ v. length v.parts ≤ 3)) (ap (λ s. s.levels) c.self.view_is)
+    (three g.B.Part.Part.contents (kind g) c.self.inside.levels.items c.self.invariant.0.levels)

@@ -9,7 +9,7 @@ use Rattle.trials.proofs.stacked.StackedTried.delete.Goals as goal
 
 pub delete-requires-clause-live : goal.delete-requires-clause-live
 delete-requires-clause-live g c =
-    let p = c.prepare.ensures in
+    let p = c.prepare.ensures.same in
     let h : IsStackOf g.B.Part.Part.contents g.B.Item.Item.stamp c.prepare.new.self.levels c.self.inside.items.items =
     IsStackOf-same p.weight p.items p.live c.self.invariant in
     let items = c.self.inside.items.items in
@@ -20,7 +20,7 @@ delete-requires-clause-live g c =
 pub invariant_of-self-2 : goal.invariant_of-self-2
 invariant_of-self-2 g c =
     let stamp = g.B.Item.Item.stamp in
-    let p = c.prepare.ensures in
+    let p = c.prepare.ensures.same in
     let left : c.retain.new.self.items ≡ without stamp (stamp c.index.result.now) c.self.inside.items.items =
     filter_same _ _ _ (λ x b f' k. search rules) _ _ c.retain.ensures.filtered in
     subst (IsStackOf g.B.Part.Part.contents stamp c.delete.new.self.levels) (sym left)

@@ -7,7 +7,7 @@ use Rattle.trials.proofs.stacked.StackedTried.insert.Goals as goal
 pub invariant_of-self-2 : goal.invariant_of-self-2
 invariant_of-self-2 g c =
     let x = c.args.item in
-    let p = c.prepare.ensures in
+    let p = c.prepare.ensures.same in
     let next : g.B.Item.Item.stamp x ≡ weight_of c.prepare.new.self.levels = omega (arith, c.if-stamp-weight.false, c.stamp.ensures, c.weight.ensures.value, p.weight) in
     let items : c.push_reserved.new.self.items ≡ c.self.inside.items.items ++ x ∷ [] =
     c.push_reserved.ensures.items ∙ ap (λ l. l ++ x ∷ []) c.reserve.ensures.items in
