@@ -22,7 +22,7 @@ pub loop-stamp-preserved : goal.loop-stamp-preserved
 loop-stamp-preserved g c =
     let contents = g.B.Part.Part.contents in
     let h = c.loop-stamp.invariant in
-    let prepared = c.prepare.ensures in
+    let prepared = c.prepare.ensures.same in
     let n = c.loop-stamp.stamp in
     let new = c.insert.new.self.levels in
     let item : c.pair.result ≡ record { x = 1; y = 2; stamp = n } = c.pair.ensures in
