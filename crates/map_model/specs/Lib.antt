@@ -15,3 +15,6 @@ pub mod Grammar
 pub mod Line
 pub mod Text
 pub mod Output
+pub mod WorkedRows
+pub mod WorkedLines
+pub mod WorkedBounds
