@@ -1,5 +1,5 @@
 -- A source over memory as contracts see it.
-use Rattle.std.specs.Prelude.{ℕ, ◌+◌, List, drop}
+use Rattle.std.specs.Prelude.{◌≡◌, ℕ, ◌+◌, List, ◌++◌, min, length, take, drop}
 use Rattle.map_io.specs.Calls.{counted, numbers_after}
 
 pub record MemSourceState : Type 0 where
@@ -25,3 +25,14 @@ source_after_failing f = record (source_after_call f) { faults = counted f.fault
 -- after a call that gave n bytes
 abbrev pub source_after_taking : ℕ → MemSourceState → MemSourceState
 source_after_taking n f = record (source_after_call f) { rest = drop n f.rest }
+
+-- a call gave n bytes to the front of what it was handed: as many as fit, as its piece allows and as are left
+pub record Gives (old new : MemSourceState) (into handed : List ℕ) (n : ℕ) : Type 0 where
+  pub count : n ≡ min (length into) (min old.piece (length old.rest))
+  pub filled : handed ≡ take n old.rest ++ drop n into
+  pub after : new ≡ source_after_taking n old
+
+-- a call failed, and gave nothing
+pub record GivesNone (old new : MemSourceState) (into handed : List ℕ) : Type 0 where
+  pub untouched : handed ≡ into
+  pub after : new ≡ source_after_failing old

@@ -2,8 +2,8 @@
 ghost use Rattle.std.specs.Prelude.{◌≡◌, ◌↔◌, ℕ, ◌+◌, ◌-◌, ◌^◌, ◌<◌, ◌≤◌, List, [], min, ◌++◌, take, drop, length, All, Contains, Some, IfOk, IsErr, OnOk, OnErr};
 ghost use Rattle.std.specs.List.Sorted.{IsStrictlyIncreasing};
 ghost use Rattle.std.specs.Io.KnownBytes.{ReadConsumes};
-ghost use Rattle.map_io.specs.Faults.{Rose};
-ghost use Rattle.map_io.specs.MemSource.{source_after_failing, source_after_taking};
+ghost use Rattle.map_io.specs.Faults.{CountsFault};
+ghost use Rattle.map_io.specs.MemSource.{Gives, GivesNone};
 
 use super::plan::Plan;
 use super::source::{Failed, Source, count_fault};
@@ -83,18 +83,13 @@ impl Source for MemSource {
         requires { 0 < length into.old }
         ensures bound { IfOk result (λ n. n ≤ length into.old) }
         ensures taken { ReadConsumes (Some self.old.rest) (Some self.new.rest) result into.new }
-        ensures kept { self.old.faults ≤ self.new.faults }
         ensures bounded { self.new.faults ≤ 2 ^ 64 - 1 }
-        ensures failed { OnErr result (Rose self.old.faults self.new.faults) }
+        ensures failed { OnErr result (CountsFault self.old.faults self.new.faults) }
         ensures succeeded { OnOk result (self.new.faults ≡ self.old.faults) }
 
         ensures fails { IsErr result ↔ Contains self.old.failing (self.old.calls + 1) }
-        ensures refused { OnErr result (self.new ≡ source_after_failing self.old) }
-        ensures untouched { OnErr result (into.new ≡ into.old) }
-
-        ensures given { IfOk result (λ n. self.new ≡ source_after_taking n self.old) }
-        ensures count { IfOk result (λ n. n ≡ min (length into.old) (min self.old.piece (length self.old.rest))) }
-        ensures filled { IfOk result (λ n. into.new ≡ take n self.old.rest ++ drop n into.old) }
+        ensures refused { OnErr result (GivesNone self.old self.new into.old into.new) }
+        ensures given { IfOk result (λ n. Gives self.old self.new into.old into.new n) }
     {
         if self.plan.count() {
             return Err(count_fault(&mut self.faults));

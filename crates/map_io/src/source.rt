@@ -2,7 +2,7 @@
 ghost use Rattle.std.specs.Prelude.{◌≡◌, ℕ, Option, ◌-◌, ◌^◌, ◌<◌, ◌≤◌, List, length, IfOk, OnOk, OnErr};
 ghost use Rattle.std.specs.Io.KnownBytes.{ReadConsumes};
 ghost use Rattle.map_io.specs.Calls.{counted};
-ghost use Rattle.map_io.specs.Faults.{Rose};
+ghost use Rattle.map_io.specs.Faults.{CountsFault};
 
 use thiserror::Error;
 
@@ -40,8 +40,7 @@ pub trait Source {
         ensures bound { IfOk result (λ n. n ≤ length into.old) }
         ensures taken { ReadConsumes (rest self.old) (rest self.new) result into.new }
 
-        ensures kept { faults self.old ≤ faults self.new }
         ensures bounded { faults self.new ≤ 2 ^ 64 - 1 }
-        ensures failed { OnErr result (Rose (faults self.old) (faults self.new)) }
+        ensures failed { OnErr result (CountsFault (faults self.old) (faults self.new)) }
         ensures succeeded { OnOk result (faults self.new ≡ faults self.old) };
 }

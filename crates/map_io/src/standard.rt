@@ -1,7 +1,7 @@
 // A reader and a writer of std as a source and a sink.
 ghost use Rattle.std.specs.Prelude.{◌≡◌, ℕ, ◌-◌, ◌^◌, ◌<◌, ◌≤◌, List, length, None, IfOk, IfSome, OnOk, OnErr};
 ghost use Rattle.std.specs.Io.KnownBytes.{ReadConsumes};
-ghost use Rattle.map_io.specs.Faults.{Rose};
+ghost use Rattle.map_io.specs.Faults.{CountsFault};
 ghost use Rattle.map_io.specs.Calls.{counted};
 ghost use Rattle.map_io.specs.SinkTold.{TakesFront, TakesNone, told_by_faults};
 
@@ -50,9 +50,8 @@ impl<R: Read> Source for StdSource<R> {
         requires { 0 < length into.old }
         ensures bound { IfOk result (λ n. n ≤ length into.old) }
         ensures taken { ReadConsumes None None result into.new }
-        ensures kept { self.old ≤ self.new }
         ensures bounded { self.new ≤ 2 ^ 64 - 1 }
-        ensures failed { OnErr result (Rose self.old self.new) }
+        ensures failed { OnErr result (CountsFault self.old self.new) }
 
         ensures succeeded { OnOk result (self.new ≡ self.old) }
         ensures refused { OnErr result (self.new ≡ counted self.old) }
