@@ -122,12 +122,14 @@ module _ {P Item : Type 0} {contents : P → Contents Item} {stamp : Item → �
 -- the walk was refused memory
 pub paused : {P Item : Type 0} {contents : P → Contents Item} (old new : Indexed P Item)
     → (new.main ≡ old.main) × (new.retired ≡ old.retired) × (is_some new.shadow ≡ is_some old.shadow)
-    → ((r r' : Shadow P Item) → old.shadow ≡ Some r → new.shadow ≡ Some r' → live_in contents r'.stack ≤ live_in contents r.stack + 4)
-    → ((r r' : Shadow P Item) → old.shadow ≡ Some r → new.shadow ≡ Some r' → live_in contents r.stack ≤ live_in contents r'.stack)
+    → ((r r' : Shadow P Item) → old.shadow ≡ Some r → new.shadow ≡ Some r'
+    → (live_in contents r.stack ≤ live_in contents r'.stack) × (live_in contents r'.stack ≤ live_in contents r.stack + 4))
     → HasPaused contents old new
-paused old new same at_most no_fewer = record {
+paused old new same handed = record {
   main = same.0;
   retired = same.1;
   none = none_before old.shadow new.shadow (sym same.2);
-  going = λ r there. let x = some_before old.shadow new.shadow (sym same.2) there in (x.0, x.1, no_fewer r x.0 there x.1, at_most r x.0 there x.1);
+  going = λ r there.
+      let x = some_before old.shadow new.shadow (sym same.2) there in
+      let n = handed r x.0 there x.1 in (x.0, x.1, n.0, n.1);
 }

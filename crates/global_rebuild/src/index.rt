@@ -8,14 +8,13 @@ ghost use Rattle.level_slots.specs.Stack.{memory_of};
 ghost use Rattle.level_slots.specs.Rooms.{rooms_of};
 ghost use Rattle.level_slots.specs.Height.{HaveAtMost, AreFew, size_of};
 ghost use Rattle.stack_levels.specs.Cost.{IsWithin, quotas};
-ghost use Rattle.stack_levels.specs.Towers.{AreOnTime};
+ghost use Rattle.stack_levels.specs.Towers.{AreOnTime, TakeTicks};
 ghost use Rattle.global_rebuild.specs.Index.{Shadow as Walked, live_in, unwalked, shadow_weight, shadow_rooms, retired_parts, is_heavy, IsForecast, IsKept, IsInTime, IsIndex, IsIndexOf, IsPrepared, HoldsAsMuch, IsWalkedOn, HasPaused};
 
 use crate::shadow::Shadow;
-use builder_trait::{Answers, Asking, Builder, Part};
+use builder_trait::{Answers, Asking, Builder, Kinded, Part};
 use id_chain::{Chain, Handle};
 use level_slots::{Retired, Stack};
-use partial_build::Kinded;
 use query_laws::step_ledger::Steps;
 use query_laws::{Item, NoMemory, Question};
 use std::alloc::Global;
@@ -82,6 +81,7 @@ impl<B: Builder> Index<B> {
 
         // No rebuild begins, and none that runs is given up.
         ensures refused { OnErr result (IsWalkedOn B.Part.Part.contents self.old self.new ⊎ HasPaused B.Part.Part.contents self.old self.new) }
+        ensures quiet { self.old.shadow ≡ None → steps.new ≡ steps.old }
         ensures cost { (g : ℕ) → 2 * live_in B.Part.Part.contents self.old.main + 10 < 2 ^ (g + 1)
             → IsWithin (4 * quotas B.SLOPE B.BASE 0 g) (4 * (2 * g)) (B.Part.Part.mark_touches g) steps.old steps.new }
     {
@@ -111,6 +111,7 @@ impl<B: Builder> Index<B> {
         ensures weight { weight_of self.new.main.levels ≡ weight_of self.old.main.levels + 1 }
         ensures rebuild { self.new.shadow ≡ self.old.shadow }
         ensures held { HoldsAsMuch self.old self.new }
+        ensures ticks { TakeTicks self.old.main.levels self.new.main.levels }
         ensures some_turns { steps.old.turns + 3 ≤ steps.new.turns }
         ensures cost { (g : ℕ) → 2 * live_in B.Part.Part.contents self.old.main + 10 < 2 ^ (g + 1)
             → IsWithin (quotas B.SLOPE B.BASE 0 g) (2 * g) (B.Part.Part.mark_touches g) steps.old steps.new }
@@ -135,6 +136,7 @@ impl<B: Builder> Index<B> {
         ensures weight { weight_of self.new.main.levels ≡ weight_of self.old.main.levels }
         ensures shadow_weight { shadow_weight self.new ≡ shadow_weight self.old }
         ensures held { HoldsAsMuch self.old self.new }
+        ensures ticks { TakeTicks self.old.main.levels self.new.main.levels }
         ensures starts { self.old.shadow ≡ None → unwalked B.Part.Part.contents self.new
             ≡ (if is_heavy B.Part.Part.contents self.new.main then Some (live_in B.Part.Part.contents self.new.main) else None) }
         ensures goes_on { (r : Walked B.Part B.Item) → self.old.shadow ≡ Some r → unwalked B.Part.Part.contents self.new
@@ -275,10 +277,10 @@ impl<B: Builder> Index<B> {
         ensures same { (self.new.main ≡ self.old.main) × (self.new.retired ≡ self.old.retired) × (is_some self.new.shadow ≡ is_some self.old.shadow) }
         ensures taken { IfOk result (λ _. (r r' : Walked B.Part B.Item) → self.old.shadow ≡ Some r → self.new.shadow ≡ Some r'
             → (r'.cursor ≡ None) ⊎ (live_in B.Part.Part.contents r'.stack ≡ live_in B.Part.Part.contents r.stack + most)) }
-        ensures at_most { (r r' : Walked B.Part B.Item) → self.old.shadow ≡ Some r → self.new.shadow ≡ Some r'
-            → live_in B.Part.Part.contents r'.stack ≤ live_in B.Part.Part.contents r.stack + most }
-        ensures no_fewer { (r r' : Walked B.Part B.Item) → self.old.shadow ≡ Some r → self.new.shadow ≡ Some r'
-            → live_in B.Part.Part.contents r.stack ≤ live_in B.Part.Part.contents r'.stack }
+        ensures handed { (r r' : Walked B.Part B.Item) → self.old.shadow ≡ Some r → self.new.shadow ≡ Some r'
+            → (live_in B.Part.Part.contents r.stack ≤ live_in B.Part.Part.contents r'.stack)
+            × (live_in B.Part.Part.contents r'.stack ≤ live_in B.Part.Part.contents r.stack + most) }
+        ensures quiet { self.old.shadow ≡ None → steps.new ≡ steps.old }
         ensures dead { (r r' : Walked B.Part B.Item) → self.old.shadow ≡ Some r → self.new.shadow ≡ Some r'
             → weight_of r'.stack.levels + live_in B.Part.Part.contents r.stack ≡ weight_of r.stack.levels + live_in B.Part.Part.contents r'.stack }
         ensures in_time { IfOk result (λ _. (r' : Walked B.Part B.Item) → self.new.shadow ≡ Some r' → (r'.cursor ≡ None → ⊥)

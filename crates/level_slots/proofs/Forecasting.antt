@@ -4,17 +4,17 @@ use Rattle.std.proofs.Math.Nat.{mul-le-mul_left, mul-le-mul_right}
 use Rattle.std.proofs.lemmas.Bool.{cases_lt}
 use Rattle.std.proofs.lemmas.List.{length-append}
 use Rattle.std.proofs.lemmas.Nat.{pow_pos}
-use Rattle.std.proofs.lemmas.List.Elements.{All-cons, All-head, All-push, All-tail}
+use Rattle.std.proofs.lemmas.List.Elements.{All-cons, All-head, All-nil, All-push, All-tail}
 use Rattle.query_laws.specs.Orders.{AllStampsDiffer}
 use Rattle.builder_trait.specs.Parts.{Contents}
 use Rattle.builder_trait.specs.Builders.{PartKind}
-use Rattle.stack_levels.specs.Slots.{Slots, ticks_of, held_in, weight_in, live_in, items_in}
+use Rattle.stack_levels.specs.Slots.{Slots, IsIdle, ticks_of, held_in, weight_in, live_in, items_in}
 use Rattle.stack_levels.specs.Levels.{held_of, lowest_held, weight_of, parts_of, live_items, all_items}
 use Rattle.stack_levels.specs.Neighbours.{IsBelow, IsPunctual}
 use Rattle.stack_levels.specs.Towers.{IsTower, IsDue, IsDueSoon, HaveRooms, HaveRoomsAbove, AreAllLevels}
 use Rattle.level_slots.specs.Rooms.{rooms_in, forecast_of}
 use Rattle.level_slots.specs.Stack.{IsStack}
-use Rattle.level_slots.specs.Preparing.{AreNumbered, AreRising, KeepRooms, KeepRoomsAbove, AreForecast, IsHighestQuiet, AreEnough, IsBounded, IsKept}
+use Rattle.level_slots.specs.Preparing.{AreNumbered, AreRising, KeepRooms, KeepRoomsAbove, AreKept, AreForecast, IsHighestQuiet, AreEnough, IsBounded, IsKept}
 use Rattle.stack_levels.proofs.Publishing.{doubled}
 use Rattle.stack_levels.proofs.Neighbouring.{none_ticks}
 
@@ -35,6 +35,35 @@ module _ {P Item : Type 0} where
   above_kept lower [] new k = k
   above_kept lower (l ∷ old) [] k = k
   above_kept lower (l ∷ old) (l' ∷ new) k = (k.0, k.2)
+
+  pub AreKept-refl : (levels : List (Slots P Item)) → AreKept levels levels
+  AreKept-refl [] = All-nil IsIdle
+  AreKept-refl (l ∷ levels) = (refl, AreKept-refl levels)
+
+  AreKept-rooms : (old new : List (Slots P Item)) → KeepRoomsAbove old new → AreKept old new
+  AreKept-rooms [] new k = subst (All IsIdle) (sym k) (All-nil IsIdle)
+  AreKept-rooms (l ∷ old) [] k = absurd k
+  AreKept-rooms (l ∷ old) (l' ∷ new) k = (k.0, AreKept-rooms old new (above_kept l old new k.1))
+
+  AreKept-added : (levels : List (Slots P Item)) (n : ℕ) → AreKept levels (levels ++ unused n ∷ [])
+  AreKept-added [] n = All-cons IsIdle (unused n) [] (record { no_parts = refl; no_construction = refl }) (All-nil IsIdle)
+  AreKept-added (l ∷ levels) n = (refl, AreKept-added levels n)
+
+  idle-kept : (old new : List (Slots P Item)) → All IsIdle old → AreKept old new → All IsIdle new
+  idle-kept [] new idle k = k
+  idle-kept (l ∷ old) [] idle k = absurd k
+  idle-kept (l ∷ old) (l' ∷ new) idle k =
+      let h = All-head IsIdle l old idle in
+      All-cons IsIdle l' new
+      (record { no_parts = ap (λ v. v.parts) k.0 ∙ h.no_parts; no_construction = ap (λ v. v.construction) k.0 ∙ h.no_construction })
+      (idle-kept old new (All-tail IsIdle l old idle) k.1)
+
+  AreKept-then : (a b c : List (Slots P Item)) → AreKept a b → AreKept b c → AreKept a c
+  AreKept-then [] b c h k = idle-kept b c h k
+  AreKept-then (l ∷ a) [] c h k = absurd h
+  AreKept-then (l ∷ a) (m ∷ b) [] h k = absurd k
+  AreKept-then (l ∷ a) (m ∷ b) (n ∷ c) h k =
+      (k.0 ∙ ap (λ (v : Slots P Item). record v { has_room = n.has_room; kept = n.kept }) h.0, AreKept-then a b c h.1 k.1)
 
   pub numbered-from : (l l' : Slots P Item) (above : List (Slots P Item)) → l'.level ≡ l.level → AreNumbered l above → AreNumbered l' above
   numbered-from l l' [] same h = tt
@@ -355,6 +384,7 @@ module _ {P Item : Type 0} (contents : P → Contents Item) where
   IsKept-added levels n next less =
       let same = same-added levels n in
       record {
+        each = AreKept-added levels n;
         same = record { live = same.0; items = same.1; weight = same.2; parts = same.3 };
         levels = λ kind. all_levels-added kind levels n next;
         punctual = λ kind h. All-push (IsPunctual kind) levels (unused n) h (λ c is. absurd cc);
@@ -386,6 +416,7 @@ module _ {P Item : Type 0} (contents : P → Contents Item) where
 
   pub IsKept-refl : (levels : List (Slots P Item)) → IsKept contents levels levels
   IsKept-refl levels = record {
+    each = AreKept-refl levels;
     same = record { live = refl; items = refl; weight = refl; parts = refl };
     levels = λ kind h. h;
     punctual = λ kind h. h;
@@ -399,6 +430,7 @@ module _ {P Item : Type 0} (contents : P → Contents Item) where
   pub IsKept-then : {a b c : List (Slots P Item)} → IsKept contents a b → IsKept contents b c
       → IsKept contents a c
   IsKept-then {a} {b} {c} h k = record {
+    each = AreKept-then a b c h.each k.each;
     same = record {
       live = k.same.live ∙ h.same.live;
       items = k.same.items ∙ h.same.items;
@@ -418,6 +450,7 @@ module _ {P Item : Type 0} (contents : P → Contents Item) where
   IsKept-rooms old new k =
       let same = same-kept old new k in
       record {
+        each = AreKept-rooms old new k;
         same = record { live = same.0; items = same.1; weight = same.2; parts = same.3 };
         levels = λ kind. all_levels-kept kind old new k;
         punctual = λ kind. punctual-kept kind old new k;

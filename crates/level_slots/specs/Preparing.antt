@@ -2,7 +2,7 @@
 use Rattle.std.specs.Prelude.{◌≡◌, ℕ, ◌+◌, ◌*◌, ◌^◌, ◌<◌, ◌≤◌, true, List, [], ◌∷◌, All, length, nat_le}
 use Rattle.builder_trait.specs.Builders.{PartKind, Progress, begun}
 use Rattle.builder_trait.specs.Parts.{Contents}
-use Rattle.stack_levels.specs.Slots.{Slots, ticks_of}
+use Rattle.stack_levels.specs.Slots.{Slots, IsIdle, ticks_of}
 use Rattle.stack_levels.specs.Levels.{weight_of}
 use Rattle.stack_levels.specs.Neighbours.{IsPunctual}
 use Rattle.stack_levels.specs.Towers.{IsDue, IsDueSoon, HaveRoomsAbove, AreAllLevels}
@@ -39,6 +39,12 @@ module _ {P Item : Type 0} where
   AreSameButKept (l ∷ old) [] = ⊥
   AreSameButKept (l ∷ old) (l' ∷ new) = (l' ≡ record l { kept = l'.kept }) × AreSameButKept old new
 
+  -- levels are as they were, constructions with their clocks too, but for rooms and kept builders; and above them there are idle ones
+  abbrev pub AreKept : List (Slots P Item) → List (Slots P Item) → Type 0
+  AreKept [] new = All IsIdle new
+  AreKept (l ∷ old) [] = ⊥
+  AreKept (l ∷ old) (l' ∷ new) = (l' ≡ record l { has_room = l'.has_room; kept = l'.kept }) × AreKept old new
+
   -- above each level that is due soon, and there alone, a room is held, but for the highest level
   abbrev pub AreForecast : Slots P Item → List (Slots P Item) → Type 0
   AreForecast lower [] = Unit {0}
@@ -62,6 +68,7 @@ module _ {P Item : Type 0} where
   module _ (contents : P → Contents Item) where
     -- levels hold what they held, and the rooms that were due, by any kind
     pub record IsKept (old new : List (Slots P Item)) : Type 0 where
+      pub each : AreKept old new
       pub same : HaveSameItems contents old new
       pub levels : (kind : PartKind Item) → AreAllLevels contents kind old → AreAllLevels contents kind new
       pub punctual : (kind : PartKind Item) → All (IsPunctual kind) old → All (IsPunctual kind) new

@@ -7,8 +7,7 @@ ghost use Rattle.stack_levels.specs.Towers.{IsDueSoon, HaveRoomsAbove, AreAllLev
 ghost use Rattle.level_slots.specs.Rooms.{rooms_in, kept_in, forecast_of};
 ghost use Rattle.level_slots.specs.Preparing.{AreNumbered, AreRising, KeepRooms, AreForecast, AreEnough, IsBounded, IsKept, AreStarters, AreReady};
 
-use builder_trait::{Builder, Part};
-use partial_build::Kinded;
+use builder_trait::{Builder, Kinded, Part};
 use query_laws::{Item, NoMemory};
 use stack_levels::Level;
 use std::alloc::Global;

@@ -8,16 +8,16 @@ ghost use Rattle.partial_build.specs.Quota.{quota};
 ghost use Rattle.stack_levels.specs.Slots.{IsPartOf, held_in};
 ghost use Rattle.stack_levels.specs.Levels.{live_items, all_items, weight_of, parts_of, asked, touches_of};
 ghost use Rattle.level_slots.specs.Stack.{Stacked, HaveSameItems, held_by_level, memory_of};
+ghost use Rattle.level_slots.specs.Preparing.{AreKept};
 ghost use Rattle.level_slots.specs.Height.{IsHeight, HaveAtMost, AreFew, size_of};
 ghost use Rattle.stack_levels.specs.Level.{IsOfLevel};
 ghost use Rattle.stack_levels.specs.Cost.{IsWithin, quotas};
-ghost use Rattle.stack_levels.specs.Towers.{AreOnTime};
+ghost use Rattle.stack_levels.specs.Towers.{AreOnTime, TakeTicks};
 ghost use Rattle.level_slots.specs.Rooms.{rooms_of, kept_in, forecast_of};
 
 use crate::preparing::{builders_kept, rooms_held, take_memory};
 use crate::retired::{Retired, keep};
-use builder_trait::{Answers, Asking, Builder, Part, part_of_one};
-use partial_build::Kinded;
+use builder_trait::{Answers, Asking, Builder, Kinded, Part, part_of_one};
 use query_laws::step_ledger::Steps;
 use query_laws::{Item, NoMemory, Question};
 use stack_levels::{Level, ask_levels, take_in, take_out};
@@ -82,8 +82,8 @@ impl<B: Builder> Stack<B> {
         ensures live { Permuted (live_items B.Part.Part.contents self.new.levels) (item ∷ live_items B.Part.Part.contents self.old.levels) }
         ensures items { IsPartOf (all_items B.Part.Part.contents self.new.levels) (item ∷ all_items B.Part.Part.contents self.old.levels) }
         ensures weight { weight_of self.new.levels ≡ weight_of self.old.levels + 1 }
-        ensures memory { memory_of self.new ≡ memory_of self.old }
         ensures each_level { held_by_level self.new ≡ held_by_level self.old }
+        ensures ticks { TakeTicks self.old.levels self.new.levels }
         ensures spare { self.old.spare ≤ self.new.spare + 1 }
 
         // A part is made of the item.
@@ -109,8 +109,8 @@ impl<B: Builder> Stack<B> {
             (without B.Item.stamp (B.Item.stamp item.now) (live_items B.Part.Part.contents self.old.levels)) }
         ensures items { IsPartOf (all_items B.Part.Part.contents self.new.levels) (all_items B.Part.Part.contents self.old.levels) }
         ensures weight { weight_of self.new.levels ≡ weight_of self.old.levels }
-        ensures memory { memory_of self.new ≡ memory_of self.old }
         ensures each_level { held_by_level self.new ≡ held_by_level self.old }
+        ensures ticks { TakeTicks self.old.levels self.new.levels }
         ensures spare { self.old.spare ≤ self.new.spare + 1 }
 
         // Whichever bound g there is, as for an insert; and a mark for each part that is asked.
@@ -219,6 +219,7 @@ impl<B: Builder> Stack<B> {
         ensures spare { IfOk result (λ _. 2 ≤ self.new.spare) }
         ensures no_lower { self.old.spare ≤ self.new.spare }
         ensures same { HaveSameItems B.Part.Part.contents self.old.levels self.new.levels }
+        ensures each { AreKept self.old.levels self.new.levels }
         ensures memory { memory_of self.old ≤ memory_of self.new }
         ensures rooms { IfOk result (λ _. rooms_of self.new ≤ 2 + forecast_of self.new.levels) }
     {
@@ -266,6 +267,7 @@ impl<B: Builder> Stack<B> {
         ensures no_less { memory_of self.old ≤ memory_of self.new }
         ensures no_more { memory_of self.new + retired.new ≤ memory_of self.old + retired.old }
         ensures same { HaveSameItems B.Part.Part.contents self.old.levels self.new.levels }
+        ensures each { AreKept self.old.levels self.new.levels }
         ensures spare { self.new.spare ≡ self.old.spare }
         ensures rooms { rooms_of self.new ≡ rooms_of self.old }
     {

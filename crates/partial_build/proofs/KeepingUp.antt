@@ -82,17 +82,17 @@ taken_all table xs full =
     ∙ ap (items_where_true (map is_some table)) (take_all (length table) xs (omega arith))
 
 -- what the table took is among the items
-taken_there : {Item : Type 0} {stamp : Item → ℕ} {before : Order → Item → Item → Bool} {m : Merging Item} {part a b : Contents Item}
-    → Merges stamp before m a b (put_of part) → IsAllLive part
+taken_there : {Item : Type 0} {kind : PartKind Item} {m : Merging Item} {part a b : Contents Item}
+    → Merges kind m a b (put_of part) → IsAllLive part
     → (l : ℕ) (y : Item) → l < length m.a.table → slice_get a.items l ≡ Some y → is_taken m.a.table l ≡ true
-    → has_stamp stamp (stamp y) (live_of part) ≡ true
-taken_there {stamp = stamp} {m = m} {part = part} {a = a} merges fresh l y below at taken =
-    ap (has_stamp stamp (stamp y)) (live_of-fresh part fresh) ∙ by (get_or m.a.table l None) refl
+    → has_stamp kind.stamp (kind.stamp y) (live_of part) ≡ true
+taken_there {kind = kind} {m = m} {part = part} {a = a} merges fresh l y below at taken =
+    ap (has_stamp kind.stamp (kind.stamp y)) (live_of-fresh part fresh) ∙ by (get_or m.a.table l None) refl
   where
-    by : (e : Option ℕ) → get_or m.a.table l None ≡ e → has_stamp stamp (stamp y) part.items ≡ true
+    by : (e : Option ℕ) → get_or m.a.table l None ≡ e → has_stamp kind.stamp (kind.stamp y) part.items ≡ true
     by None is = let off : is_taken m.a.table l ≡ false = ap is_some is in absurd cc
     by (Some n) is =
-        has_stamp-at stamp part.items n y (merges.taking.new_places l n (slice_get-get_or m.a.table l None below ∙ ap Some is) ∙ at)
+        has_stamp-at kind.stamp part.items n y (merges.taking.new_places l n (slice_get-get_or m.a.table l None below ∙ ap Some is) ∙ at)
 
 module _ {Item : Type 0} {kind : PartKind Item} where
   module _ {m : Merging Item} {part : Contents Item} {waiting : List Item} {a b : Contents Item} (h : KeepsUp kind m part waiting a b) where
@@ -198,7 +198,7 @@ module _ {Item : Type 0} {kind : PartKind Item} where
         waiting h.noted)
 
   module _ {m new : Merging Item} {part fresh : Contents Item} {waiting : List Item} {a b : Contents Item} {n : ℕ}
-      (h : KeepsUp kind m part waiting a b) (merges : Merges kind.stamp kind.before new a b (put_of fresh))
+      (h : KeepsUp kind m part waiting a b) (merges : Merges kind new a b (put_of fresh))
       (read : HasRead n m new a b (put_of part) (put_of fresh)) (live : IsAllLive part) (still_live : IsAllLive fresh) where
     -- what was read of a before
     read_before : (l : ℕ) (y : Item) → l < length m.a.table → slice_get a.items l ≡ Some y
@@ -243,7 +243,7 @@ module _ {Item : Type 0} {kind : PartKind Item} where
 
   -- items are read
   pub KeepsUp-read : {m new : Merging Item} {part fresh : Contents Item} {waiting : List Item} {a b : Contents Item} {n : ℕ}
-      → KeepsUp kind m part waiting a b → Merges kind.stamp kind.before new a b (put_of fresh) → HasRead n m new a b (put_of part) (put_of fresh)
+      → KeepsUp kind m part waiting a b → Merges kind new a b (put_of fresh) → HasRead n m new a b (put_of part) (put_of fresh)
       → IsAllLive part → IsAllLive fresh → KeepsUp kind new fresh waiting a b
   KeepsUp-read {m} {new} {part} {fresh} {waiting} {a} {b} h merges read live still_live = record {
     merges = merges;

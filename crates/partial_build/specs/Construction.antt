@@ -56,7 +56,7 @@ module _ {Item : Type 0} where
 
   -- what was read of a and b is in the new part or waits, as a and b are now
   pub record KeepsUp (kind : PartKind Item) (m : Merging Item) (part : Contents Item) (waiting : List Item) (a b : Contents Item) : Type 0 where
-    pub merges : Merges kind.stamp kind.before m a b (put_of part)
+    pub merges : Merges kind m a b (put_of part)
     pub valid : IsPart kind.before a
     pub other_valid : IsPart kind.before b
     pub apart : AllStampsDiffer kind.stamp a.items

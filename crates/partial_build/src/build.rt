@@ -8,10 +8,9 @@ ghost use Rattle.ordered_merge.specs.Merging.{unbegun, is_passed};
 ghost use Rattle.partial_build.specs.Quota.{quota};
 ghost use Rattle.partial_build.specs.Construction.{Builds, IsOnTime, IsPublished, turns_left};
 
-use crate::kinded::Kinded;
 use crate::new_part::NewPart;
 use crate::room::Tables;
-use builder_trait::{Builder, Part};
+use builder_trait::{Builder, Kinded, Part};
 use ordered_merge::Merge;
 use query_laws::Item;
 use query_laws::step_ledger::Steps;

@@ -7,10 +7,8 @@
 #![tactic(auto)]
 
 mod build;
-mod kinded;
 mod new_part;
 mod room;
 
 pub use build::Build;
-pub use kinded::Kinded;
 pub use room::{Room, Tables};

@@ -6,8 +6,7 @@ ghost use Rattle.ordered_merge.specs.Merging.{StampsDiffer};
 ghost use Rattle.partial_build.specs.Construction.{Builds, IsOnTime};
 
 use crate::build::Build;
-use crate::kinded::Kinded;
-use builder_trait::{Builder, Part};
+use builder_trait::{Builder, Kinded, Part};
 use ordered_merge::Merge;
 use query_laws::{Item, NoMemory};
 use std::alloc::Global;

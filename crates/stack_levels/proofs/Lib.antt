@@ -2,6 +2,7 @@ pub mod Distinct
 pub mod Held
 pub mod Spending
 pub mod Publishing
+pub mod Clocks
 pub mod Neighbouring
 pub mod Towers
 pub mod Marks

@@ -1,13 +1,14 @@
 -- Neighbouring levels through a tick.
-use Rattle.std.proofs.Common.{◌≡◌, suc, ◌+◌, ◌*◌, ◌^◌, ◌<◌, ◌≤◌, ◌⊎◌, ◌∙◌, Option, [], ◌∷◌, ◌++◌, Some, None, false, length, drop, inl, inr, refl, ap, ap₂, sym, subst, arith}
-use Rattle.std.specs.Option.{option_map_or, is_some}
+use Rattle.std.proofs.Common.{◌≡◌, suc, ◌+◌, ◌*◌, ◌^◌, ◌<◌, ◌≤◌, ◌⊎◌, ◌∙◌, Option, [], ◌∷◌, ◌++◌, Some, None, true, false, length, drop, inl, inr, refl, ap, ap₂, sym, subst, arith}
+use Rattle.std.specs.Option.{option_map, option_map_or, is_some}
 use Rattle.std.proofs.lemmas.Nat.{pow_pos}
 use Rattle.query_laws.proofs.Permutations.{Permuted-refl}
 use Rattle.builder_trait.specs.Builders.{PartKind}
 use Rattle.builder_trait.specs.Parts.{Contents}
 use Rattle.partial_build.specs.Construction.{Builds}
-use Rattle.stack_levels.specs.Slots.{Slots, ticks_of, weight_in, live_in, items_in}
-use Rattle.stack_levels.specs.Neighbours.{IsBelow, IsVisited, IsConstructionOf, IsFed, stays, arrives, IsPublication}
+use Rattle.stack_levels.specs.Slots.{Slots, ticks_of, clock_of, weight_in, live_in, items_in}
+use Rattle.stack_levels.specs.Neighbours.{IsBelow, IsVisited, IsConstructionOf, IsFed, stays, arrives, IsPublication, TakesTick, rests}
+use Rattle.stack_levels.proofs.Clocks.{TakesTick-more, TakesTick-last}
 use Rattle.stack_levels.proofs.Distinct.{IsPartOf-refl}
 use Rattle.stack_levels.proofs.Publishing.{doubled, live-published, items-published, weight-published}
 
@@ -41,6 +42,7 @@ module _ {P Item : Type 0} (contents : P → Contents Item) (kind : PartKind Ite
       clock = λ two. absurd (omega (arith, few, two));
     };
     advances = stays refl (omega arith);
+    ticked = rests (ap (option_map (λ c. c.ticks)) (h.idle few)) (ap (option_map (λ c. c.ticks)) (h.idle few));
     live = Permuted-refl (live_in contents old ++ live_in contents lower);
     items = IsPartOf-refl (items_in contents old ++ items_in contents lower);
     weight = refl;
@@ -51,8 +53,9 @@ module _ {P Item : Type 0} (contents : P → Contents Item) (kind : PartKind Ite
       (same : mid.parts ≡ old.parts) (level : mid.level ≡ old.level) (ticked : ticks_of mid ≡ ticks_of old + 1)
       (rooms : (old.construction ≡ None) ⊎ (mid.has_room ≡ old.has_room)) where
     -- a construction took its tick, and isn't at its end
-    pub visited-ticked : IsFed contents kind lower mid → ticks_of mid < 2 ^ mid.level → IsVisited contents kind old lower mid lower
-    visited-ticked fed early = record {
+    pub visited-ticked : is_some mid.construction ≡ true → IsFed contents kind lower mid → ticks_of mid < 2 ^ mid.level
+        → IsVisited contents kind old lower mid lower
+    visited-ticked runs fed early = record {
       below = record {
         next_level = level ∙ h.next_level;
         few = h.few;
@@ -62,6 +65,7 @@ module _ {P Item : Type 0} (contents : P → Contents Item) (kind : PartKind Ite
         clock = λ _. omega (arith, h.clock two, ticked);
       };
       advances = stays same (omega (arith, ticked));
+      ticked = TakesTick-more old.level old.construction mid.construction runs ticked;
       live = rw same (Permuted-refl (live_in contents old ++ live_in contents lower));
       items = rw same (IsPartOf-refl (items_in contents old ++ items_in contents lower));
       weight = ap₂ (λ n k. n * 2 ^ k + weight_in lower) (ap length same) level;
@@ -81,6 +85,8 @@ module _ {P Item : Type 0} (contents : P → Contents Item) (kind : PartKind Ite
         clock = λ more. absurd (omega (arith, more, h.few, fewer));
       };
       advances = arrives p.fresh (p.arrived ∙ ap (λ ps. ps ++ p.fresh ∷ []) same) (none_ticks new p.none) (ended ∙ ticked);
+      ticked = subst (TakesTick old.level (clock_of old)) (sym (ap (option_map (λ c. c.ticks)) p.none))
+          (TakesTick-last old.level old.construction (ended ∙ ticked) bigger);
       live = rw (← same) (live-published contents p);
       items = rw (← same) (items-published contents p);
       weight = weight-published contents p (level ∙ h.next_level) (same_level ∙ sym level) same_below

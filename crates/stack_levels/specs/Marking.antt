@@ -2,7 +2,7 @@
 use Rattle.std.specs.Prelude.{◌≡◌, ℕ, ◌+◌, Option, Some, None, List, [], ◌∷◌, true, false, All, length, map, slice_get}
 use Rattle.std.specs.Option.{option_map, is_some}
 use Rattle.builder_trait.specs.Parts.{Contents, has_stamp, without, marked, live_of}
-use Rattle.stack_levels.specs.Slots.{Slots, ticks_of, held_in, live_in, items_in}
+use Rattle.stack_levels.specs.Slots.{Slots, ticks_of, clock_of, held_in, live_in, items_in}
 use Rattle.stack_levels.specs.Levels.{weight_of, live_items, all_items}
 
 module _ {Item : Type 0} where
@@ -43,9 +43,12 @@ module _ {P Item : Type 0} where
       pub items : items_in contents new ≡ items_in contents old
       pub as_many : length new.parts ≡ length old.parts
 
-    -- the item with a stamp isn't live in any of the levels; they have the same items, and the weight and what each holds are as they were
+    -- the item with a stamp isn't live in any of the levels; they have the same items, and the weight and what each holds are as they were,
+    -- and so are the clocks
     pub record AreMarked (old new : List (Slots P Item)) : Type 0 where
       pub live : live_items contents new ≡ without stamp dead (live_items contents old)
       pub items : all_items contents new ≡ all_items contents old
       pub weight : weight_of new ≡ weight_of old
       pub held : map held_in new ≡ map held_in old
+      pub numbers : map (λ l. l.level) new ≡ map (λ l. l.level) old
+      pub clocks : map clock_of new ≡ map clock_of old

@@ -1,10 +1,18 @@
 -- Two neighbouring levels, and what runs between them (Overmars and van Leeuwen 1981).
-use Rattle.std.specs.Prelude.{◌≡◌, ℕ, ◌+◌, ◌-◌, ◌*◌, ◌^◌, ◌<◌, ◌≤◌, ◌⊎◌, List, [], ◌∷◌, ◌++◌, Some, None, length}
+use Rattle.std.specs.Prelude.{◌≡◌, ℕ, ◌+◌, ◌-◌, ◌*◌, ◌^◌, ◌<◌, ◌≤◌, ◌⊎◌, List, [], ◌∷◌, ◌++◌, Option, Some, None, length}
 use Rattle.query_laws.specs.Permuted.{Permuted}
 use Rattle.builder_trait.specs.Builders.{PartKind}
 use Rattle.builder_trait.specs.Parts.{Contents, live_of}
 use Rattle.partial_build.specs.Construction.{Construction, Builds, IsOnTime}
-use Rattle.stack_levels.specs.Slots.{Slots, IsPartOf, ticks_of, weight_in, live_in, items_in}
+use Rattle.stack_levels.specs.Slots.{Slots, IsPartOf, ticks_of, clock_of, weight_in, live_in, items_in}
+
+-- A tick of the construction into a level, by its clock before and after: none runs; one begins, with its first tick; it goes on by exactly one;
+-- or that was its last, and it ends.
+pub data TakesTick (level : ℕ) (old new : Option ℕ) : Type 0 where
+  rests : old ≡ None → new ≡ None → TakesTick level old new
+  begins : old ≡ None → new ≡ Some 1 → TakesTick level old new
+  goes_on : (n : ℕ) → old ≡ Some n → new ≡ Some (n + 1) → TakesTick level old new
+  ends : (n : ℕ) → old ≡ Some n → n + 1 ≡ 2 ^ level → new ≡ None → TakesTick level old new
 
 module _ {P Item : Type 0} where
   -- the level takes its next tick in time
@@ -51,6 +59,7 @@ module _ {P Item : Type 0} where
       pub record IsVisited (old lower new lower' : Slots P Item) : Type 0 where
         pub below : IsBelow 1 lower' new
         pub advances : Advances old new
+        pub ticked : TakesTick old.level (clock_of old) (clock_of new)
         pub live : Permuted (live_in contents new ++ live_in contents lower') (live_in contents old ++ live_in contents lower)
         pub items : IsPartOf (items_in contents new ++ items_in contents lower') (items_in contents old ++ items_in contents lower)
         pub weight : weight_in new + weight_in lower' ≡ weight_in old + weight_in lower

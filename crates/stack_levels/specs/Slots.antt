@@ -1,7 +1,7 @@
 -- What contracts see of one level of a stack.
 use Rattle.std.specs.Prelude.{◌≡◌, ℕ, ◌+◌, ◌*◌, ◌^◌, Bool, List, [], ◌∷◌, ◌++◌, Option, None, if◌then◌else◌, length}
 use Rattle.std.specs.List.{flat_map}
-use Rattle.std.specs.Option.{option_map_or, is_some}
+use Rattle.std.specs.Option.{option_map, option_map_or, is_some}
 use Rattle.query_laws.specs.Permuted.{Permuted}
 use Rattle.builder_trait.specs.Parts.{Contents, has_stamp, live_of}
 use Rattle.partial_build.specs.Construction.{Construction}
@@ -26,6 +26,10 @@ module _ {P Item : Type 0} where
   -- the ticks done of the construction into a level, 0 where none runs
   abbrev pub ticks_of : Slots P Item → ℕ
   ticks_of l = option_map_or (λ c. c.ticks) l.construction 0
+
+  -- the same, where one runs
+  abbrev pub clock_of : Slots P Item → Option ℕ
+  clock_of l = option_map (λ c. c.ticks) l.construction
 
   -- the parts of a level that are in memory: the complete ones, the one under construction, and empty ones, in the room and in the
   -- builders that are kept

@@ -3,9 +3,9 @@ use Rattle.std.specs.Prelude.{◌≡◌, ◌+◌, ◌^◌, ◌<◌, ◌≤◌, t
 use Rattle.query_laws.specs.Permuted.{Permuted}
 use Rattle.builder_trait.specs.Builders.{PartKind}
 use Rattle.builder_trait.specs.Parts.{Contents}
-use Rattle.stack_levels.specs.Slots.{Slots, IsPartOf, ticks_of, held_in}
+use Rattle.stack_levels.specs.Slots.{Slots, IsPartOf, ticks_of, clock_of, held_in}
 use Rattle.stack_levels.specs.Levels.{weight_of, live_items, all_items}
-use Rattle.stack_levels.specs.Neighbours.{IsBelow, IsPunctual}
+use Rattle.stack_levels.specs.Neighbours.{IsBelow, IsPunctual, TakesTick}
 
 module _ {P Item : Type 0} where
   -- a part may arrive at the level within one tick, and would be its second
@@ -72,6 +72,12 @@ module _ {P Item : Type 0} where
     pub record AreOnTime (all : List (Slots P Item)) : Type 0 where
       pub levels : AreAllLevels all
       pub punctual : All (IsPunctual kind) all
+
+  -- each level takes exactly one tick
+  abbrev pub TakeTicks : List (Slots P Item) → List (Slots P Item) → Type 0
+  TakeTicks [] new = new ≡ []
+  TakeTicks (l ∷ old) [] = ⊥
+  TakeTicks (l ∷ old) (l' ∷ new) = TakesTick l.level (clock_of l) (clock_of l') × TakeTicks old new
 
 module _ {P Item : Type 0} (contents : P → Contents Item) where
   -- what a tick leaves of levels: the same items live, no item is new, and the weight and what each level holds in memory are as they were

@@ -16,8 +16,8 @@ mod giving;
 mod rooms;
 mod visiting;
 
-use builder_trait::{Builder, Part};
-use partial_build::{Build, Kinded, Room, Tables};
+use builder_trait::{Builder, Kinded, Part};
+use partial_build::{Build, Room, Tables};
 use query_laws::step_ledger::Steps;
 use query_laws::{Item, NoMemory};
 use std::alloc::Global;

@@ -7,14 +7,13 @@ ghost use Rattle.builder_trait.specs.Parts.{OwnsStamp, has_stamp, without, marke
 ghost use Rattle.stack_levels.specs.Slots.{Slots, IsPartOf, ticks_of, held_in, live_in, items_in, asked_in};
 ghost use Rattle.stack_levels.specs.Levels.{weight_of, live_items, all_items, asked};
 ghost use Rattle.stack_levels.specs.Neighbours.{IsConstructionOf, IsPunctual};
-ghost use Rattle.stack_levels.specs.Towers.{IsDue, IsDueSoon, IsTower, HaveRoomsAbove, AreLevels, AreOnTime};
+ghost use Rattle.stack_levels.specs.Towers.{IsDue, IsDueSoon, IsTower, HaveRoomsAbove, AreLevels, AreOnTime, TakeTicks};
 ghost use Rattle.stack_levels.specs.Cost.{IsWithin, quotas};
 ghost use Rattle.stack_levels.specs.Marking.{IsLiveIn, AreNoted, IsMarked, IsSameBelow, AreMarked};
 
 use crate::level::Level;
 use crate::visiting::take_tick;
-use builder_trait::{Builder, Part};
-use partial_build::Kinded;
+use builder_trait::{Builder, Kinded, Part};
 use query_laws::Item;
 use query_laws::step_ledger::Steps;
 use std::sync::ledger::Ledger;
@@ -122,6 +121,7 @@ pub fn take_out<B: Builder, L: Ledger>(
         (without B.Item.stamp (B.Item.stamp item.now) (live_items B.Part.Part.contents levels.old)) }
     ensures items { IsPartOf (all_items B.Part.Part.contents levels.new) (all_items B.Part.Part.contents levels.old) }
     ensures weight { weight_of levels.new ≡ weight_of levels.old }
+    ensures each { TakeTicks levels.old levels.new }
     ensures held { map held_in levels.new ≡ map held_in levels.old }
     ensures rooms { HaveRoomsAbove IsDueSoon levels.old → HaveRoomsAbove IsDue levels.new }
     ensures cost { (g : ℕ) → weight_of levels.new < 2 ^ (g + 1)

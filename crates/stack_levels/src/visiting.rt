@@ -1,5 +1,5 @@
 //! One tick: the levels are visited from the lowest one up.
-ghost use Rattle.std.specs.Prelude.{◌≡◌, ℕ, ◌+◌, ◌-◌, ◌*◌, ◌^◌, ◌<◌, ◌≤◌, true, None, ◌∷◌, ◌++◌, ◌⊎◌, All, length, map, drop};
+ghost use Rattle.std.specs.Prelude.{◌≡◌, ℕ, ◌+◌, ◌-◌, ◌*◌, ◌^◌, ◌<◌, ◌≤◌, true, List, None, ◌∷◌, ◌++◌, ◌⊎◌, All, length, map, drop};
 ghost use Rattle.query_laws.specs.Orders.{AllStampsDiffer};
 ghost use Rattle.query_laws.specs.Permuted.{Permuted};
 ghost use Rattle.builder_trait.specs.Parts.{live_of};
@@ -7,13 +7,12 @@ ghost use Rattle.partial_build.specs.Quota.{quota};
 ghost use Rattle.stack_levels.specs.Slots.{Slots, IsPartOf, ticks_of, held_in, weight_in, live_in, items_in};
 ghost use Rattle.stack_levels.specs.Levels.{lowest_held, one_more, weight_of, live_items, all_items};
 ghost use Rattle.stack_levels.specs.Neighbours.{IsBelow, IsVisited, IsPunctual};
-ghost use Rattle.stack_levels.specs.Towers.{IsTower, IsHalfway, IsDue, IsDueSoon, HaveRooms, HaveRoomsAbove, HaveRoomsAhead, AreAllLevels, AreHalfway, AreOnTime, AreTicked, HaveRoomsNow, HaveRoomsNext};
+ghost use Rattle.stack_levels.specs.Towers.{IsTower, IsHalfway, IsDue, IsDueSoon, HaveRooms, HaveRoomsAbove, HaveRoomsAhead, AreAllLevels, AreHalfway, AreOnTime, AreTicked, TakeTicks, HaveRoomsNow, HaveRoomsNext};
 ghost use Rattle.stack_levels.specs.Level.{IsOfLevel};
 ghost use Rattle.stack_levels.specs.Cost.{IsWithin, quotas};
 
 use crate::level::Level;
-use builder_trait::{Builder, Part};
-use partial_build::Kinded;
+use builder_trait::{Builder, Kinded, Part};
 use query_laws::Item;
 use query_laws::step_ledger::Steps;
 use std::sync::ledger::Ledger;
@@ -26,6 +25,7 @@ fn walk<B: Builder, L: Ledger>(lower: &mut Level<B>, above: &mut [Level<B>], ste
     ensures tower { IsTower B.Part.Part.contents ⟦<B as Kinded>⟧.kind lower.new above.new }
     ensures punctual { All (IsPunctual ⟦<B as Kinded>⟧.kind) above.new }
     ensures ticked { AreTicked B.Part.Part.contents (lower.old ∷ above.old) (lower.new ∷ above.new) }
+    ensures each { TakeTicks above.old above.new }
     ensures same { lower.new ≡ record lower.old { parts = lower.new.parts; kept = lower.new.kept } }
     ensures rooms { HaveRoomsAhead lower.old above.old → HaveRooms IsDue lower.new above.new }
     ensures cost { (g : ℕ) → weight_of (lower.old ∷ above.old) < 2 ^ (g + 1)
@@ -53,6 +53,7 @@ fn arrive<B: Builder>(levels: &mut [Level<B>], part: B::Part)
         ((B.Part.Part.contents part).items ++ all_items B.Part.Part.contents levels.old) }
     ensures weight { weight_of levels.new ≡ weight_of levels.old + 1 }
     ensures held { map held_in levels.new ≡ one_more (map held_in levels.old) }
+    ensures clocks { (ls : List (Slots B.Part B.Item)) → TakeTicks levels.new ls → TakeTicks levels.old ls }
 {
     match levels.split_first_mut() {
         Some((lowest, _above)) => lowest.arrive(part),
@@ -67,6 +68,7 @@ pub(crate) fn take_tick<B: Builder, L: Ledger>(levels: &mut [Level<B>], steps: &
     requires apart { AllStampsDiffer B.Item.stamp (all_items B.Part.Part.contents levels.old) }
     ensures on_time { AreOnTime B.Part.Part.contents ⟦<B as Kinded>⟧.kind levels.new }
     ensures ticked { AreTicked B.Part.Part.contents levels.old levels.new }
+    ensures each { TakeTicks levels.old levels.new }
     ensures rooms { HaveRoomsNext levels.old → HaveRoomsAbove IsDue levels.new }
     ensures cost { (g : ℕ) → weight_of levels.old < 2 ^ (g + 1)
         → IsWithin (quotas B.SLOPE B.BASE 1 g) (2 * g) (B.Part.Part.mark_touches g) steps.old steps.new }
@@ -92,6 +94,7 @@ pub fn take_in<B: Builder, L: Ledger>(levels: &mut [Level<B>], part: B::Part, st
         ((B.Part.Part.contents part).items ++ all_items B.Part.Part.contents levels.old) }
     ensures weight { weight_of levels.new ≡ weight_of levels.old + 1 }
     ensures rooms { HaveRoomsAbove IsDueSoon levels.old → HaveRoomsAbove IsDue levels.new }
+    ensures each { TakeTicks levels.old levels.new }
     ensures held { map held_in levels.new ≡ one_more (map held_in levels.old) }
     ensures cost { (g : ℕ) → weight_of levels.new < 2 ^ (g + 1)
         → IsWithin (quotas B.SLOPE B.BASE 1 g) (2 * g) (B.Part.Part.mark_touches g) steps.old steps.new }

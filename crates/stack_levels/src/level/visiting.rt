@@ -7,8 +7,7 @@ ghost use Rattle.stack_levels.specs.Neighbours.{IsBelow, IsVisited, IsPunctual};
 ghost use Rattle.stack_levels.specs.Cost.{IsWithin};
 
 use crate::level::Level;
-use builder_trait::{Builder, Part};
-use partial_build::Kinded;
+use builder_trait::{Builder, Kinded, Part};
 use query_laws::Item;
 use query_laws::step_ledger::Steps;
 use std::sync::ledger::Ledger;

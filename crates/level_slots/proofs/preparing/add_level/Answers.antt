@@ -17,3 +17,6 @@ returns-clause-held g c =
 pub returns-clause-lowest : goal.returns-clause-lowest
 returns-clause-lowest g c =
     rw (c.push_reserved.ensures.items, c.reserve.ensures.items, c.in_ok-level.ensures) (held-added c.args.levels.now.items c.len.result).1
+
+pub returns-in_err-level-clause-kept : goal.returns-in_err-level-clause-kept
+returns-in_err-level-clause-kept g c = IsKept-refl _ c.args.levels.now.items

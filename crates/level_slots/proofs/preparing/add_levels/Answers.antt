@@ -1,5 +1,5 @@
-use Rattle.std.proofs.Common.{◌∙◌}
-use Rattle.level_slots.proofs.Forecasting.{IsKept-then}
+use Rattle.std.proofs.Common.{◌∙◌, refl}
+use Rattle.level_slots.proofs.Forecasting.{IsKept-refl, IsKept-then}
 use Rattle.level_slots.proofs.preparing.add_levels.Goals as goal
 
 pub is_short-requires-clause-levels : goal.is_short-requires-clause-levels
@@ -29,3 +29,6 @@ returns-clause-some g c = rw c.deref.ensures.value at (c.is_short.ensures.some c
 
 pub returns-clause-enough : goal.returns-clause-enough
 returns-clause-enough g c = rw c.deref.ensures.value at (c.is_short.ensures.enough c.loop-alloc-test.false)
+
+pub loop-alloc-init : goal.loop-alloc-init
+loop-alloc-init g c = record { kept = IsKept-refl _ c.args.levels.now.items; held = refl; lowest = refl }

@@ -2,6 +2,7 @@ use Rattle.std.proofs.Common.{◌≡◌, ◌-◌, [], ◌∷◌, ◌++◌, ◌�
 use Rattle.std.proofs.lemmas.List.{length_push}
 use Rattle.std.proofs.lemmas.List.Elements.{All-push}
 use Rattle.builder_trait.specs.Builders.{begun}
+use Rattle.level_slots.proofs.Forecasting.{IsKept-refl}
 use Rattle.level_slots.proofs.preparing.add_starter.Goals as goal
 
 pub returns-clause-begun : goal.returns-clause-begun
@@ -20,3 +21,6 @@ pub returns-in_err-builder-clause-lowest : goal.returns-in_err-builder-clause-lo
 returns-in_err-builder-clause-lowest g c =
     let place = c.take_starter.ensures.lowest (5 - length c.args.starters.now.items) (omega (arith, c.requires.few)) (omega (arith, c.requires.lowest)) in
     omega (arith, place, c.requires.few, ap length c.reserve.ensures.items)
+
+pub returns-in_err-reserve-clause-kept : goal.returns-in_err-reserve-clause-kept
+returns-in_err-reserve-clause-kept g c = IsKept-refl _ c.args.levels.now

@@ -1,5 +1,5 @@
 use Rattle.std.proofs.Common.{arith}
-use Rattle.level_slots.proofs.Forecasting.{IsKept-then}
+use Rattle.level_slots.proofs.Forecasting.{IsKept-refl, IsKept-then}
 use Rattle.level_slots.proofs.preparing.add_starters.Goals as goal
 
 pub add_starter-requires-clause-levels : goal.add_starter-requires-clause-levels
@@ -18,3 +18,12 @@ loop-alloc-preserved g c =
 
 pub returns-in_err-add_starter-clause-kept : goal.returns-in_err-add_starter-clause-kept
 returns-in_err-add_starter-clause-kept g c = IsKept-then _ c.loop-alloc.invariant.kept c.add_starter.ensures.kept
+
+pub loop-alloc-init : goal.loop-alloc-init
+loop-alloc-init g c = record {
+  kept = IsKept-refl _ c.args.levels.now;
+  starters = c.requires.starters;
+  more = omega arith;
+  lowest = c.requires.lowest;
+  no_less = omega arith;
+}

@@ -1,7 +1,7 @@
 use Rattle.std.proofs.Common.{refl, ap}
 use Rattle.builder_trait.specs.Builders.{PartKind}
 use Rattle.level_slots.specs.Preparing.{AreNumbered}
-use Rattle.level_slots.proofs.Forecasting.{KeepRooms-from, IsKept-rooms, numbered-from, numbered-kept, numbered-tower, rooms-few, rooms-ready, when_ok}
+use Rattle.level_slots.proofs.Forecasting.{KeepRooms-from, IsKept-refl, IsKept-rooms, numbered-from, numbered-kept, numbered-tower, rooms-few, rooms-ready, when_ok}
 use Rattle.level_slots.proofs.preparing.forecast_rooms.Given.{Over}
 use Rattle.level_slots.proofs.preparing.forecast_rooms.Goals.{After-give_back_room}
 use Rattle.level_slots.proofs.preparing.forecast_rooms.Goals as goal
@@ -36,3 +36,6 @@ returns-clause-few g c =
     let above = c.make_rooms.new.above in
     when_ok c.make_rooms.result (rooms-few lowest above c.give_back_room.ensures.none (numbered-kept lowest lowest c.in-Some.above.now above refl c.make_rooms.ensures.kept
     (numbered g (goal.at.returns-clause-few g c).After-give_back_room))) c.make_rooms.ensures.ready
+
+pub returns-in_default-clause-kept : goal.returns-in_default-clause-kept
+returns-in_default-clause-kept g c = IsKept-refl _ c.args.levels.now

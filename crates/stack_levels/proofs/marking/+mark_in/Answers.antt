@@ -6,11 +6,12 @@ use Rattle.query_laws.specs.StepLedger.{Spends}
 use Rattle.query_laws.proofs.Counting.{Spends-nothing, Spends-within}
 use Rattle.builder_trait.specs.Builders.{PartKind}
 use Rattle.builder_trait.specs.Parts.{OwnsStamp, has_stamp, without}
-use Rattle.stack_levels.specs.Slots.{Slots, held_in, weight_in, live_in, items_in, asked_in}
+use Rattle.stack_levels.specs.Slots.{Slots, clock_of, held_in, weight_in, live_in, items_in, asked_in}
 use Rattle.stack_levels.specs.Levels.{weight_of, live_items, all_items, asked}
 use Rattle.stack_levels.specs.Neighbours.{IsPunctual}
 use Rattle.stack_levels.specs.Towers.{IsDue, IsDueSoon, HaveRoomsAbove, AreLevels}
 use Rattle.stack_levels.specs.Marking.{IsSameBelow}
+use Rattle.stack_levels.proofs.Clocks.{clocks-noted}
 use Rattle.stack_levels.proofs.Distinct.{AllStampsDiffer-front, AllStampsDiffer-back}
 use Rattle.stack_levels.proofs.Publishing.{none_of}
 use Rattle.stack_levels.proofs.Marks.{All-first, All-second, has_stamp-append, without-append, without-lacking, Spends-both}
@@ -67,6 +68,8 @@ returns-then-mark_in g p c =
         items = ap (λ l. l ++ items_in contents level) h.marked.items ∙ sym (ap (all_items contents) split);
         weight = ap (λ n. weight_in level + n) h.marked.weight ∙ sym (ap weight_of split);
         held = ap (λ ns. held_in level ∷ ns) h.marked.held ∙ sym (ap (map held_in) split);
+        numbers = ap (λ ns. level.level ∷ ns) h.marked.numbers ∙ sym (ap (map (λ l. l.level)) split);
+        clocks = ap (λ os. clock_of level ∷ os) h.marked.clocks ∙ sym (ap (map clock_of) split);
       };
       cost = λ g' light. subst (λ n. Spends c.args.steps.now c.mark_in.new.steps 0 n (n * g.B.Part.Part.mark_touches g'))
           (sym (ap (asked contents stamp s) split ∙ asked-above contents stamp s level above on))
@@ -134,6 +137,10 @@ returns-else-mark_in g p c =
             (same-noted weight_of (λ l l' rest same _. ap (λ v. weight_in v + weight_of rest) same) mid above' n.noted ∙ h.marked.weight)
             ∙ sym (ap weight_of split);
         held = ap₂ (λ l ns. l ∷ ns) held (same-noted (map held_in) held-noted mid above' n.noted ∙ h.marked.held) ∙ sym (ap (map held_in) split);
+        numbers = ap₂ (λ l ns. l ∷ ns) (ap (λ v. v.level) m.same)
+            (same-noted (map (λ v. v.level)) (λ l l' rest same _. ap (λ v. v.level ∷ map (λ u. u.level) rest) same) mid above' n.noted ∙ h.marked.numbers)
+            ∙ sym (ap (map (λ l. l.level)) split);
+        clocks = ap₂ (λ o os. o ∷ os) (ap clock_of m.same) (clocks-noted mid above' n.noted ∙ h.marked.clocks) ∙ sym (ap (map clock_of) split);
       };
       cost = λ g' light.
           let t = g.B.Part.Part.mark_touches g' in

@@ -4,6 +4,7 @@ use Rattle.builder_trait.specs.Builders.{PartKind}
 use Rattle.stack_levels.specs.Slots.{IsPartOf}
 use Rattle.stack_levels.specs.Levels.{weight_of, all_items, asked}
 use Rattle.stack_levels.specs.Cost.{IsWithin}
+use Rattle.stack_levels.proofs.Clocks.{TakeTicks-from}
 use Rattle.stack_levels.proofs.Spending.{IsWithin-more, IsWithin-of, IsWithin-then}
 use Rattle.stack_levels.proofs.MarkedLevels.{owned_live, levels-from_all, halfway-marked, rooms_now, rooms_next, some_live}
 use Rattle.stack_levels.proofs.marking.take_out.Given.{Over}
@@ -36,6 +37,11 @@ returns-clause-items g c =
 
 pub returns-clause-rooms : goal.returns-clause-rooms
 returns-clause-rooms g c soon = c.take_tick.ensures.rooms (rooms_next c.mark_in.new.levels (c.mark_in.ensures.rooms_ahead soon))
+
+pub returns-clause-each : goal.returns-clause-each
+returns-clause-each g c =
+    TakeTicks-from c.args.levels.now c.mark_in.new.levels c.take_tick.new.levels c.mark_in.ensures.marked.numbers c.mark_in.ensures.marked.clocks
+    c.take_tick.ensures.each
 
 pub returns-clause-cost : goal.returns-clause-cost
 returns-clause-cost g c g' light =

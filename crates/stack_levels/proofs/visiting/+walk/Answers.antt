@@ -1,14 +1,15 @@
 use Rattle.std.proofs.Common.{◌≡◌, ℕ, ◌+◌, ◌-◌, ◌*◌, ◌^◌, ◌<◌, ◌≤◌, ◌∙◌, ◌∷◌, length, map, refl, subst, sym, ap, ap₂, ⊎_elim, arith}
+use Rattle.std.specs.Option.{option_map}
 use Rattle.std.proofs.lemmas.Bool.{cases_lt}
 use Rattle.std.proofs.lemmas.List.Elements.{All-cons}
 use Rattle.query_laws.specs.Orders.{AllStampsDiffer}
 use Rattle.query_laws.proofs.Permutations.{Permuted-refl}
 use Rattle.builder_trait.specs.Builders.{PartKind}
 use Rattle.partial_build.specs.Quota.{quota}
-use Rattle.stack_levels.specs.Slots.{ticks_of, held_in, items_in}
+use Rattle.stack_levels.specs.Slots.{ticks_of, clock_of, held_in, items_in}
 use Rattle.stack_levels.specs.Levels.{weight_of, live_items, all_items}
-use Rattle.stack_levels.specs.Neighbours.{IsPunctual}
-use Rattle.stack_levels.specs.Towers.{IsHalfway, IsTower, IsDue, HaveRooms, HaveRoomsAbove, HaveRoomsAhead}
+use Rattle.stack_levels.specs.Neighbours.{IsPunctual, TakesTick}
+use Rattle.stack_levels.specs.Towers.{IsHalfway, IsTower, IsDue, HaveRooms, HaveRoomsAbove, HaveRoomsAhead, TakeTicks}
 use Rattle.stack_levels.specs.Cost.{IsWithin, quotas}
 use Rattle.stack_levels.proofs.Distinct.{AllStampsDiffer-part, AllStampsDiffer-back, IsPartOf-refl}
 use Rattle.stack_levels.proofs.Publishing.{none_of}
@@ -85,6 +86,8 @@ returns-in-Some g p c =
         weight = weight-walked contents (kind g) v.visited above level' above' w.ticked.weight ∙ ap (λ ls. weight_of (lower ∷ ls)) (sym split);
         held = ap₂ (λ n ns. n ∷ ns) v.held_below (w.ticked.held ∙ ap (λ n. n ∷ map held_in above) v.held) ∙ ap (λ ls. map held_in (lower ∷ ls)) (sym split);
       };
+      each = subst (λ ls. TakeTicks ls (level' ∷ above')) (sym split)
+          (subst (TakesTick level.level (clock_of level)) (ap (option_map (λ c. c.ticks)) (sym (ap (λ l. l.construction) w.same))) v.visited.ticked, w.each);
       same = v.same_below;
       rooms = λ ahead. rooms-walked lower lower' level c.visit.new.self level' above above' v.visited.advances (ap (λ l. l.level) v.same) v.visited.rooms
           (ap (λ l. l.level) v.same_below) (ap ticks_of v.same_below) (ap (λ l. l.has_room) w.same) w.rooms (subst (HaveRoomsAhead lower) split ahead);
@@ -123,3 +126,7 @@ pub returns-in_default-clause-rooms : goal.returns-in_default-clause-rooms
 returns-in_default-clause-rooms g p c ahead =
     let none = none_of c.args.above.now (omega (arith, c.in_default.ensures.cases)) in
     subst (HaveRooms IsDue c.args.lower.now) (sym none) (λ due. subst (HaveRoomsAhead c.args.lower.now) none ahead due.1)
+
+pub returns-in_default-clause-each : goal.returns-in_default-clause-each
+returns-in_default-clause-each g p c =
+    let none = none_of c.args.above.now (omega (arith, c.in_default.ensures.cases)) in subst (λ ls. TakeTicks ls ls) (sym none) refl

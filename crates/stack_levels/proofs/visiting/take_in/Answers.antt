@@ -26,3 +26,6 @@ returns-clause-rooms g c soon = c.take_tick.ensures.rooms (c.arrive.ensures.room
 
 pub returns-clause-held : goal.returns-clause-held
 returns-clause-held g c = c.take_tick.ensures.ticked.held ∙ c.arrive.ensures.held
+
+pub returns-clause-each : goal.returns-clause-each
+returns-clause-each g c = c.arrive.ensures.clocks c.take_tick.new.levels c.take_tick.ensures.each

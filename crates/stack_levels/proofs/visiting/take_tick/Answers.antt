@@ -1,11 +1,12 @@
-use Rattle.std.proofs.Common.{◌≡◌, ℕ, ◌+◌, ◌-◌, ◌*◌, ◌^◌, ◌<◌, ◌∙◌, Some, None, subst, sym, ap, arith}
+use Rattle.std.proofs.Common.{◌≡◌, ℕ, ◌+◌, ◌-◌, ◌*◌, ◌^◌, ◌<◌, ◌∙◌, Some, None, ◌∷◌, subst, sym, ap, arith}
+use Rattle.std.specs.Option.{option_map}
 use Rattle.std.proofs.lemmas.List.Elements.{All-cons}
 use Rattle.query_laws.specs.Orders.{AllStampsDiffer}
 use Rattle.builder_trait.specs.Builders.{PartKind}
 use Rattle.stack_levels.specs.Levels.{weight_of, all_items}
-use Rattle.stack_levels.specs.Neighbours.{IsPunctual}
+use Rattle.stack_levels.specs.Neighbours.{IsPunctual, rests}
 use Rattle.stack_levels.specs.Cost.{IsWithin, quotas}
-use Rattle.stack_levels.specs.Towers.{AreHalfway, HaveRoomsNext}
+use Rattle.stack_levels.specs.Towers.{AreHalfway, HaveRoomsNext, TakeTicks}
 use Rattle.stack_levels.proofs.Publishing.{none_of}
 use Rattle.stack_levels.proofs.Spending.{IsWithin-more}
 use Rattle.stack_levels.proofs.visiting.take_tick.Given.{Over}
@@ -36,6 +37,8 @@ returns g c =
             (λ c' is. let wrong : None ≡ Some c' = sym none ∙ is in absurd cc) w.punctual;
       };
       ticked = rw split w.ticked;
+      each = subst (λ ls. TakeTicks ls (c.walk.new.lower ∷ c.walk.new.above)) (sym split)
+          (rests (ap (option_map (λ o. o.ticks)) h.1) (ap (option_map (λ o. o.ticks)) none), w.each);
       rooms = λ next. w.rooms (subst HaveRoomsNext split next);
       cost = λ g' light.
           let cost = λ (k : ℕ). IsWithin (quotas g.B.Builder.SLOPE g.B.Builder.BASE (k + 1) g') (2 * (g' - k)) (g.B.Part.Part.mark_touches g')

@@ -26,7 +26,8 @@ made_of : (g : Over) (c : goal.After-take_memory g) → IsMade g.B.Part.Part.con
 made_of g c =
     let w = c.walk.ensures in
     let e = c.take_memory.ensures in
-    made _ _ (w.chain c.requires.chain.0 c.requires.chain.1) (is_swapped g c) w.same.0 w.same.1 w.same.2 c.in_ok-walk.ensures.taken w.at_most w.no_fewer w.dead c.in_ok-walk.ensures.in_time
+    made _ _ (w.chain c.requires.chain.0 c.requires.chain.1) (is_swapped g c) w.same.0 w.same.1 w.same.2 c.in_ok-walk.ensures.taken
+    (λ x r was is. (w.handed x r was is).1) (λ x r was is. (w.handed x r was is).0) w.dead c.in_ok-walk.ensures.in_time
     c.give_up.ensures.one (e.live ∙ c.give_up.ensures.live) (e.weight ∙ c.give_up.ensures.weight) e.none e.some
 
 pub returns-clause-prepared : goal.returns-clause-prepared
@@ -45,4 +46,4 @@ pub returns-clause-refused : goal.returns-clause-refused
 returns-clause-refused g c = anyway_err c.take_memory.result (inl (made_of g c).on)
 
 pub returns-in_err-walk-clause-refused : goal.returns-in_err-walk-clause-refused
-returns-in_err-walk-clause-refused g c = anyway_err _ (inr (paused _ _ c.walk.ensures.same c.walk.ensures.at_most c.walk.ensures.no_fewer))
+returns-in_err-walk-clause-refused g c = anyway_err _ (inr (paused _ _ c.walk.ensures.same c.walk.ensures.handed))

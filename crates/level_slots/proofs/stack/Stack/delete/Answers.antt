@@ -8,7 +8,7 @@ use Rattle.stack_levels.proofs.MarkedLevels.{one_fewer}
 use Rattle.stack_levels.proofs.Held.{as_many-held, lowest-held}
 use Rattle.level_slots.proofs.Stacks.{IsStack-ticked, IsPartOf-length}
 use Rattle.level_slots.proofs.FewParts.{asked-few, parts-few}
-use Rattle.level_slots.proofs.HeldByLevel.{AreSameHeld, same_held}
+use Rattle.level_slots.proofs.HeldByLevel.{same_held}
 use Rattle.level_slots.proofs.stack.Stack.delete.Given.{Over}
 use Rattle.level_slots.proofs.stack.Stack.delete.Goals as goal
 
@@ -80,16 +80,9 @@ returns-clause-items g c = rw (whole g c, ← seen g c) c.take_out.ensures.items
 pub returns-clause-weight : goal.returns-clause-weight
 returns-clause-weight g c = rw (whole g c, ← seen g c) c.take_out.ensures.weight
 
-held : (g : Over) (c : goal.After-self-3-1 g)
-    → AreSameHeld c.take_out.new.levels c.deref_mut.result.now (length c.self.inside.starters.items) c.args.self.now.starters
-held g c =
-    same_held _ _ _ _ (omega (arith, lowest-held _ _ c.take_out.ensures.held, ap (λ s. s.starters) c.self.view_is)) (ap (drop 1) c.take_out.ensures.held)
-
 pub returns-clause-each_level : goal.returns-clause-each_level
-returns-clause-each_level g c = rw (whole g c, ← seen g c) (held g c).each_level
-
-pub returns-clause-memory : goal.returns-clause-memory
-returns-clause-memory g c = rw (whole g c, ← seen g c) (held g c).all
+returns-clause-each_level g c =
+    rw (whole g c, ← seen g c) (same_held _ _ _ _ (omega (arith, lowest-held _ _ c.take_out.ensures.held, ap (λ s. s.starters) c.self.view_is)) (ap (drop 1) c.take_out.ensures.held))
 
 pub returns-clause-spare : goal.returns-clause-spare
 returns-clause-spare g c = omega (arith, c.requires.spare, ap (λ v. v.spare) c.self.view_is)
@@ -108,3 +101,6 @@ returns-clause-few_asked g c g' light =
       asked-few contents stamp (stamp c.args.item.now) old,
       parts-few contents (kind g) old c.self.invariant.0.levels g' lighter,
     ))
+
+pub returns-clause-ticks : goal.returns-clause-ticks
+returns-clause-ticks g c = rw (whole g c, ← seen g c) c.take_out.ensures.each

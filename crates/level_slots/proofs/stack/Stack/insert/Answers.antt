@@ -6,7 +6,7 @@ use Rattle.stack_levels.specs.Levels.{lowest_held, weight_of, all_items}
 use Rattle.stack_levels.proofs.Distinct.{AllStampsDiffer-push, AllStampsDiffer-part}
 use Rattle.stack_levels.proofs.Held.{as_many-more, lowest-more, above-more}
 use Rattle.level_slots.proofs.Stacks.{IsStack-ticked, IsPartOf-length, IsWithin-first}
-use Rattle.level_slots.proofs.HeldByLevel.{AreSameHeld, same_held}
+use Rattle.level_slots.proofs.HeldByLevel.{same_held}
 use Rattle.level_slots.proofs.stack.Stack.insert.Given.{Over}
 use Rattle.level_slots.proofs.stack.Stack.insert.Goals.{After-part_of-part}
 use Rattle.level_slots.proofs.stack.Stack.insert.Goals as goal
@@ -97,18 +97,11 @@ returns-clause-items g c = rw (whole g c, ← seen g c) (rw c.part_of-part.ensur
 pub returns-clause-weight : goal.returns-clause-weight
 returns-clause-weight g c = rw (whole g c, ← seen g c) c.take_in.ensures.weight
 
-held : (g : Over) (c : goal.After-self-4-1 g)
-    → AreSameHeld c.take_in.new.levels c.deref_mut.result.now (length c.part_of-part.new.starters.items) c.args.self.now.starters
-held g c =
-    same_held _ _ _ _
-    (omega (arith, lowest-more _ _ (some_there g c) c.take_in.ensures.held, c.part_of-part.ensures.one_fewer, ap (λ s. s.starters) c.self.view_is))
-    (above-more _ _ c.take_in.ensures.held)
-
 pub returns-clause-each_level : goal.returns-clause-each_level
-returns-clause-each_level g c = rw (whole g c, ← seen g c) (held g c).each_level
-
-pub returns-clause-memory : goal.returns-clause-memory
-returns-clause-memory g c = rw (whole g c, ← seen g c) (held g c).all
+returns-clause-each_level g c =
+    rw (whole g c, ← seen g c) (same_held _ _ _ _
+    (omega (arith, lowest-more _ _ (some_there g c) c.take_in.ensures.held, c.part_of-part.ensures.one_fewer, ap (λ s. s.starters) c.self.view_is))
+    (above-more _ _ c.take_in.ensures.held))
 
 pub returns-clause-spare : goal.returns-clause-spare
 returns-clause-spare g c = omega (arith, c.requires.spare, ap (λ v. v.spare) c.self.view_is)
@@ -122,3 +115,6 @@ pub returns-clause-some_turns : goal.returns-clause-some_turns
 returns-clause-some_turns g c =
     let light : weight_of c.take_in.new.levels < 2 ^ (31 + 1) = omega (arith, c.take_in.ensures.weight, ap weight_of (seen g c), c.requires.light) in
     omega (arith, c.part_of-part.ensures.some_turns, (c.take_in.ensures.cost 31 light).spent.turns_spent)
+
+pub returns-clause-ticks : goal.returns-clause-ticks
+returns-clause-ticks g c = rw (whole g c, ← seen g c) c.take_in.ensures.each

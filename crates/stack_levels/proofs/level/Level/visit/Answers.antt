@@ -60,7 +60,7 @@ returns-clause-visited g c =
     (λ early. let w = c.publish.ensures.waits early in
     subst (λ n. is_visited n c.publish.new.lower) (sym w.0)
     (subst (λ l. is_visited mid l) (sym w.1)
-    (visited-ticked g.B.Part.Part.contents (kind g) h two parts level ticked rooms fed early)))
+    (visited-ticked g.B.Part.Part.contents (kind g) h two parts level ticked rooms c.tick.ensures.runs fed early)))
     (λ late. let ended : ticks_of mid ≡ 2 ^ mid.level = omega (arith, late, ticked, h.early, ap (λ k. 2 ^ k) level) in
     visited-published g.B.Part.Part.contents (kind g) h two parts level ticked rooms c.publish.new.self c.publish.new.lower
     (sym (ended ∙ ap (λ k. 2 ^ k) level)) (c.publish.ensures.ends ended)

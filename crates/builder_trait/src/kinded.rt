@@ -1,7 +1,7 @@
 //! What the theorems on parts in levels rest on, in one record.
 ghost use Rattle.builder_trait.specs.Builders.{PartKind};
 
-use builder_trait::Builder;
+use crate::builder::Builder;
 use query_laws::Item;
 
 /// The stamps and the orders of a builder's items, its slope and its base. Laws only.
