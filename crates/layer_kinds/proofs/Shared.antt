@@ -8,7 +8,7 @@ use Rattle.stack_levels.specs.Cost.{IsWithin}
 use Rattle.stack_levels.proofs.Spending.{IsWithin-of, IsWithin-more, IsWithin-then}
 use Rattle.global_rebuild.specs.Index.{Indexed}
 use Rattle.map_kinds.specs.Touches.{touches_at}
-use Rattle.layer_kinds.specs.Shares.{Rate, Rates, share, IsShared}
+use Rattle.layer_kinds.specs.Shares.{Rate, Rates, share, IsShared, CostsShares}
 use Rattle.layer_kinds.specs.Indexing.{rates_of}
 
 share-append : (f : Rate → ℕ) (first second : Rates) → share f (first ++ second) ≡ share f first + share f second
@@ -33,3 +33,8 @@ module _ (turns marks : Rate → ℕ) (g : ℕ) where
       → IsShared turns marks second g mid new → IsShared turns marks (first ++ second) g old new
   IsShared-then first second {old} {mid} {new} h k =
       IsWithin-more (IsWithin-then h k) (omega (arith, share-append turns first second)) (omega (arith, share-append marks first second)) (omega arith)
+
+pub costs_then : {turns marks : ℕ → Rate → ℕ} {many : ℕ} {first second : Rates} {old mid new : Counts} → CostsShares turns marks many first old mid
+    → CostsShares turns marks many second mid new → CostsShares turns marks many (first ++ second) old new
+costs_then {turns} {marks} {many} {first} {second} h k =
+    record { within = λ g less. IsShared-then (turns g) (marks g) g first second (h.within g less) (k.within g less) }

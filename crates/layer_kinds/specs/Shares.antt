@@ -1,5 +1,5 @@
 -- What updates of several indexes cost, each a share.
-use Rattle.std.specs.Prelude.{ℕ, ◌+◌, ◌*◌, ◌≤◌, All, List, Option, IfSome, count_by, sum_by}
+use Rattle.std.specs.Prelude.{ℕ, ◌+◌, ◌*◌, ◌^◌, ◌<◌, ◌≤◌, All, List, Option, IfSome, count_by, sum_by}
 use Rattle.std.specs.Option.{is_some, option_map_or}
 use Rattle.query_laws.specs.StepLedger.{Counts}
 use Rattle.stack_levels.specs.Cost.{IsWithin, quotas}
@@ -32,6 +32,10 @@ AreLow rates = All (λ r. IfSome r IsLow) rates
 -- at most the shares of turns and marks of these indexes together, and the touches that kinds of the map may take
 abbrev pub IsShared : (Rate → ℕ) → (Rate → ℕ) → Rates → ℕ → Counts → Counts → Type 0
 IsShared turns marks rates g old new = IsWithin (share turns rates) (share marks rates) (touches_at g) old new
+
+-- at each level whose power of two is above so many, half of them told, at most the shares at that level
+pub record CostsShares (turns marks : ℕ → Rate → ℕ) (many : ℕ) (rates : Rates) (old new : Counts) : Type 0 where
+  pub within : (g : ℕ) → many < 2 ^ (g + 1) → IsShared (turns g) (marks g) rates g old new
 
 abbrev pub prepare_turns : ℕ → Rate → ℕ
 prepare_turns g rate = 4 * quotas rate.slope rate.base 0 g

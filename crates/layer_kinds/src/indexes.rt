@@ -5,7 +5,7 @@ mod has;
 ghost use Rattle.std.specs.Prelude.{◌≡◌, ℕ, ◌+◌, ◌*◌, ◌^◌, ◌<◌, ◌≤◌, ◌++◌, ◌∷◌, [], List, IsTrue, OnOk, length};
 ghost use Rattle.std.specs.Option.{is_some};
 ghost use Rattle.id_chain.specs.Chain.{Entry, HandlesDiffer, is_linked, without_handle};
-ghost use Rattle.layer_kinds.specs.Shares.{Rates, AreLow, count_of, IsShared, prepare_turns, prepare_marks, insert_turns, insert_marks, delete_turns, delete_marks};
+ghost use Rattle.layer_kinds.specs.Shares.{Rates, AreLow, count_of, CostsShares, prepare_turns, prepare_marks, insert_turns, insert_marks, delete_turns, delete_marks};
 ghost use Rattle.layer_kinds.specs.SharesLaws.{AreLow-one, AreLow-both};
 ghost use Rattle.layer_kinds.specs.Indexing.{rates_of, IsOf, IsReady};
 
@@ -51,8 +51,7 @@ pub trait Indexes: Drop + Sized {
         ensures of { (stamps : ℕ) → are_of self.old chain.now.entries stamps → are_of self.new chain.now.entries stamps }
         ensures there { rates self.new ≡ rates self.old }
         ensures ready { OnOk result (are_ready self.new) }
-        ensures cost { (g : ℕ) → 2 * length chain.now.entries + 10 < 2 ^ (g + 1)
-            → IsShared (prepare_turns g) (prepare_marks g) (rates self.old) g steps.old steps.new };
+        ensures cost { CostsShares prepare_turns prepare_marks (2 * length chain.now.entries + 10) (rates self.old) steps.old steps.new };
 
     /// Takes in the last item of a chain.
     fn insert<L: Ledger>(&mut self, chain: &Chain<Self::Item>, handle: Handle, steps: &mut Steps<L>)
@@ -65,8 +64,7 @@ pub trait Indexes: Drop + Sized {
             → are_of self.new chain.now.entries (Self.Item.stamp item + 1) }
         ensures there { rates self.new ≡ rates self.old }
         ensures some_turns { steps.old.turns + 3 * count_of (rates self.old) ≤ steps.new.turns }
-        ensures cost { (g : ℕ) → 2 * length chain.now.entries + 8 < 2 ^ (g + 1)
-            → IsShared (insert_turns g) (insert_marks g) (rates self.old) g steps.old steps.new };
+        ensures cost { CostsShares insert_turns insert_marks (2 * length chain.now.entries + 8) (rates self.old) steps.old steps.new };
 
     /// Lets go of a linked item, which is unlinked next.
     fn delete<L: Ledger>(&mut self, chain: &Chain<Self::Item>, handle: Handle, steps: &mut Steps<L>)
@@ -75,8 +73,7 @@ pub trait Indexes: Drop + Sized {
         requires linked { IsTrue (is_linked handle chain.now.entries) }
         ensures of { (stamps : ℕ) → are_of self.old chain.now.entries stamps → are_of self.new (without_handle handle chain.now.entries) stamps }
         ensures there { rates self.new ≡ rates self.old }
-        ensures cost { (g : ℕ) → 2 * length chain.now.entries + 10 < 2 ^ (g + 1)
-            → IsShared (delete_turns g) (delete_marks g) (rates self.old) g steps.old steps.new };
+        ensures cost { CostsShares delete_turns delete_marks (2 * length chain.now.entries + 10) (rates self.old) steps.old steps.new };
 
     /// All are of kinds of the map.
     ghost low: { (s : Self) → AreLow (rates s) };
@@ -167,6 +164,7 @@ impl<A: Indexes, B: Indexes<Item = A::Item>> Indexes for (A, B) {
         self.0.count() + self.1.count()
     }
 
+    #[tactic(auto, using(crate::proofs::Shared::costs_then))]
     fn prepare<L: Ledger>(
         &mut self,
         chain: &Chain<A::Item>,
@@ -176,11 +174,13 @@ impl<A: Indexes, B: Indexes<Item = A::Item>> Indexes for (A, B) {
         self.1.prepare(chain, steps)
     }
 
+    #[tactic(auto, using(crate::proofs::Shared::costs_then))]
     fn insert<L: Ledger>(&mut self, chain: &Chain<A::Item>, handle: Handle, steps: &mut Steps<L>) {
         self.0.insert(chain, handle, steps);
         self.1.insert(chain, handle, steps);
     }
 
+    #[tactic(auto, using(crate::proofs::Shared::costs_then))]
     fn delete<L: Ledger>(&mut self, chain: &Chain<A::Item>, handle: Handle, steps: &mut Steps<L>) {
         self.0.delete(chain, handle, steps);
         self.1.delete(chain, handle, steps);

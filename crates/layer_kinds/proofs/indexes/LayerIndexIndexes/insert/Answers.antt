@@ -11,25 +11,27 @@ use Rattle.layer_kinds.proofs.indexes.LayerIndexIndexes.insert.Goals as goal
 use Rattle.layer_kinds.proofs.indexes.LayerIndexIndexes.insert.Goals.{in-Some, in_default}
 
 pub returns-clause-cost : goal.returns-clause-cost
-returns-clause-cost g c g' light =
-    let contents = g.B.Part.Part.contents in
-    let stamp = g.B.Item.Item.stamp in
-    let rate : Rate = record { slope = g.B.Builder.SLOPE; base = g.B.Builder.BASE } in
-    let index = c.self.inside.index in
-    subst (λ o. IsShared (insert_turns g') (insert_marks g') (rates_of rate o) g' c.args.steps.now c.match-self.steps) c.self.view_is (elim c.match-self.branch [
-      | in-Some w ↦
-          let last = c.requires.last in
-          let of = subst (λ o. IsOf contents stamp o last.0 (stamp last.1)) (sym c.self.view_is) last.3 in
-          let h : IsIndexOf contents stamp w.in-Some.index last.0 (stamp last.1) = subst (λ o. IsOf contents stamp o last.0 (stamp last.1)) w.in-Some.is of in
-          let e : Entry g.row.B-Item.Denot = record { handle = c.args.handle; item = last.1 } in
-          let more = ap length last.2 ∙ length-append last.0 (e ∷ []) in
-          subst (λ s. IsShared (insert_turns g') (insert_marks g') (rates_of rate index) g' c.args.steps.now s) (sym w.steps-is)
-          (IsShared-there (insert_turns g') (insert_marks g') g' rate index w.in-Some.index w.in-Some.is (g.met.B.MapKind.few_touches g')
-          (w.commit_insert.ensures.cost g' (omega (arith, light, more, as_many contents stamp w.in-Some.index last.0 h))))
-      | in_default w ↦
-          subst (λ s. IsShared (insert_turns g') (insert_marks g') (rates_of rate index) g' c.args.steps.now s) (sym w.steps-is)
-          (IsShared-none (insert_turns g') (insert_marks g') g' rate c.args.steps.now index w.in_default.is)
-    ])
+returns-clause-cost g c = record {
+  within = λ g' light.
+      let contents = g.B.Part.Part.contents in
+      let stamp = g.B.Item.Item.stamp in
+      let rate : Rate = record { slope = g.B.Builder.SLOPE; base = g.B.Builder.BASE } in
+      let index = c.self.inside.index in
+      subst (λ o. IsShared (insert_turns g') (insert_marks g') (rates_of rate o) g' c.args.steps.now c.match-self.steps) c.self.view_is (elim c.match-self.branch [
+        | in-Some w ↦
+            let last = c.requires.last in
+            let of = subst (λ o. IsOf contents stamp o last.0 (stamp last.1)) (sym c.self.view_is) last.3 in
+            let h : IsIndexOf contents stamp w.in-Some.index last.0 (stamp last.1) = subst (λ o. IsOf contents stamp o last.0 (stamp last.1)) w.in-Some.is of in
+            let e : Entry g.row.B-Item.Denot = record { handle = c.args.handle; item = last.1 } in
+            let more = ap length last.2 ∙ length-append last.0 (e ∷ []) in
+            subst (λ s. IsShared (insert_turns g') (insert_marks g') (rates_of rate index) g' c.args.steps.now s) (sym w.steps-is)
+            (IsShared-there (insert_turns g') (insert_marks g') g' rate index w.in-Some.index w.in-Some.is (g.met.B.MapKind.few_touches g')
+            (w.commit_insert.ensures.cost g' (omega (arith, light, more, as_many contents stamp w.in-Some.index last.0 h))))
+        | in_default w ↦
+            subst (λ s. IsShared (insert_turns g') (insert_marks g') (rates_of rate index) g' c.args.steps.now s) (sym w.steps-is)
+            (IsShared-none (insert_turns g') (insert_marks g') g' rate c.args.steps.now index w.in_default.is)
+      ]);
+}
 
 pub returns-clause-of : goal.returns-clause-of
 returns-clause-of g c front item is =

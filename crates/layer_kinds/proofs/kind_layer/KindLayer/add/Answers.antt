@@ -95,7 +95,7 @@ returns-then-is_err-clause-cost g c =
     let level = greatest_level n in
     let light : 2 * n + 10 < 2 ^ (level + 1) = greatest-light n c.self.invariant.2 in
     subst (λ k. IsInBounds (count_of (g.X.Indexes.rates k.indexes)) (length k.entries) c.args.steps.now c.prepare.new.steps) c.self.view_is
-    (refused-cost (g.X.Indexes.rates l.indexes) (g.met.X.Indexes.low l.indexes) level (c.prepare.ensures.cost level (omega (arith, light, ap length same))))
+    (refused-cost (g.X.Indexes.rates l.indexes) (g.met.X.Indexes.low l.indexes) level (c.prepare.ensures.cost.within level (omega (arith, light, ap length same))))
 
 pub returns-clause-cost : goal.returns-clause-cost
 returns-clause-cost g c =
@@ -108,9 +108,9 @@ returns-clause-cost g c =
     let level = greatest_level n in
     let light : 2 * n + 10 < 2 ^ (level + 1) = greatest-light n c.self.invariant.2 in
     subst (λ k. IsInBounds (count_of (g.X.Indexes.rates k.indexes)) (length k.entries) c.args.steps.now c.insert.new.steps) c.self.view_is
-    (added-cost (g.X.Indexes.rates l.indexes) (g.met.X.Indexes.low l.indexes) level (c.prepare.ensures.cost level (omega (arith, light, ap length same)))
+    (added-cost (g.X.Indexes.rates l.indexes) (g.met.X.Indexes.low l.indexes) level (c.prepare.ensures.cost.within level (omega (arith, light, ap length same)))
     (subst (λ rs. IsShared (insert_turns level) (insert_marks level) rs level c.prepare.new.steps c.insert.new.steps) c.prepare.ensures.there
-    (c.insert.ensures.cost level (omega (arith, light, more)))))
+    (c.insert.ensures.cost.within level (omega (arith, light, more)))))
 
 pub returns-clause-told : goal.returns-clause-told
 returns-clause-told g c =
@@ -118,7 +118,7 @@ returns-clause-told g c =
     let n = length l.directory.entries in
     let rates = g.X.Indexes.rates c.args.self.now.indexes in
     let same : c.chain-2.result.now.entries ≡ l.directory.entries = search rules in
-    let prepared = c.prepare.ensures.cost (greatest_level n) (omega (arith, ap length same, greatest-light n c.self.invariant.2)) in
+    let prepared = c.prepare.ensures.cost.within (greatest_level n) (omega (arith, ap length same, greatest-light n c.self.invariant.2)) in
     let later : c.args.steps.now.turns ≤ c.prepare.new.steps.turns = omega (arith, prepared.spent.turns_spent) in
     let there : count_of (g.X.Indexes.rates c.prepare.new.self) ≡ count_of rates =
     ap count_of c.prepare.ensures.there ∙ ap (λ k. count_of (g.X.Indexes.rates k.indexes)) c.self.view_is in

@@ -70,7 +70,7 @@ returns-in_err-prepare-clause-cost g c =
     let light : 2 * n + 10 < 2 ^ (level + 1) = greatest-light n c.self.invariant.2 in
     subst (λ r. IsCost (count_of (g.X.Indexes.rates c.args.self.now.indexes)) (length c.args.self.now.entries) r c.args.steps.now c.prepare.new.steps) (sym refused)
     (subst (λ k. IsInBounds (count_of (g.X.Indexes.rates k.indexes)) (length k.entries) c.args.steps.now c.prepare.new.steps) c.self.view_is
-    (refused-cost rates (g.met.X.Indexes.low l.indexes) level (c.prepare.ensures.cost level (omega (arith, light, ap length same)))))
+    (refused-cost rates (g.met.X.Indexes.low l.indexes) level (c.prepare.ensures.cost.within level (omega (arith, light, ap length same)))))
 
 pub returns-clause-cost : goal.returns-clause-cost
 returns-clause-cost g c =
@@ -82,9 +82,9 @@ returns-clause-cost g c =
     let level = greatest_level n in
     let light : 2 * n + 10 < 2 ^ (level + 1) = greatest-light n c.self.invariant.2 in
     subst (λ k. IsInBounds (count_of (g.X.Indexes.rates k.indexes)) (length k.entries) c.args.steps.now c.delete.new.steps) c.self.view_is
-    (removed-cost rates (g.met.X.Indexes.low l.indexes) level (c.prepare.ensures.cost level (omega (arith, light, ap length same)))
+    (removed-cost rates (g.met.X.Indexes.low l.indexes) level (c.prepare.ensures.cost.within level (omega (arith, light, ap length same)))
     (subst (λ rs. IsShared (delete_turns level) (delete_marks level) rs level c.prepare.new.steps c.delete.new.steps) c.prepare.ensures.there
-    (c.delete.ensures.cost level (omega (arith, light, ap length same')))))
+    (c.delete.ensures.cost.within level (omega (arith, light, ap length same')))))
 
 pub returns-clause-told : goal.returns-clause-told
 returns-clause-told g c =
