@@ -1,0 +1,13 @@
+use Rattle.std.proofs.Common.{◌≡◌, ◌-◌, ◌*◌, ◌^◌, ◌≤◌}
+use Rattle.std.specs.List.{sum_by, filter}
+use Rattle.query_laws.specs.StepLedger.{Spends}
+use Rattle.map_shapes.specs.Questions.{is_in}
+use Rattle.range_ranks.specs.Queries.{live_between}
+use Rattle.range_ranks.proofs.scanning.weigh_leaf.Given as goal
+
+abbrev pub invariant-loop-place : goal.invariant-loop-place
+invariant-loop-place g l = record {
+  sum : l.sum ≡ sum_by (λ p. p.w) (filter (is_in l.rect) (live_between l.points l.fn.places.from l.place));
+  few : l.sum ≤ (l.place - l.fn.places.from) * 2 ^ 31;
+  spent : Spends l.initial.steps l.steps 0 0 (l.place - l.fn.places.from);
+}

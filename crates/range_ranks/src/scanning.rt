@@ -1,0 +1,265 @@
+//! Neighbouring places of the first order, whose abscissas are in the rectangle.
+ghost use Rattle.std.specs.Prelude.{◌≡◌, ◌+◌, ◌-◌, ◌*◌, ◌/◌, ◌^◌, ◌<◌, ◌≤◌, ◌++◌, ℕ, OnOk, length, filter, map, sum_by, nat_le, ◌&&◌};
+ghost use Rattle.query_laws.specs.StepLedger.{Spends};
+ghost use Rattle.range_ranks.specs.Heights.{lowest};
+ghost use Rattle.range_ranks.specs.Measures.{measure_of};
+ghost use Rattle.range_ranks.specs.Tree.{IsTree};
+ghost use Rattle.range_ranks.specs.declared.scanning.Places.{Places};
+ghost use Rattle.row_blocks.specs.Blocks.{IsMultiple};
+ghost use Rattle.range_ranks.specs.Queries.{AreWithinAbscissas, IsLeafOf, IsOrdinateAt, has_ordinate, live_at, live_in_places};
+ghost use Rattle.map_shapes.specs.Questions.{is_in};
+
+use crate::leaves::{LEAF_LEN, Leaf};
+use crate::measure::Measure;
+use crate::rows::RangeRows;
+use crate::search::Reach;
+use builder_trait::flat::FlatPart;
+use builder_trait::{Part, partition_point};
+use map_shapes::{IdTally, Point, Rect};
+use query_laws::NoMemory;
+use query_laws::step_ledger::Steps;
+use row_blocks::{block_len, block_start};
+use std::sync::ledger::Ledger;
+
+/// Neighbouring places of the first order: those from `from` on and below `to`.
+#[derive(Clone, Copy, Debug)]
+pub(crate) struct Places {
+    pub(crate) from: usize,
+    pub(crate) to: usize,
+}
+
+impl Places {
+    /// The places between that whole blocks of a height have.
+    pub(crate) fn whole_blocks(self, height: u32) -> Places
+        requires ordered { self.from ≤ self.to }
+        requires small { self.to ≤ 2 ^ 31 }
+        requires low { height ≤ 32 }
+        ensures first { self.from ≤ result.from }
+        ensures ordered { result.from ≤ result.to }
+        ensures last { result.to ≤ self.to }
+        ensures front { result.from < result.to → IsMultiple result.from height }
+        ensures back { result.from < result.to → IsMultiple result.to height }
+        ensures few { result.from - self.from + (self.to - result.to) ≤ 2 * (2 ^ height - 1) }
+    {
+        let low = block_start(self.from + block_len(height) - 1, height);
+        let high = block_start(self.to, height);
+        if low <= high {
+            Places {
+                from: low,
+                to: high,
+            }
+        } else {
+            Places {
+                from: self.to,
+                to: self.to,
+            }
+        }
+    }
+
+    /// Whether they have all from `start` on and below `end`.
+    #[inline]
+    pub(crate) fn have(self, start: usize, end: usize) -> bool
+        ensures { result ≡ (nat_le self.from start && nat_le end self.to) }
+    {
+        self.from <= start && end <= self.to
+    }
+}
+
+/// How many ordinates of neighbouring places are in the rectangle.
+fn hits(ordinates: &[u32], rect: &Rect) -> usize
+    ensures { result ≡ length (filter (has_ordinate rect.now) ordinates.now) }
+{
+    ordinates
+        .iter()
+        .filter(|y| rect.y1 <= **y && **y <= rect.y2)
+        .count()
+}
+
+/// Whether an ordinate is in the rectangle.
+#[inline]
+fn is_hit(rect: &Rect, y: u32) -> bool
+    ensures { result ≡ has_ordinate rect.now y }
+{
+    rect.y1 <= y && y <= rect.y2
+}
+
+/// What the point at a place weighs, where it is live and in the rectangle: one touch at most.
+#[inline]
+fn weigh_at<L: Ledger>(
+    points: &FlatPart<Point>,
+    rect: &Rect,
+    place: usize,
+    y: u32,
+    steps: &mut Steps<L>,
+) -> u64
+    requires { IsOrdinateAt points.now rect.now place y }
+    ensures sum { result ≡ sum_by (λ p. p.w) (filter (is_in rect.now) (live_at points.now place)) }
+    ensures small { result < 2 ^ 31 }
+    ensures cost { Spends steps.old steps.new 0 0 1 }
+{
+    let hit = is_hit(rect, y);
+    if hit {
+        points.items().at(place, steps).w as u64
+    } else {
+        0
+    }
+}
+
+/// Pushes the identifier of the point at a place, where it is live and in the rectangle: one touch then, and else none.
+#[inline]
+fn list_at<L: Ledger>(
+    points: &FlatPart<Point>,
+    rect: &Rect,
+    place: usize,
+    y: u32,
+    tally: &mut IdTally,
+    steps: &mut Steps<L>,
+) -> Result<(), NoMemory>
+    requires { IsOrdinateAt points.now rect.now place y }
+    ensures listed { OnOk result (tally.new ≡ tally.old ++ map (λ p. p.id) (filter (is_in rect.now) (live_at points.now place))) }
+    ensures cost { Spends steps.old steps.new 0 0 (length (filter (is_in rect.now) (live_at points.now place))) }
+{
+    let hit = is_hit(rect, y);
+    if hit {
+        let item = points.items().at(place, steps);
+        tally.push(item.id)
+    } else {
+        Ok(())
+    }
+}
+
+/// What the live points of the rectangle at places of one leaf weigh: a touch for each of them.
+fn weigh_leaf<L: Ledger>(
+    points: &FlatPart<Point>,
+    rect: &Rect,
+    leaf: &Leaf,
+    places: Places,
+    steps: &mut Steps<L>,
+) -> u64
+    requires leaf { IsLeafOf points.now rect.now places leaf.now }
+    ensures sum { result ≡ sum_by (λ p. p.w) (live_in_places points.now rect.now places) }
+    ensures small { result ≤ (places.to - places.from) * 2 ^ 31 }
+    ensures cost { Spends steps.old steps.new 0 0 (places.to - places.from) }
+{
+    let mut sum = 0u64;
+    for place in places.from..places.to {
+        let y = leaf.ordinates[place % LEAF_LEN];
+        sum += weigh_at(points, rect, place, y, steps);
+    }
+    sum
+}
+
+/// What the live points of the rectangle at places of one leaf count for.
+fn measure_leaf<L: Ledger>(
+    points: &FlatPart<Point>,
+    rect: &Rect,
+    leaf: &Leaf,
+    places: Places,
+    measure: Measure,
+    steps: &mut Steps<L>,
+) -> u64
+    requires leaf { IsLeafOf points.now rect.now places leaf.now }
+    ensures sum { result ≡ sum_by (measure_of measure) (live_in_places points.now rect.now places) }
+    ensures small { result ≤ (places.to - places.from) * 2 ^ 31 }
+    ensures cost { Spends steps.old steps.new 0 0 (places.to - places.from) }
+{
+    match measure {
+        Measure::Count => {
+            let first = places.from % LEAF_LEN;
+            let end = first + (places.to - places.from);
+            hits(&leaf.ordinates[first..end], rect) as u64
+        }
+        Measure::Weight => weigh_leaf(points, rect, leaf, places, steps),
+    }
+}
+
+/// Pushes the identifiers of the live points of the rectangle at places of one leaf: a touch for each of them.
+fn list_leaf<L: Ledger>(
+    points: &FlatPart<Point>,
+    rect: &Rect,
+    leaf: &Leaf,
+    places: Places,
+    tally: &mut IdTally,
+    steps: &mut Steps<L>,
+) -> Result<(), NoMemory>
+    requires leaf { IsLeafOf points.now rect.now places leaf.now }
+    ensures listed { OnOk result (tally.new ≡ tally.old ++ map (λ p. p.id) (live_in_places points.now rect.now places)) }
+    ensures cost { Spends steps.old steps.new 0 0 (length (live_in_places points.now rect.now places)) }
+{
+    for place in places.from..places.to {
+        let y = leaf.ordinates[place % LEAF_LEN];
+        list_at(points, rect, place, y, tally, steps)?;
+    }
+    Ok(())
+}
+
+impl RangeRows {
+    /// The places whose points have abscissas in the rectangle: two binary searches.
+    pub(crate) fn places_in<L: Ledger>(
+        &self,
+        points: &FlatPart<Point>,
+        rect: &Rect,
+        steps: &mut Steps<L>,
+    ) -> Places
+        requires over { IsTree points.now self.now }
+        ensures inside { AreWithinAbscissas points.now result rect.now }
+        ensures cost { (h : ℕ) → length points.now.items ≤ 2 ^ h → Spends steps.old steps.new 0 0 (2 * (h + 1)) }
+    {
+        // By its contract the first order rises.
+        let _len = points.len();
+        let row = &self.abscissas;
+        let from = partition_point(row, &Reach::Below(rect.x1), 0, row.len(), steps);
+        let to = partition_point(row, &Reach::UpTo(rect.x2), from, row.len(), steps);
+        Places { from, to }
+    }
+
+    /// What the live points of the rectangle at places whose abscissas are in it count for: for a number a touch for each leaf, and for
+    /// weights one more for each point.
+    pub(crate) fn measure_places<L: Ledger>(
+        &self,
+        points: &FlatPart<Point>,
+        rect: &Rect,
+        places: Places,
+        measure: Measure,
+        steps: &mut Steps<L>,
+    ) -> u64
+        requires over { IsTree points.now self.now }
+        requires ordered { places.from ≤ places.to }
+        requires inside { (all : Places) × AreWithinAbscissas points.now all rect.now × (all.from ≤ places.from) × (places.to ≤ all.to) }
+        ensures sum { result ≡ sum_by (measure_of measure) (live_in_places points.now rect.now places) }
+        ensures cost { Spends steps.old steps.new 0 0 ((places.to - places.from) / 16 + 2 + (places.to - places.from)) }
+    {
+        let mut sum = 0u64;
+        for l in places.from / LEAF_LEN..places.to.div_ceil(LEAF_LEN) {
+            let leaf = self.leaves.at(l, steps);
+            let from = places.from.max(l * LEAF_LEN);
+            let to = places.to.min(l * LEAF_LEN + LEAF_LEN);
+            sum += measure_leaf(points, rect, &leaf, Places { from, to }, measure, steps);
+        }
+        sum
+    }
+
+    /// Pushes the identifiers of the live points of the rectangle at places whose abscissas are in it.
+    pub(crate) fn list_places<L: Ledger>(
+        &self,
+        points: &FlatPart<Point>,
+        rect: &Rect,
+        places: Places,
+        tally: &mut IdTally,
+        steps: &mut Steps<L>,
+    ) -> Result<(), NoMemory>
+        requires over { IsTree points.now self.now }
+        requires ordered { places.from ≤ places.to }
+        requires inside { (all : Places) × AreWithinAbscissas points.now all rect.now × (all.from ≤ places.from) × (places.to ≤ all.to) }
+        ensures listed { OnOk result (tally.new ≡ tally.old ++ map (λ p. p.id) (live_in_places points.now rect.now places)) }
+        ensures cost { Spends steps.old steps.new 0 0 ((places.to - places.from) / 16 + 2 + length (live_in_places points.now rect.now places)) }
+    {
+        for l in places.from / LEAF_LEN..places.to.div_ceil(LEAF_LEN) {
+            let leaf = self.leaves.at(l, steps);
+            let from = places.from.max(l * LEAF_LEN);
+            let to = places.to.min(l * LEAF_LEN + LEAF_LEN);
+            list_leaf(points, rect, &leaf, Places { from, to }, tally, steps)?;
+        }
+        Ok(())
+    }
+}

@@ -1,0 +1,7 @@
+pub mod Totals
+pub mod Words
+pub mod Nodes
+pub mod Putting
+pub mod Cursors
+pub mod Odds
+pub mod Ranked

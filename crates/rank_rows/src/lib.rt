@@ -1,0 +1,17 @@
+//! Rows of bits with ranks: what a wavelet tree keeps of its levels (Chazelle 1988; Grossi, Gupta and Vitter 2003).
+//!
+//! A row is cut into blocks of `2^h` places. Each place goes into one half of its block, and the next row is this one with each block
+//! parted stably into its halves. So one bit a place, and how many bits are set before it in its block, say where it stands in the next
+//! row. Places may die (weak deletion, Overmars 1983): a tree over each block counts and weighs what died there (Fenwick 1994).
+#![tactic(auto)]
+
+mod cursor;
+mod dead;
+mod ranks;
+mod store;
+mod word;
+
+pub use ranks::{Halves, RankRows};
+
+#[cfg(test)]
+mod tests;
