@@ -13,8 +13,8 @@ use Rattle.map_shapes.specs.declared.asked.Asked.{Asked}
 use Rattle.layer_kinds.specs.declared.faults.AskFault.{AskFault}
 use Rattle.layer_kinds.specs.declared.faults.AskFault.TheVariants.{NoLayer, WrongKind, NoIndex, Unknown, NoMemory}
 use Rattle.layer_kinds.specs.Asking.{IsAsking, IsReading, IsTouching, most_of}
-use Rattle.range_tree.specs.Costs as range
-use Rattle.range_tree.specs.QuestionLaws as ranges
+use Rattle.range_ranks.specs.Costs as range
+use Rattle.range_ranks.specs.QuestionLaws as ranges
 use Rattle.kd_nearest.specs.Costs as near
 use Rattle.priority_search.specs.Costs as top
 use Rattle.priority_search.specs.QuestionLaws as tops

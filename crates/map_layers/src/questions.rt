@@ -9,7 +9,7 @@ use map_kinds::{MapQuestion, MapRows};
 use map_questions::{Above, AnyAnswer, AnyQuestion, Near, NearK, Stab, StabCount, Top};
 use map_shapes::{CountIn, Found, FoundList, IdList, ListIn, Peak, Shaped, SumIn};
 use priority_search::TopRows;
-use range_tree::RangeRows;
+use range_ranks::RangeRows;
 use std::marker::Model;
 
 /// One of all questions, which rows of a kind answer.

@@ -10,7 +10,7 @@ use interval_stab::StabRows;
 use kd_nearest::KdRows;
 use priority_search::TopRows;
 use query_laws::step_ledger::{SHARES, blank};
-use range_tree::RangeRows;
+use range_ranks::RangeRows;
 use samples::{Failure, Outcome, PlainMap, Spread};
 use std::env;
 use std::marker::Brand;

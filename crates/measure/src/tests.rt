@@ -4,7 +4,7 @@ ghost use Rattle.std.specs.Prelude.{◌≡◌};
 use crate::{DIFFERS, end};
 use builder_trait::RowsBuilder;
 use query_laws::step_ledger::{SHARES, blank};
-use range_tree::RangeRows;
+use range_ranks::RangeRows;
 use samples::{Failure, Outcome, PlainMap, Spread};
 use std::fs;
 use std::marker::Brand;

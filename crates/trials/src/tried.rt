@@ -7,7 +7,7 @@ use map_questions::{AnyAnswer, AnyQuestion};
 use priority_search::TopRows;
 use query_laws::step_ledger::Steps;
 use query_laws::{NoMemory, Question};
-use range_tree::RangeRows;
+use range_ranks::RangeRows;
 use samples::{Failure, Outcome, Seeded};
 use std::alloc::Global;
 use std::sync::ledger::Ledger;

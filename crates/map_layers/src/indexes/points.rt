@@ -12,7 +12,7 @@ use map_shapes::{Asked, CountIn, IndexSet, ListIn, Point, Shape, SumIn};
 use priority_search::{TopBuilder, TopRows};
 use query_laws::NoMemory;
 use query_laws::step_ledger::Steps;
-use range_tree::{RangeBuilder, RangeRows};
+use range_ranks::{RangeBuilder, RangeRows};
 use std::alloc::Global;
 use std::sync::ledger::Ledger;
 
