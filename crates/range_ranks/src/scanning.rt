@@ -65,14 +65,24 @@ impl Places {
     }
 }
 
-/// How many ordinates of neighbouring places are in the rectangle.
+/// Whether an ordinate is one of these. Both bounds are compared, so that the processor guesses nothing.
+#[inline]
+fn is_between(low: u32, high: u32, y: u32) -> bool
+    ensures { result ≡ (nat_le low y && nat_le y high) }
+{
+    (low <= y) & (y <= high)
+}
+
+/// How many ordinates of neighbouring places are in the rectangle. It has no branch for each of them.
 fn hits(ordinates: &[u32], rect: &Rect) -> usize
     ensures { result ≡ length (filter (has_ordinate rect.now) ordinates.now) }
 {
-    ordinates
-        .iter()
-        .filter(|y| rect.y1 <= **y && **y <= rect.y2)
-        .count()
+    let (low, high) = (rect.y1, rect.y2);
+    let mut count = 0usize;
+    for y in ordinates {
+        count += is_between(low, high, *y) as usize;
+    }
+    count
 }
 
 /// Whether an ordinate is in the rectangle.
