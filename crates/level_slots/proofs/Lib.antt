@@ -3,3 +3,4 @@ pub mod Stacks
 pub mod FewParts
 pub mod Forecasting
 pub mod TakingOver
+pub mod TakingMemory

@@ -4,7 +4,7 @@ use Rattle.std.proofs.lemmas.Bool.{cases_lt}
 use Rattle.stack_levels.specs.Slots.{Slots, held_in}
 use Rattle.stack_levels.specs.Levels.{held_of}
 use Rattle.level_slots.specs.Rooms.{rooms_in}
-use Rattle.level_slots.specs.Preparing.{AreSameButKept, KeepRooms, KeepRoomsAbove}
+use Rattle.level_slots.specs.Preparing.{KeepMore, KeepRooms, KeepRoomsAbove}
 use Rattle.level_slots.proofs.Forecasting.{IsSame-kept}
 
 module _ {P Item : Type 0} where
@@ -12,31 +12,31 @@ module _ {P Item : Type 0} where
   held-pushed [] l = omega arith
   held-pushed (x ∷ levels) l = omega (arith, held-pushed levels l)
 
-  pub AreSameButKept-refl : (levels : List (Slots P Item)) → AreSameButKept levels levels
-  AreSameButKept-refl [] = refl
-  AreSameButKept-refl (l ∷ levels) = (refl, AreSameButKept-refl levels)
+  pub KeepMore-refl : (levels : List (Slots P Item)) → KeepMore levels levels
+  KeepMore-refl [] = refl
+  KeepMore-refl (l ∷ levels) = (refl, omega arith, KeepMore-refl levels)
 
-  KeepRooms-same : (lower : Slots P Item) (old new : List (Slots P Item)) → AreSameButKept old new → KeepRooms lower old new
+  KeepRooms-same : (lower : Slots P Item) (old new : List (Slots P Item)) → KeepMore old new → KeepRooms lower old new
   KeepRooms-same lower [] new same = same
   KeepRooms-same lower (l ∷ old) [] same = absurd same
   KeepRooms-same lower (l ∷ old) (l' ∷ new) same =
-      (IsSame-kept l l' l'.kept same.0, (λ due held. ap (λ v. v.has_room) same.0 ∙ held), KeepRooms-same l old new same.1)
+      (IsSame-kept l l' l'.kept same.0, (λ due held. ap (λ v. v.has_room) same.0 ∙ held), KeepRooms-same l old new same.2)
 
-  pub KeepRoomsAbove-same : (old new : List (Slots P Item)) → AreSameButKept old new → KeepRoomsAbove old new
+  pub KeepRoomsAbove-same : (old new : List (Slots P Item)) → KeepMore old new → KeepRoomsAbove old new
   KeepRoomsAbove-same [] new same = same
   KeepRoomsAbove-same (l ∷ old) [] same = absurd same
-  KeepRoomsAbove-same (l ∷ old) (l' ∷ new) same = (IsSame-kept l l' l'.kept same.0, KeepRooms-same l old new same.1)
+  KeepRoomsAbove-same (l ∷ old) (l' ∷ new) same = (IsSame-kept l l' l'.kept same.0, KeepRooms-same l old new same.2)
 
-  pub rooms-same : (old new : List (Slots P Item)) → AreSameButKept old new → rooms_in new ≡ rooms_in old
+  pub rooms-same : (old new : List (Slots P Item)) → KeepMore old new → rooms_in new ≡ rooms_in old
   rooms-same [] new same = ap rooms_in same
   rooms-same (l ∷ old) [] same = absurd same
   rooms-same (l ∷ old) (l' ∷ new) same =
-      ap₂ (λ m n. m + n) (ap (λ v. if v.has_room then 2 ^ v.level else 0) same.0) (rooms-same old new same.1)
+      ap₂ (λ m n. m + n) (ap (λ v. if v.has_room then 2 ^ v.level else 0) same.0) (rooms-same old new same.2)
 
-  pub length-same : (old new : List (Slots P Item)) → AreSameButKept old new → length new ≡ length old
+  pub length-same : (old new : List (Slots P Item)) → KeepMore old new → length new ≡ length old
   length-same [] new same = ap length same
   length-same (l ∷ old) [] same = absurd same
-  length-same (l ∷ old) (l' ∷ new) same = omega (arith, length-same old new same.1)
+  length-same (l ∷ old) (l' ∷ new) same = omega (arith, length-same old new same.2)
 
   -- a builder was kept where there was a place for it beside n others
   pub grown : (l l' : Slots P Item) (n : ℕ) → l' ≡ record l { kept = l'.kept } → (held_in l + n < 5 → l'.kept ≡ l.kept + 1)

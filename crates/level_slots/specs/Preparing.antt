@@ -1,8 +1,8 @@
 -- What a preparation keeps, and what it makes ready.
-use Rattle.std.specs.Prelude.{◌≡◌, ℕ, ◌+◌, ◌*◌, ◌^◌, ◌<◌, ◌≤◌, true, List, [], ◌∷◌, All, length, nat_le}
+use Rattle.std.specs.Prelude.{◌≡◌, ℕ, ◌+◌, ◌-◌, ◌*◌, ◌^◌, ◌<◌, ◌≤◌, true, List, [], ◌∷◌, All, length, nat_le}
 use Rattle.builder_trait.specs.Builders.{PartKind, Progress, begun}
 use Rattle.builder_trait.specs.Parts.{Contents}
-use Rattle.stack_levels.specs.Slots.{Slots, IsIdle, ticks_of}
+use Rattle.stack_levels.specs.Slots.{Slots, IsIdle, one_if, ticks_of, held_in, held_by_forecast}
 use Rattle.stack_levels.specs.Levels.{weight_of}
 use Rattle.stack_levels.specs.Neighbours.{IsPunctual}
 use Rattle.stack_levels.specs.Towers.{IsDue, IsDueSoon, HaveRoomsAbove, AreAllLevels}
@@ -33,17 +33,37 @@ module _ {P Item : Type 0} where
   KeepRoomsAbove (l ∷ old) [] = ⊥
   KeepRoomsAbove (l ∷ old) (l' ∷ new) = (l' ≡ record l { has_room = l'.has_room; kept = l'.kept }) × KeepRooms l old new
 
-  -- levels are as they were, but for kept builders
-  abbrev pub AreSameButKept : List (Slots P Item) → List (Slots P Item) → Type 0
-  AreSameButKept [] new = new ≡ []
-  AreSameButKept (l ∷ old) [] = ⊥
-  AreSameButKept (l ∷ old) (l' ∷ new) = (l' ≡ record l { kept = l'.kept }) × AreSameButKept old new
+  -- levels are as they were, but that more builders may be kept
+  abbrev pub KeepMore : List (Slots P Item) → List (Slots P Item) → Type 0
+  KeepMore [] new = new ≡ []
+  KeepMore (l ∷ old) [] = ⊥
+  KeepMore (l ∷ old) (l' ∷ new) = (l' ≡ record l { kept = l'.kept }) × (l.kept ≤ l'.kept) × KeepMore old new
 
   -- levels are as they were, constructions with their clocks too, but for rooms and kept builders; and above them there are idle ones
   abbrev pub AreKept : List (Slots P Item) → List (Slots P Item) → Type 0
   AreKept [] new = All IsIdle new
   AreKept (l ∷ old) [] = ⊥
   AreKept (l ∷ old) (l' ∷ new) = (l' ≡ record l { has_room = l'.has_room; kept = l'.kept }) × AreKept old new
+
+  -- levels are as they were, and above them there are some that hold nothing
+  abbrev pub AreAdded : List (Slots P Item) → List (Slots P Item) → Type 0
+  AreAdded [] new = All (λ l. held_in l ≡ 0) new
+  AreAdded (l ∷ old) [] = ⊥
+  AreAdded (l ∷ old) (l' ∷ new) = (l' ≡ l) × AreAdded old new
+
+  -- of each level as much is in memory as a forecast leaves there, and of a level that is new its room alone
+  abbrev pub TakeRooms : List (Slots P Item) → List (Slots P Item) → Type 0
+  TakeRooms [] new = All (λ l. held_in l ≡ one_if l.has_room) new
+  TakeRooms (l ∷ old) [] = ⊥
+  TakeRooms (l ∷ old) (l' ∷ new) = (held_in l' ≡ held_by_forecast l l'.has_room) × TakeRooms old new
+
+  -- Level by level no memory is freed, and just what is wanted beyond what is kept is taken: rooms, and at the lowest level builders for single items,
+  -- of which n stood ready and m do now.
+  abbrev pub TakeMemory : ℕ → List (Slots P Item) → ℕ → List (Slots P Item) → Type 0
+  TakeMemory n [] m [] = m ≡ n
+  TakeMemory n [] m (l' ∷ new) = (m + held_in l' ≡ n + (m - n)) × TakeRooms [] new
+  TakeMemory n (l ∷ old) m [] = ⊥
+  TakeMemory n (l ∷ old) m (l' ∷ new) = (m + held_in l' ≡ n + held_in l + (m - (n + l.kept))) × TakeRooms old new
 
   -- above each level that is due soon, and there alone, a room is held, but for the highest level
   abbrev pub AreForecast : Slots P Item → List (Slots P Item) → Type 0

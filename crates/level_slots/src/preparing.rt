@@ -1,11 +1,11 @@
 //! The memory for the ticks to come: levels, rooms for constructions, and builders for single items.
-ghost use Rattle.std.specs.Prelude.{◌≡◌, ℕ, ◌+◌, ◌^◌, ◌<◌, ◌≤◌, true, false, All, IfOk, OnErr, None, length};
+ghost use Rattle.std.specs.Prelude.{◌≡◌, ℕ, ◌+◌, ◌-◌, ◌^◌, ◌<◌, ◌≤◌, true, false, List, ◌∷◌, All, IfOk, OnErr, None, length};
 ghost use Rattle.builder_trait.specs.Builders.{begun};
-ghost use Rattle.stack_levels.specs.Slots.{held_in};
-ghost use Rattle.stack_levels.specs.Levels.{weight_of, held_of, lowest_held};
+ghost use Rattle.stack_levels.specs.Slots.{Slots, held_in};
+ghost use Rattle.stack_levels.specs.Levels.{weight_of, lowest_held};
 ghost use Rattle.stack_levels.specs.Towers.{IsDueSoon, HaveRoomsAbove, AreAllLevels};
 ghost use Rattle.level_slots.specs.Rooms.{rooms_in, kept_in, forecast_of};
-ghost use Rattle.level_slots.specs.Preparing.{AreNumbered, AreRising, KeepRooms, AreForecast, AreEnough, IsBounded, IsKept, AreStarters, AreReady};
+ghost use Rattle.level_slots.specs.Preparing.{AreNumbered, AreRising, KeepRooms, AreAdded, TakeRooms, TakeMemory, AreForecast, AreEnough, IsBounded, IsKept, AreStarters, AreReady};
 
 use builder_trait::{Builder, Kinded, Part};
 use query_laws::{Item, NoMemory};
@@ -32,7 +32,7 @@ pub(crate) fn take_memory<B: Builder>(
     requires lowest { lowest_held levels.old.items + length starters.old.items ≤ 5 }
     ensures kept { IsKept B.Part.Part.contents levels.old.items levels.new.items }
     ensures lowest { lowest_held levels.new.items + length starters.new.items ≤ 5 }
-    ensures no_less { held_of levels.old.items + length starters.old.items ≤ held_of levels.new.items + length starters.new.items }
+    ensures memory { TakeMemory (length starters.old.items) levels.old.items (length starters.new.items) levels.new.items }
     ensures starters { AreStarters B.progress starters.new.items }
     ensures more { length starters.old.items ≤ length starters.new.items }
     ensures ready { IfOk result (λ _. AreReady levels.new.items (length starters.new.items)) }
@@ -55,7 +55,7 @@ fn fill_levels<B: Builder>(
     requires lowest { lowest_held levels.old + length starters.old.items ≤ 5 }
     ensures kept { IsKept B.Part.Part.contents levels.old levels.new }
     ensures lowest { lowest_held levels.new + length starters.new.items ≤ 5 }
-    ensures no_less { held_of levels.old + length starters.old.items ≤ held_of levels.new + length starters.new.items }
+    ensures memory { TakeMemory (length starters.old.items) levels.old (length starters.new.items) levels.new }
     ensures starters { AreStarters B.progress starters.new.items }
     ensures more { length starters.old.items ≤ length starters.new.items }
     ensures both { IfOk result (λ _. length starters.new.items ≡ 2) }
@@ -75,7 +75,7 @@ fn add_levels<B: Builder>(levels: &mut Vec<Level<B>>, alloc: Global) -> Result<(
     ensures kept { IsKept B.Part.Part.contents levels.old.items levels.new.items }
     ensures some { IfOk result (λ _. 0 < length levels.new.items) }
     ensures enough { IfOk result (λ _. weight_of levels.new.items < 2 ^ 31 → AreEnough levels.new.items) }
-    ensures held { held_of levels.new.items ≡ held_of levels.old.items }
+    ensures added { AreAdded levels.old.items levels.new.items }
     ensures lowest { lowest_held levels.new.items ≡ lowest_held levels.old.items }
 {
     while is_short(levels) {
@@ -106,7 +106,7 @@ fn add_level<B: Builder>(levels: &mut Vec<Level<B>>, alloc: Global) -> Result<()
     requires few { length levels.old.items < 32 }
     ensures kept { IsKept B.Part.Part.contents levels.old.items levels.new.items }
     ensures more { IfOk result (λ _. length levels.new.items ≡ length levels.old.items + 1) }
-    ensures held { held_of levels.new.items ≡ held_of levels.old.items }
+    ensures added { AreAdded levels.old.items levels.new.items }
     ensures lowest { lowest_held levels.new.items ≡ lowest_held levels.old.items }
 {
     let level = Level::new(alloc, levels.len() as u32)?;
@@ -128,7 +128,8 @@ fn add_starters<B: Builder>(
     requires starters { AreStarters B.progress starters.old.items }
     requires lowest { lowest_held levels.old + length starters.old.items ≤ 5 }
     ensures lowest { lowest_held levels.new + length starters.new.items ≤ 5 }
-    ensures no_less { held_of levels.old + length starters.old.items ≤ held_of levels.new + length starters.new.items }
+    ensures taken { (l : Slots B.Part B.Item) (above : List (Slots B.Part B.Item)) → levels.old ≡ l ∷ above
+        → levels.new ≡ record l { kept = l.kept - (length starters.new.items - length starters.old.items) } ∷ above }
     ensures kept { IsKept B.Part.Part.contents levels.old levels.new }
     ensures starters { AreStarters B.progress starters.new.items }
     ensures more { length starters.old.items ≤ length starters.new.items }
@@ -153,7 +154,8 @@ fn add_starter<B: Builder>(
     requires lowest { lowest_held levels.old + length starters.old.items ≤ 5 }
     ensures kept { IsKept B.Part.Part.contents levels.old levels.new }
     ensures lowest { lowest_held levels.new + length starters.new.items ≤ 5 }
-    ensures no_less { held_of levels.old + length starters.old.items ≤ held_of levels.new + length starters.new.items }
+    ensures taken { (l : Slots B.Part B.Item) (above : List (Slots B.Part B.Item)) → levels.old ≡ l ∷ above
+        → levels.new ≡ record l { kept = l.kept - (length starters.new.items - length starters.old.items) } ∷ above }
     ensures begun { All (λ b. B.progress b ≡ begun 0) starters.new.items }
     ensures refused { OnErr result (length starters.new.items ≡ length starters.old.items) }
     ensures more { IfOk result (λ _. length starters.new.items ≡ length starters.old.items + 1) }
@@ -173,8 +175,9 @@ fn take_starter<B: Builder>(levels: &mut [Level<B>], alloc: Global) -> Result<B,
 
     // Below any bound that held there, of four or more, there is a place for the builder.
     ensures lowest { (most : ℕ) → 4 ≤ most → lowest_held levels.old ≤ most → lowest_held levels.new + 1 ≤ most }
-    ensures held { held_of levels.old ≤ held_of levels.new + 1 }
-    ensures refused { OnErr result (held_of levels.new ≡ held_of levels.old) }
+    ensures taken { (l : Slots B.Part B.Item) (above : List (Slots B.Part B.Item)) → levels.old ≡ l ∷ above
+        → levels.new ≡ record l { kept = l.kept - 1 } ∷ above }
+    ensures refused { OnErr result (levels.new ≡ levels.old) }
 {
     match levels.first_mut() {
         Some(lowest) => lowest.take_builder(alloc),
@@ -190,7 +193,7 @@ fn forecast_rooms<B: Builder>(levels: &mut [Level<B>], alloc: Global) -> Result<
     ensures kept { IsKept B.Part.Part.contents levels.old levels.new }
     ensures ready { IfOk result (λ _. AreEnough levels.new → HaveRoomsAbove IsDueSoon levels.new) }
     ensures few { IfOk result (λ _. rooms_in levels.new ≤ forecast_of levels.new) }
-    ensures no_less { held_of levels.old ≤ held_of levels.new }
+    ensures memory { TakeMemory 0 levels.old 0 levels.new }
     ensures lowest { lowest_held levels.new ≡ lowest_held levels.old }
 {
     let Some((lowest, above)) = levels.split_first_mut() else {
@@ -209,7 +212,7 @@ fn make_rooms<B: Builder>(
     requires { AreNumbered lower.now above.old }
     ensures kept { KeepRooms lower.now above.old above.new }
     ensures ready { IfOk result (λ _. AreForecast lower.now above.new) }
-    ensures no_less { held_of above.old ≤ held_of above.new }
+    ensures memory { TakeRooms above.old above.new }
 {
     let Some((level, above)) = above.split_first_mut() else {
         return Ok(());

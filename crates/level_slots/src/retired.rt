@@ -3,7 +3,7 @@ ghost use Rattle.std.specs.Prelude.{◌≡◌, ◌==◌, ◌+◌, ◌-◌, ◌*�
 ghost use Rattle.builder_trait.specs.Builders.{begun};
 ghost use Rattle.stack_levels.specs.Levels.{held_of, lowest_held};
 ghost use Rattle.level_slots.specs.Rooms.{rooms_in};
-ghost use Rattle.level_slots.specs.Preparing.{AreSameButKept, IsKept};
+ghost use Rattle.level_slots.specs.Preparing.{KeepMore, IsKept};
 
 use builder_trait::{Builder, Part};
 use query_laws::Item;
@@ -107,6 +107,7 @@ pub(crate) fn keep<B: Builder>(levels: &mut Vec<Level<B>>, number: u32, builder:
     requires lowest { lowest_held levels.old.items + reserved ≤ 5 }
     ensures kept { IsKept B.Part.Part.contents levels.old.items levels.new.items }
     ensures lowest { lowest_held levels.new.items + reserved ≤ 5 }
+    ensures more { KeepMore levels.old.items levels.new.items }
     ensures no_less { held_of levels.old.items ≤ held_of levels.new.items }
     ensures no_more { held_of levels.new.items ≤ held_of levels.old.items + 1 }
     ensures rooms { rooms_in levels.new.items ≡ rooms_in levels.old.items }
@@ -118,7 +119,7 @@ pub(crate) fn keep<B: Builder>(levels: &mut Vec<Level<B>>, number: u32, builder:
 fn keep_at<B: Builder>(levels: &mut [Level<B>], number: u32, builder: B, reserved: usize)
     requires begun { B.progress builder ≡ begun number }
     requires few { reserved ≤ 2 }
-    ensures same { AreSameButKept levels.old levels.new }
+    ensures same { KeepMore levels.old levels.new }
     ensures no_less { held_of levels.old ≤ held_of levels.new }
     ensures no_more { held_of levels.new ≤ held_of levels.old + 1 }
     ensures lowest { lowest_held levels.old + reserved ≤ 5 → lowest_held levels.new + reserved ≤ 5 }

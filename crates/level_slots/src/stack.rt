@@ -8,8 +8,9 @@ ghost use Rattle.partial_build.specs.Quota.{quota};
 ghost use Rattle.stack_levels.specs.Slots.{IsPartOf, held_in};
 ghost use Rattle.stack_levels.specs.Levels.{live_items, all_items, weight_of, parts_of, asked, touches_of};
 ghost use Rattle.level_slots.specs.Stack.{Stacked, HaveSameItems, held_by_level, memory_of};
-ghost use Rattle.level_slots.specs.Preparing.{AreKept};
+ghost use Rattle.level_slots.specs.Preparing.{AreKept, KeepMore, TakeMemory};
 ghost use Rattle.level_slots.specs.Height.{IsHeight, HaveAtMost, AreFew, size_of};
+ghost use Rattle.stack_levels.specs.Asked.{AreThreeAtMost, HasAsked};
 ghost use Rattle.stack_levels.specs.Level.{IsOfLevel};
 ghost use Rattle.stack_levels.specs.Cost.{IsWithin, quotas};
 ghost use Rattle.stack_levels.specs.Towers.{AreOnTime, TakeTicks};
@@ -163,12 +164,7 @@ impl<B: Builder> Stack<B> {
         B::Part: Answers<Q>,
         requires going { asking.old.is_given_up ≡ false }
         requires room { asking.old.parts < 2 ^ 31 }
-        ensures joined { IfOk result (λ _. asking.new ≡ record asking.old {
-          so_far = Q.join asking.old.question asking.old.so_far
-              (Q.value asking.old.question (live_items B.Part.Part.contents self.now.levels));
-          parts = asking.old.parts + parts_of self.now.levels;
-          live = asking.old.live + length (live_items B.Part.Part.contents self.now.levels);
-        }) }
+        ensures joined { HasAsked B.Part.Part.contents Q.join Q.value self.now.levels result asking.old asking.new }
         ensures given_up { OnErr result (asking.new
             ≡ record asking.old { so_far = asking.new.so_far; parts = asking.new.parts; live = asking.new.live; is_given_up = true }) }
         ensures refused { IsErr result → IsTrue asking.old.refusable }
@@ -177,7 +173,17 @@ impl<B: Builder> Stack<B> {
     {
         // It says that what was answered so far is lawful.
         asking.consulted();
-        ask_levels::<B, Q, L>(&self.levels, asking, steps)
+        ask_levels::<B, Q, L>(self.asked_levels(), asking, steps)
+    }
+
+    /// The levels, with what a question has to know of their parts.
+    fn asked_levels(&self) -> &[Level<B>]
+        ensures value { result.now ≡ self.now.levels }
+        ensures room { parts_of result.now ≤ 96 }
+        ensures few { AreThreeAtMost B.Part.Part.contents result.now
+            → AreFew B.Part.Part.contents (weight_of self.now.levels) self.now.levels }
+    {
+        &self.levels
     }
 
     /// The number of complete parts.
@@ -220,7 +226,7 @@ impl<B: Builder> Stack<B> {
         ensures no_lower { self.old.spare ≤ self.new.spare }
         ensures same { HaveSameItems B.Part.Part.contents self.old.levels self.new.levels }
         ensures each { AreKept self.old.levels self.new.levels }
-        ensures memory { memory_of self.old ≤ memory_of self.new }
+        ensures memory { TakeMemory self.old.starters self.old.levels self.new.starters self.new.levels }
         ensures rooms { IfOk result (λ _. rooms_of self.new ≤ 2 + forecast_of self.new.levels) }
     {
         take_memory(&mut self.levels, &mut self.starters, self.alloc)?;
@@ -267,7 +273,8 @@ impl<B: Builder> Stack<B> {
         ensures no_less { memory_of self.old ≤ memory_of self.new }
         ensures no_more { memory_of self.new + retired.new ≤ memory_of self.old + retired.old }
         ensures same { HaveSameItems B.Part.Part.contents self.old.levels self.new.levels }
-        ensures each { AreKept self.old.levels self.new.levels }
+        ensures each { KeepMore self.old.levels self.new.levels }
+        ensures starters { self.new.starters ≡ self.old.starters }
         ensures spare { self.new.spare ≡ self.old.spare }
         ensures rooms { rooms_of self.new ≡ rooms_of self.old }
     {

@@ -1,5 +1,6 @@
 pub mod Slots
 pub mod Levels
+pub mod Asked
 pub mod Level
 pub mod Neighbours
 pub mod Towers

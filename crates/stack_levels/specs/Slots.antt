@@ -1,5 +1,5 @@
 -- What contracts see of one level of a stack.
-use Rattle.std.specs.Prelude.{◌≡◌, ℕ, ◌+◌, ◌*◌, ◌^◌, Bool, List, [], ◌∷◌, ◌++◌, Option, None, if◌then◌else◌, length}
+use Rattle.std.specs.Prelude.{◌≡◌, ℕ, ◌+◌, ◌-◌, ◌*◌, ◌^◌, Bool, List, [], ◌∷◌, ◌++◌, Option, None, if◌then◌else◌, length}
 use Rattle.std.specs.List.{flat_map}
 use Rattle.std.specs.Option.{option_map, option_map_or, is_some}
 use Rattle.query_laws.specs.Permuted.{Permuted}
@@ -35,6 +35,10 @@ module _ {P Item : Type 0} where
   -- builders that are kept
   abbrev pub held_in : Slots P Item → ℕ
   held_in l = length l.parts + one_if (is_some l.construction) + one_if l.has_room + l.kept
+
+  -- what is in memory of a level after a forecast: what was, and where a room is held now that neither was nor had a builder kept for it, one more
+  abbrev pub held_by_forecast : Slots P Item → Bool → ℕ
+  held_by_forecast l has_room = held_in l + (one_if has_room - (l.kept + one_if l.has_room))
 
   -- a part of level i weighs 2^i
   abbrev pub weight_in : Slots P Item → ℕ

@@ -1,10 +1,10 @@
 //! A question put to the complete parts of levels.
-ghost use Rattle.std.specs.Prelude.{◌≡◌, ◌+◌, ◌^◌, ◌<◌, ◌≤◌, true, false, All, IsTrue, IfOk, IsErr, OnErr, length, sum_by};
+ghost use Rattle.std.specs.Prelude.{◌≡◌, ◌+◌, ◌^◌, ◌<◌, true, false, IsTrue, IfOk, IsErr, OnErr, length, sum_by};
 ghost use Rattle.std.specs.List.{flat_map};
 ghost use Rattle.query_laws.specs.StepLedger.{Spends};
 ghost use Rattle.builder_trait.specs.Parts.{live_of};
-ghost use Rattle.stack_levels.specs.Level.{IsOfLevel};
-ghost use Rattle.stack_levels.specs.Levels.{live_items, parts_of, touches_of};
+ghost use Rattle.stack_levels.specs.Levels.{parts_of, touches_of};
+ghost use Rattle.stack_levels.specs.Asked.{AreThreeAtMost, HasAsked};
 
 use crate::level::Level;
 use builder_trait::{Answers, Asking, Builder, Part};
@@ -23,21 +23,14 @@ where
     requires going { asking.old.is_given_up ≡ false }
     requires lawful { Q.lawful asking.old.question asking.old.so_far }
     requires room { asking.old.parts + parts_of levels.now < 2 ^ 32 }
-    ensures joined { IfOk result (λ _. asking.new ≡ record asking.old {
-      so_far = Q.join asking.old.question asking.old.so_far
-          (Q.value asking.old.question (live_items B.Part.Part.contents levels.now));
-      parts = asking.old.parts + parts_of levels.now;
-      live = asking.old.live + length (live_items B.Part.Part.contents levels.now);
-    }) }
+    ensures joined { HasAsked B.Part.Part.contents Q.join Q.value levels.now result asking.old asking.new }
     ensures given_up { OnErr result (asking.new
         ≡ record asking.old { so_far = asking.new.so_far; parts = asking.new.parts; live = asking.new.live; is_given_up = true }) }
     ensures refused { IsErr result → IsTrue asking.old.refusable }
     ensures lawful { Q.lawful asking.old.question asking.new.so_far }
     ensures cost { Spends steps.old steps.new 0 0 (touches_of (B.Part.ask_touches asking.old.question) levels.now) }
 
-    // On no level there are more than three, and each is of its level.
-    ensures few { All (λ l. length l.parts ≤ 3) levels.now }
-    ensures of_level { All (λ l. All (λ p. IsOfLevel l.level (B.Part.Part.contents p)) l.parts) levels.now }
+    ensures three { AreThreeAtMost B.Part.Part.contents levels.now }
 {
     match levels.split_first() {
         Some((lowest, above)) => {

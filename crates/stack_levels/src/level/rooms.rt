@@ -2,7 +2,7 @@
 ghost use Rattle.std.specs.Prelude.{◌≡◌, ◌+◌, ◌-◌, ◌*◌, ◌^◌, ◌<◌, ◌≤◌, true, false, None, IfOk, IfSome, IsNone, OnErr, nat_le, if◌then◌else◌};
 ghost use Rattle.std.specs.Option.{is_some};
 ghost use Rattle.builder_trait.specs.Builders.{begun};
-ghost use Rattle.stack_levels.specs.Slots.{ticks_of, held_in};
+ghost use Rattle.stack_levels.specs.Slots.{ticks_of, held_in, held_by_forecast};
 
 use crate::level::Level;
 use builder_trait::Builder;
@@ -37,7 +37,7 @@ impl<B: Builder> Level<B> {
         ensures same { self.new ≡ record self.old { has_room = self.new.has_room; kept = self.new.kept } }
         ensures made { IfOk result (λ _. self.new.has_room ≡ is_due) }
         ensures refused { OnErr result ((is_due ≡ true) × (self.new ≡ self.old)) }
-        ensures no_less { held_in self.old ≤ held_in self.new }
+        ensures memory { held_in self.new ≡ held_by_forecast self.old self.new.has_room }
     {
         if is_due {
             return self.make_room(alloc);
@@ -52,7 +52,7 @@ impl<B: Builder> Level<B> {
         ensures same { self.new ≡ record self.old { has_room = self.new.has_room; kept = self.new.kept } }
         ensures made { IfOk result (λ _. self.new.has_room ≡ true) }
         ensures refused { OnErr result (self.new ≡ self.old) }
-        ensures no_less { held_in self.old ≤ held_in self.new }
+        ensures memory { held_in self.new ≡ held_by_forecast self.old self.new.has_room }
     {
         if self.room.is_some() {
             return Ok(());

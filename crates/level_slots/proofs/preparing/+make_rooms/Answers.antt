@@ -1,7 +1,8 @@
 use Rattle.std.proofs.Common.{◌+◌, ◌^◌, ◌∙◌, ◌∷◌, sym, subst, ap, arith, le-leb}
 use Rattle.stack_levels.specs.Slots.{ticks_of}
-use Rattle.level_slots.specs.Preparing.{AreNumbered, KeepRooms}
+use Rattle.level_slots.specs.Preparing.{AreNumbered, KeepRooms, TakeRooms}
 use Rattle.level_slots.proofs.Forecasting.{KeepRooms-refl, KeepRooms-from, numbered-from, when_ok}
+use Rattle.level_slots.proofs.TakingMemory.{TakeRooms-refl}
 use Rattle.level_slots.proofs.preparing.+make_rooms.Goals as goal
 
 pub returns-in_err-forecast-clause-kept : goal.returns-in_err-forecast-clause-kept
@@ -40,3 +41,14 @@ returns-clause-kept g t c =
 
 pub returns-clause-ready : goal.returns-clause-ready
 returns-clause-ready g t c = when_ok c.make_rooms.result (λ h. (c.in_ok-forecast.ensures.made ∙ c.is_due_soon.ensures, h)) c.make_rooms.ensures.ready
+
+pub returns-clause-memory : goal.returns-clause-memory
+returns-clause-memory g t c =
+    subst (λ ls. TakeRooms ls (c.forecast.new.self ∷ c.make_rooms.new.above)) (sym c.in-Some.ensures.cases.0) (c.forecast.ensures.memory, c.make_rooms.ensures.memory)
+
+pub returns-in_err-forecast-clause-memory : goal.returns-in_err-forecast-clause-memory
+returns-in_err-forecast-clause-memory g t c =
+    subst (λ ls. TakeRooms ls (c.forecast.new.self ∷ c.in-Some.above.now)) (sym c.in-Some.ensures.cases.0) (c.forecast.ensures.memory, TakeRooms-refl c.in-Some.above.now)
+
+pub returns-in_default-clause-memory : goal.returns-in_default-clause-memory
+returns-in_default-clause-memory g t c = TakeRooms-refl c.args.above.now

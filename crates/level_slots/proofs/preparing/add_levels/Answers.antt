@@ -1,5 +1,6 @@
 use Rattle.std.proofs.Common.{◌∙◌, refl}
 use Rattle.level_slots.proofs.Forecasting.{IsKept-refl, IsKept-then}
+use Rattle.level_slots.proofs.TakingMemory.{AreAdded-refl, AreAdded-then}
 use Rattle.level_slots.proofs.preparing.add_levels.Goals as goal
 
 pub is_short-requires-clause-levels : goal.is_short-requires-clause-levels
@@ -17,12 +18,15 @@ add_level-requires-clause-few g c = rw c.deref.ensures.value at (c.is_short.ensu
 pub loop-alloc-preserved : goal.loop-alloc-preserved
 loop-alloc-preserved g c = record {
   kept = IsKept-then _ c.loop-alloc.invariant.kept c.add_level.ensures.kept;
-  held = c.add_level.ensures.held ∙ c.loop-alloc.invariant.held;
+  added = AreAdded-then _ _ _ c.loop-alloc.invariant.added c.add_level.ensures.added;
   lowest = c.add_level.ensures.lowest ∙ c.loop-alloc.invariant.lowest;
 }
 
 pub returns-in_err-add_level-clause-kept : goal.returns-in_err-add_level-clause-kept
 returns-in_err-add_level-clause-kept g c = IsKept-then _ c.loop-alloc.invariant.kept c.add_level.ensures.kept
+
+pub returns-in_err-add_level-clause-added : goal.returns-in_err-add_level-clause-added
+returns-in_err-add_level-clause-added g c = AreAdded-then _ _ _ c.loop-alloc.invariant.added c.add_level.ensures.added
 
 pub returns-clause-some : goal.returns-clause-some
 returns-clause-some g c = rw c.deref.ensures.value at (c.is_short.ensures.some c.loop-alloc-test.false)
@@ -31,4 +35,4 @@ pub returns-clause-enough : goal.returns-clause-enough
 returns-clause-enough g c = rw c.deref.ensures.value at (c.is_short.ensures.enough c.loop-alloc-test.false)
 
 pub loop-alloc-init : goal.loop-alloc-init
-loop-alloc-init g c = record { kept = IsKept-refl _ c.args.levels.now.items; held = refl; lowest = refl }
+loop-alloc-init g c = record { kept = IsKept-refl _ c.args.levels.now.items; added = AreAdded-refl c.args.levels.now.items; lowest = refl }

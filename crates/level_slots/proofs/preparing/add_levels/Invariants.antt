@@ -1,13 +1,13 @@
 use Rattle.std.proofs.Common.{◌≡◌, ◌-◌, length}
-use Rattle.stack_levels.specs.Levels.{held_of, lowest_held}
-use Rattle.level_slots.specs.Preparing.{IsKept}
+use Rattle.stack_levels.specs.Levels.{lowest_held}
+use Rattle.level_slots.specs.Preparing.{AreAdded, IsKept}
 use Rattle.level_slots.proofs.preparing.add_levels.Given as goal
 
 abbrev pub invariant-loop-alloc : goal.invariant-loop-alloc
 invariant-loop-alloc g l = record {
   kept : IsKept g.B.Part.Part.contents
       l.initial.levels.items l.levels.items;
-  held : held_of l.levels.items ≡ held_of l.initial.levels.items;
+  added : AreAdded l.initial.levels.items l.levels.items;
   lowest : lowest_held l.levels.items ≡ lowest_held l.initial.levels.items;
 }
 

@@ -3,6 +3,7 @@ use Rattle.std.proofs.lemmas.List.{length_push}
 use Rattle.std.proofs.lemmas.List.Elements.{All-push}
 use Rattle.builder_trait.specs.Builders.{begun}
 use Rattle.level_slots.proofs.Forecasting.{IsKept-refl}
+use Rattle.level_slots.proofs.TakingMemory.{kept-fewer}
 use Rattle.level_slots.proofs.preparing.add_starter.Goals as goal
 
 pub returns-clause-begun : goal.returns-clause-begun
@@ -24,3 +25,15 @@ returns-in_err-builder-clause-lowest g c =
 
 pub returns-in_err-reserve-clause-kept : goal.returns-in_err-reserve-clause-kept
 returns-in_err-reserve-clause-kept g c = IsKept-refl _ c.args.levels.now
+
+pub returns-clause-taken : goal.returns-clause-taken
+returns-clause-taken g c l above is =
+    let more = length_push c.reserve.new.self.items c.in_ok-builder.builder in
+    kept-fewer l above _ _ (omega (arith, more, ap length c.push_reserved.ensures.items, ap length c.reserve.ensures.items)) (c.take_starter.ensures.taken l above is)
+
+pub returns-in_err-builder-clause-taken : goal.returns-in_err-builder-clause-taken
+returns-in_err-builder-clause-taken g c l above is =
+    kept-fewer l above _ _ (omega (arith, ap length c.reserve.ensures.items)) (c.in_err-builder.ensures.refused ∙ is)
+
+pub returns-in_err-reserve-clause-taken : goal.returns-in_err-reserve-clause-taken
+returns-in_err-reserve-clause-taken g c l above is = kept-fewer l above _ _ (omega (arith, ap length c.reserve.ensures.items)) is

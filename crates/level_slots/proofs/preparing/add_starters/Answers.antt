@@ -1,5 +1,6 @@
 use Rattle.std.proofs.Common.{arith}
 use Rattle.level_slots.proofs.Forecasting.{IsKept-refl, IsKept-then}
+use Rattle.level_slots.proofs.TakingMemory.{kept-fewer}
 use Rattle.level_slots.proofs.preparing.add_starters.Goals as goal
 
 pub add_starter-requires-clause-levels : goal.add_starter-requires-clause-levels
@@ -13,11 +14,16 @@ loop-alloc-preserved g c =
       starters = record { begun = c.add_starter.ensures.begun; few = omega (arith, more, c.loop-alloc-test.true, c.len.ensures) };
       more = omega (arith, more, c.loop-alloc.invariant.more);
       lowest = c.add_starter.ensures.lowest;
-      no_less = omega (arith, c.loop-alloc.invariant.no_less, c.add_starter.ensures.no_less);
+      taken = λ l above is. kept-fewer l above _ _ (omega (arith, more, c.loop-alloc.invariant.more)) (c.add_starter.ensures.taken _ above (c.loop-alloc.invariant.taken l above is));
     }
 
 pub returns-in_err-add_starter-clause-kept : goal.returns-in_err-add_starter-clause-kept
 returns-in_err-add_starter-clause-kept g c = IsKept-then _ c.loop-alloc.invariant.kept c.add_starter.ensures.kept
+
+pub returns-in_err-add_starter-clause-taken : goal.returns-in_err-add_starter-clause-taken
+returns-in_err-add_starter-clause-taken g c l above is =
+    kept-fewer l above _ _ (omega (arith, c.in_err-add_starter.ensures.refused, c.loop-alloc.invariant.more))
+    (c.add_starter.ensures.taken _ above (c.loop-alloc.invariant.taken l above is))
 
 pub loop-alloc-init : goal.loop-alloc-init
 loop-alloc-init g c = record {
@@ -25,5 +31,5 @@ loop-alloc-init g c = record {
   starters = c.requires.starters;
   more = omega arith;
   lowest = c.requires.lowest;
-  no_less = omega arith;
+  taken = λ l above is. kept-fewer l above _ _ (omega arith) is;
 }

@@ -1,5 +1,6 @@
-use Rattle.std.proofs.Common.{◌+◌, ◌-◌, ◌≤◌, length}
-use Rattle.stack_levels.specs.Levels.{held_of, lowest_held}
+use Rattle.std.proofs.Common.{◌≡◌, ◌+◌, ◌-◌, ◌≤◌, List, ◌∷◌, length}
+use Rattle.stack_levels.specs.Levels.{lowest_held}
+use Rattle.stack_levels.specs.Slots.{Slots}
 use Rattle.level_slots.specs.Preparing.{IsKept, AreStarters}
 use Rattle.level_slots.proofs.preparing.add_starters.Given as goal
 
@@ -9,7 +10,8 @@ invariant-loop-alloc g l = record {
   starters : AreStarters g.B.Builder.progress l.starters.items;
   more : length l.initial.starters.items ≤ length l.starters.items;
   lowest : lowest_held l.levels + length l.starters.items ≤ 5;
-  no_less : held_of l.initial.levels + length l.initial.starters.items ≤ held_of l.levels + length l.starters.items;
+  taken : (lowest : Slots g.row.B-Part.Denot g.row.B-Item.Denot) (above : List (Slots g.row.B-Part.Denot g.row.B-Item.Denot)) → l.initial.levels ≡ lowest ∷ above
+      → l.levels ≡ record lowest { kept = lowest.kept - (length l.starters.items - length l.initial.starters.items) } ∷ above;
 }
 
 abbrev pub decreases-loop-alloc : goal.decreases-loop-alloc

@@ -1,4 +1,5 @@
 use Rattle.level_slots.proofs.Forecasting.{IsKept-then, anyway_ok}
+use Rattle.level_slots.proofs.TakingMemory.{TakeMemory-both, TakeMemory-refl}
 use Rattle.level_slots.proofs.preparing.fill_levels.Goals as goal
 
 pub forecast_rooms-requires : goal.forecast_rooms-requires
@@ -11,3 +12,12 @@ returns-clause-kept g c =
 
 pub returns-clause-both : goal.returns-clause-both
 returns-clause-both g c = anyway_ok c.forecast_rooms.result c.in_ok-add_starters.ensures.ready
+
+pub returns-clause-memory : goal.returns-clause-memory
+returns-clause-memory g c =
+    TakeMemory-both _ _ c.args.levels.now c.add_starters.new.levels _ c.requires.some c.add_starters.ensures.more c.add_starters.ensures.taken c.forecast_rooms.ensures.memory
+
+pub returns-in_err-add_starters-clause-memory : goal.returns-in_err-add_starters-clause-memory
+returns-in_err-add_starters-clause-memory g c =
+    TakeMemory-both _ _ c.args.levels.now c.add_starters.new.levels _ c.requires.some c.add_starters.ensures.more c.add_starters.ensures.taken
+    (TakeMemory-refl 0 c.add_starters.new.levels)

@@ -1,7 +1,8 @@
-use Rattle.std.proofs.Common.{refl, ap}
+use Rattle.std.proofs.Common.{refl, ap, arith}
 use Rattle.builder_trait.specs.Builders.{PartKind}
 use Rattle.level_slots.specs.Preparing.{AreNumbered}
 use Rattle.level_slots.proofs.Forecasting.{KeepRooms-from, IsKept-refl, IsKept-rooms, numbered-from, numbered-kept, numbered-tower, rooms-few, rooms-ready, when_ok}
+use Rattle.level_slots.proofs.TakingMemory.{TakeMemory-refl}
 use Rattle.level_slots.proofs.preparing.forecast_rooms.Given.{Over}
 use Rattle.level_slots.proofs.preparing.forecast_rooms.Goals.{After-give_back_room}
 use Rattle.level_slots.proofs.preparing.forecast_rooms.Goals as goal
@@ -39,3 +40,9 @@ returns-clause-few g c =
 
 pub returns-in_default-clause-kept : goal.returns-in_default-clause-kept
 returns-in_default-clause-kept g c = IsKept-refl _ c.args.levels.now
+
+pub returns-clause-memory : goal.returns-clause-memory
+returns-clause-memory g c = rw c.in-Some.ensures.cases.0 (omega (arith, c.give_back_room.ensures.held), c.make_rooms.ensures.memory)
+
+pub returns-in_default-clause-memory : goal.returns-in_default-clause-memory
+returns-in_default-clause-memory g c = TakeMemory-refl 0 c.args.levels.now

@@ -1,8 +1,9 @@
 use Rattle.std.proofs.Common.{◌≡◌, ◌++◌, length, take, drop, ap, arith}
 use Rattle.std.proofs.lemmas.List.{take_at}
 use Rattle.builder_trait.specs.Builders.{PartKind}
-use Rattle.stack_levels.specs.Levels.{held_of, lowest_held}
+use Rattle.stack_levels.specs.Levels.{lowest_held}
 use Rattle.level_slots.proofs.Forecasting.{IsKept-then, both_ok, when_ok}
+use Rattle.level_slots.proofs.TakingMemory.{TakeMemory-added, TakeMemory-refl}
 use Rattle.level_slots.proofs.preparing.take_memory.Given.{Over}
 use Rattle.level_slots.proofs.preparing.take_memory.Goals as goal
 
@@ -41,6 +42,10 @@ returns-clause-ready g c =
 pub returns-clause-lowest : goal.returns-clause-lowest
 returns-clause-lowest g c = omega (arith, ap lowest_held (whole g c), c.fill_levels.ensures.lowest)
 
-pub returns-clause-no_less : goal.returns-clause-no_less
-returns-clause-no_less g c =
-    omega (arith, ap held_of (whole g c), c.fill_levels.ensures.no_less, ap held_of c.deref_mut.ensures.value, c.add_levels.ensures.held)
+pub returns-clause-memory : goal.returns-clause-memory
+returns-clause-memory g c =
+    rw (whole g c) (TakeMemory-added _ _ _ _ _ c.add_levels.ensures.added (rw c.deref_mut.ensures.value at c.fill_levels.ensures.memory))
+
+pub returns-in_err-add_levels-clause-memory : goal.returns-in_err-add_levels-clause-memory
+returns-in_err-add_levels-clause-memory g c =
+    TakeMemory-added _ _ _ _ _ c.add_levels.ensures.added (TakeMemory-refl (length c.args.starters.now.items) c.add_levels.new.levels.items)

@@ -3,6 +3,7 @@ use Rattle.std.proofs.lemmas.Bool.{cases_lt}
 use Rattle.builder_trait.specs.Builders.{PartKind, begun}
 use Rattle.stack_levels.specs.Slots.{held_in}
 use Rattle.level_slots.proofs.Forecasting.{IsSame-kept, IsKept-lowest, lowest_level, lowest_construction, held-lowest, when_err}
+use Rattle.level_slots.proofs.TakingMemory.{lowest-taken, lowest-untaken}
 use Rattle.level_slots.proofs.preparing.take_starter.Given.{Over}
 use Rattle.level_slots.proofs.preparing.take_starter.Goals as goal
 
@@ -34,12 +35,12 @@ returns-clause-lowest g c most four within =
     (λ empty. omega (arith, four, held.1, c.take_builder.ensures.lowest zero none (omega (arith, empty))))
     (cases_lt 0 lowest.kept)
 
-pub returns-clause-held : goal.returns-clause-held
-returns-clause-held g c =
-    let held = held-lowest c.args.levels.now c.in-Some.lowest.now c.take_builder.new.self c.requires.some c.in-Some.ensures.item.1 in
-    omega (arith, held.2, ap held_in c.take_builder.ensures.same)
+pub returns-clause-taken : goal.returns-clause-taken
+returns-clause-taken g c l above is =
+    lowest-taken c.args.levels.now c.in-Some.lowest.now c.take_builder.new.self c.in-Some.ensures.item.1 c.take_builder.ensures.same l above is
 
 pub returns-clause-refused : goal.returns-clause-refused
 returns-clause-refused g c =
-    let held = held-lowest c.args.levels.now c.in-Some.lowest.now c.take_builder.new.self c.requires.some c.in-Some.ensures.item.1 in
-    when_err c.take_builder.result (λ none. omega (arith, none, held.2, ap held_in c.take_builder.ensures.same)) c.take_builder.ensures.refused
+    when_err c.take_builder.result
+    (λ none. lowest-untaken c.args.levels.now c.in-Some.lowest.now c.take_builder.new.self c.requires.some c.in-Some.ensures.item.1 c.take_builder.ensures.same none)
+    c.take_builder.ensures.refused

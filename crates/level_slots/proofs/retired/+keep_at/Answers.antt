@@ -1,16 +1,19 @@
 use Rattle.std.proofs.Common.{◌∷◌, sym, subst, ap, arith}
+use Rattle.stack_levels.specs.Slots.{held_in}
 use Rattle.stack_levels.specs.Levels.{held_of, lowest_held}
-use Rattle.level_slots.specs.Preparing.{AreSameButKept}
-use Rattle.level_slots.proofs.TakingOver.{AreSameButKept-refl, grown}
+use Rattle.level_slots.specs.Preparing.{KeepMore}
+use Rattle.level_slots.proofs.TakingOver.{KeepMore-refl, grown}
 use Rattle.level_slots.proofs.retired.+keep_at.Goals as goal
 
 pub returns-in_default-clause-same : goal.returns-in_default-clause-same
-returns-in_default-clause-same g t c = AreSameButKept-refl c.args.levels.now
+returns-in_default-clause-same g t c = KeepMore-refl c.args.levels.now
 
 pub returns-then-number-clause-same : goal.returns-then-number-clause-same
 returns-then-number-clause-same g t c =
-    subst (λ ls. AreSameButKept ls (c.take_over.new.self ∷ c.in-Some.above.now)) (sym c.in-Some.ensures.cases.0)
-    (c.take_over.ensures.same, AreSameButKept-refl c.in-Some.above.now)
+    let e = c.take_over.ensures in
+    let more = (grown c.in-Some.level.now c.take_over.new.self c.args.reserved e.same e.kept e.freed).0 in
+    subst (λ ls. KeepMore ls (c.take_over.new.self ∷ c.in-Some.above.now)) (sym c.in-Some.ensures.cases.0)
+    (e.same, omega (arith, ap held_in e.same, more), KeepMore-refl c.in-Some.above.now)
 
 pub returns-then-number-clause-no_less : goal.returns-then-number-clause-no_less
 returns-then-number-clause-no_less g t c =

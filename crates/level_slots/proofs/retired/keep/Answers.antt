@@ -1,7 +1,7 @@
 use Rattle.std.proofs.Common.{◌≡◌, ◌+◌, ◌≤◌, ◌∙◌, length, ap, sym, subst, arith}
 use Rattle.stack_levels.specs.Levels.{held_of, lowest_held}
 use Rattle.level_slots.specs.Rooms.{rooms_in}
-use Rattle.level_slots.specs.Preparing.{AreSameButKept, IsKept}
+use Rattle.level_slots.specs.Preparing.{KeepMore, IsKept}
 use Rattle.stack_levels.proofs.Held.{written}
 use Rattle.level_slots.proofs.Forecasting.{IsKept-rooms}
 use Rattle.level_slots.proofs.TakingOver.{KeepRoomsAbove-same, length-same, rooms-same}
@@ -12,7 +12,7 @@ returns g c =
     let old = c.args.levels.now.items in
     let new = c.keep_at.new.levels in
     let value : c.deref_mut.result.now ≡ old = c.deref_mut.ensures.value in
-    let same : AreSameButKept old new = subst (λ ls. AreSameButKept ls new) value c.keep_at.ensures.same in
+    let same : KeepMore old new = subst (λ ls. KeepMore ls new) value c.keep_at.ensures.same in
     let whole = written c.args.levels.now.len old new (sym c.deref_mut.ensures.len ∙ ap length value) (length-same old new same) in
     record {
       kept = subst (IsKept g.B.Part.Part.contents old) (sym whole)
@@ -20,6 +20,7 @@ returns g c =
           (KeepRoomsAbove-same old new same));
       lowest = subst (λ ls. lowest_held ls + c.args.reserved ≤ 5) (sym whole)
           (c.keep_at.ensures.lowest (omega (arith, c.requires.lowest, ap lowest_held value)));
+      more = subst (KeepMore old) (sym whole) same;
       no_less = omega (arith, ap held_of whole, ap held_of value, c.keep_at.ensures.no_less);
       no_more = omega (arith, ap held_of whole, ap held_of value, c.keep_at.ensures.no_more);
       rooms = ap rooms_in whole ∙ rooms-same old new same;

@@ -20,7 +20,7 @@ returns-clause-joined g c es stamps h =
     let parts = ap (λ i. parts_of i.main.levels) c.self.view_is in
     when_ok c.ask.result
     (λ joined. joined ∙ (λ i. record asking { so_far = g.Q.Question.join q asking.so_far (value i); parts = asking.parts + parts i; live = asking.live + live i }))
-    c.ask.ensures.joined
+    c.ask.ensures.joined.if_ok
 
 pub returns-clause-few : goal.returns-clause-few
 returns-clause-few g c =

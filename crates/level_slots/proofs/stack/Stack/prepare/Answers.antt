@@ -1,5 +1,6 @@
-use Rattle.std.proofs.Common.{◌∙◌, length, sym, ap, arith}
+use Rattle.std.proofs.Common.{◌∙◌, length, sym, ap, subst, arith}
 use Rattle.level_slots.proofs.Forecasting.{IsStack-kept, IsStack-ready}
+use Rattle.level_slots.specs.Preparing.{TakeMemory}
 use Rattle.level_slots.proofs.stack.Stack.prepare.Goals as goal
 
 pub invariant_of-self : goal.invariant_of-self
@@ -24,3 +25,11 @@ invariant_of-self-2 g c =
       c.take_memory.ensures.starters.begun,
       h.4,
     )
+
+pub returns-clause-memory : goal.returns-clause-memory
+returns-clause-memory g c =
+    subst (λ s. TakeMemory s.starters s.levels (length c.take_memory.new.starters.items) c.take_memory.new.levels.items) c.self.view_is c.take_memory.ensures.memory
+
+pub returns-in_err-take_memory-clause-memory : goal.returns-in_err-take_memory-clause-memory
+returns-in_err-take_memory-clause-memory g c =
+    subst (λ s. TakeMemory s.starters s.levels (length c.take_memory.new.starters.items) c.take_memory.new.levels.items) c.self.view_is c.take_memory.ensures.memory

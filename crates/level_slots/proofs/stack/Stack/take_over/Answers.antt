@@ -1,5 +1,6 @@
 use Rattle.std.proofs.Common.{◌∙◌, length, ap, sym, arith}
-use Rattle.level_slots.proofs.Forecasting.{AreKept-refl, IsStack-kept}
+use Rattle.level_slots.proofs.Forecasting.{IsStack-kept}
+use Rattle.level_slots.proofs.TakingOver.{KeepMore-refl}
 use Rattle.level_slots.proofs.stack.Stack.take_over.Goals as goal
 
 pub invariant_of-self : goal.invariant_of-self
@@ -14,4 +15,4 @@ invariant_of-self g c =
     )
 
 pub returns-in_default-clause-each : goal.returns-in_default-clause-each
-returns-in_default-clause-each g c = AreKept-refl c.args.self.now.levels
+returns-in_default-clause-each g c = KeepMore-refl c.args.self.now.levels

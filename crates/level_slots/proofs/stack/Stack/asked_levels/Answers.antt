@@ -1,0 +1,31 @@
+use Rattle.std.proofs.Common.{◌≤◌, ap, subst, arith}
+use Rattle.builder_trait.specs.Builders.{PartKind}
+use Rattle.stack_levels.specs.Asked.{AreThreeAtMost}
+use Rattle.stack_levels.specs.Levels.{parts_of, weight_of}
+use Rattle.level_slots.specs.Height.{AreFew}
+use Rattle.level_slots.proofs.FewParts.{parts-few, parts-small}
+use Rattle.level_slots.proofs.Stacks.{size-all}
+use Rattle.level_slots.proofs.stack.Stack.asked_levels.Given.{Over}
+use Rattle.level_slots.proofs.stack.Stack.asked_levels.Goals as goal
+
+abbrev kind : (g : Over) → PartKind g.row.B-Item.Denot
+kind g = record { stamp = g.B.Item.Item.stamp; before = g.B.Item.Item.before; slope = g.B.Builder.SLOPE; base = g.B.Builder.BASE }
+
+pub returns-clause-room : goal.returns-clause-room
+returns-clause-room g c =
+    let levels = c.self.inside.levels.items in
+    let few : parts_of levels ≤ 96 =
+    parts-few g.B.Part.Part.contents (kind g) levels c.self.invariant.0.levels 31 (omega (arith, c.self.invariant.0.light)) in
+    omega (arith, few, ap parts_of c.deref.ensures.value)
+
+pub returns-clause-few : goal.returns-clause-few
+returns-clause-few g c asked =
+    let contents = g.B.Part.Part.contents in
+    let levels = c.self.inside.levels.items in
+    let h = subst (AreThreeAtMost contents) c.deref.ensures.value asked in
+    subst (λ s. AreFew contents (weight_of s.levels) s.levels) c.self.view_is (record {
+      on_level = h.three;
+      parts = parts-few contents (kind g) levels c.self.invariant.0.levels;
+      sizes = parts-small contents levels h.of_level;
+      items = omega (arith, size-all contents levels, c.self.invariant.0.small);
+    })
