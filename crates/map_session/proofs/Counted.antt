@@ -1,5 +1,5 @@
 -- What the calls of layers count.
-use Rattle.std.proofs.Common.{◌≡◌, ◌∙◌, ℕ, List, ◌+◌, ◌-◌, ◌*◌, ◌≤◌, Bool, true, false, not, ◌&&◌, Option, Some, None, Result, Ok, Err, if◌then◌else◌, refl, sym, ap, subst, arith}
+use Rattle.std.proofs.Common.{◌≡◌, ◌∙◌, ℕ, ◌+◌, ◌-◌, ◌*◌, ◌≤◌, Bool, true, false, not, ◌&&◌, Option, Some, None, Result, Ok, Err, if◌then◌else◌, refl, sym, ap, subst, arith}
 use Rattle.std.specs.Prelude.{⊤, IfOk}
 use Rattle.query_laws.specs.StepLedger.{Counts, lap_begun}
 use Rattle.map_kinds.specs.Touches.{touches_at}
@@ -9,8 +9,8 @@ use Rattle.layer_kinds.specs.declared.faults.UpdateFault.{UpdateFault}
 use Rattle.layer_kinds.specs.declared.faults.UpdateFault.TheVariants.{NoLayer, WrongKind, Duplicate, Unknown, Full, NoMemory}
 use Rattle.layer_kinds.specs.Asking.{IsReading}
 use Rattle.layer_kinds.specs.Costs.{IsInBounds}
-use Rattle.map_model.specs.Answer.{Question, Answer, index_of}
-use Rattle.map_model.specs.Command.{Command, Ask, name_of, takes_memory}
+use Rattle.map_model.specs.Answer.{Question, Answer}
+use Rattle.map_model.specs.Command.{Command, name_of, takes_memory}
 use Rattle.map_model.specs.Cost.{Cost, Untold, bounds_at, mark_bound}
 use Rattle.map_model.specs.Index.{index_count}
 use Rattle.map_model.specs.Machine.{Outcome, step}
@@ -18,12 +18,11 @@ use Rattle.map_model.specs.Reply.{Answered, is_refusal}
 use Rattle.map_model.specs.State.{Layer, State, layer_named, live_count}
 use Rattle.map_shapes.specs.declared.asked.Asked.{Asked}
 use Rattle.map_shapes.specs.declared.spent.Spent.{Spent}
-use Rattle.map_layers.specs.Costs.{IsCostIn, IsToldIn, IsAskingIn, IsTouchingIn, IsEveryPartIn}
-use Rattle.map_layers.specs.Layers.{LayersState, named}
+use Rattle.map_layers.specs.Costs.{IsCostIn, IsToldIn, IsAskingIn, IsTouchingIn}
 use Rattle.map_layers.specs.Replies.{updated, asked, IsAnswered}
-use Rattle.map_layers.specs.Questions.{AnsweredState, touches_for}
+use Rattle.map_layers.specs.Questions.{touches_for}
 use Rattle.map_session.specs.Replies.{update_cost, question_cost}
-use Rattle.map_session.specs.Work.{Work, no_work, bounds_in, asking_in, work_in, work_of, IsTold, IsCounted, TellsEveryPart}
+use Rattle.map_session.specs.Work.{Work, no_work, bounds_in, asking_in, work_in, work_of, IsTold, IsCounted}
 
 -- ---- commands that only memory refuses
 
@@ -163,9 +162,3 @@ module _ (old new : State) (command : Command) {before after : Counts} where
         → IsTouchingIn (layer_named (name_of command) old) (touches_for question) result (lap_begun before) after → IsReading (lap_begun before) after
         → IfOk result (λ given. IsAskingIn (layer_named (name_of command) old) (most given) given.1 (lap_begun before) after) → IsCounted (work_of old command) (question_cost result) before after
     question_counted result answered touching reads told = question_by (layer_named (name_of command) old) refl result answered touching reads told
-
--- what the layers say of the parts of an answer
-pub every_part_told : (layers : LayersState) (name : List ℕ) (question : Question) (result : Result (AnsweredState × Asked) AskFault)
-    → IfOk result (λ given. IsEveryPartIn (named name layers.layers) (index_of question) given.1.parts given.0.live) → TellsEveryPart layers (Ok (Some (Ask name question))) (question_cost result)
-every_part_told layers name question (Ok given) every = (given.0.live, every)
-every_part_told layers name question (Err fault) every = tt

@@ -1,17 +1,18 @@
 -- What the calls of layers answer is a step of the machine, at a cost that is allowed.
-use Rattle.std.proofs.Common.{◌≡◌, ℕ, Bool, false, Option, Some, None, Result, Ok, Err, inl, inr, refl, sym, subst}
+use Rattle.std.proofs.Common.{◌≡◌, ℕ, ◌≤◌, Bool, false, List, Option, Some, None, Result, Ok, Err, inl, inr, refl, sym, subst}
 use Rattle.std.specs.Prelude.{IfOk}
 use Rattle.query_laws.specs.StepLedger.{Counts}
 use Rattle.map_model.specs.State.{Layer, State, layer_named}
-use Rattle.map_model.specs.Answer.{Answer}
-use Rattle.map_model.specs.Command.{Command, name_of}
+use Rattle.map_model.specs.Answer.{Question, Answer}
+use Rattle.map_model.specs.Command.{Command, Ask, name_of}
 use Rattle.map_model.specs.Refusal.{NoMemory}
-use Rattle.map_model.specs.Cost.{Cost, Untold}
+use Rattle.map_model.specs.Cost.{Cost, Untold, Asking}
 use Rattle.map_model.specs.Reply.{Reply, Answered, Refused}
 use Rattle.map_model.specs.Machine.{Outcome, step}
 use Rattle.map_model.specs.Output.{Told, AnswersTo, IsCost, adds}
 use Rattle.map_shapes.specs.declared.asked.Asked.{Asked}
 use Rattle.map_shapes.specs.declared.spent.Spent.{Spent}
+use Rattle.map_shapes.specs.Cost.{asked_of}
 use Rattle.answer_text.specs.declared.reply.Reply as replies
 use Rattle.answer_text.specs.Reply.{reply_of, cost_of}
 use Rattle.layer_kinds.specs.declared.faults.AskFault.{AskFault}
@@ -19,7 +20,7 @@ use Rattle.layer_kinds.specs.declared.faults.UpdateFault.{UpdateFault}
 use Rattle.map_layers.specs.declared.faults.CreateFault.{CreateFault}
 use Rattle.map_layers.specs.Costs.{IsToldIn, IsAskingIn}
 use Rattle.map_layers.specs.Replies.{created, updated, asked, IsAnswered}
-use Rattle.map_session.specs.Replies.{update_cost, question_cost}
+use Rattle.map_session.specs.Replies.{update_cost}
 use Rattle.map_session.specs.Session.{given_by}
 
 -- ---- a step
@@ -53,15 +54,28 @@ update_allowed layer adding (Err fault) c c' told = refl
 
 -- ---- questions
 
-module _ {T : Type 0} (layer : Option Layer) (most : T × Asked → ℕ → ℕ → ℕ) (outcome : Result (T × Asked) AskFault) (c c' : Counts) (cost : IfOk outcome (λ given. IsAskingIn layer (most given) given.1 c c')) where
-  pub question_allowed : (answer : T × Asked → Answer) → IsCost layer false (asked (λ given. Answered (answer given)) outcome) (question_cost outcome)
-  question_allowed answer = elim outcome as (λ o. IfOk o (λ given. IsAskingIn layer (most given) given.1 c c') → IsCost layer false (asked (λ given. Answered (answer given)) o) (question_cost o)) [
-    | Ok given ↦ λ asking. elim layer as (λ l. IsAskingIn l (most given) given.1 c c' → IsCost l false (Answered (answer given)) (question_cost {F = AskFault} (Ok given))) [
-      | None ↦ λ a. absurd a
-      | Some l ↦ λ a. a.bounds
-    ] asking
-    | Err fault ↦ λ asking. refl
-  ] cost
+asking_allowed : (layer : Option Layer) (most : ℕ → ℕ → ℕ) (c c' : Counts) (answer : Answer) (asked : Asked) (parts : ℕ) → IsAskingIn layer most asked c c'
+    → (asked.parts ≤ asked.part_bound → parts ≤ asked.part_bound) → (1 ≤ asked.parts → asked.parts ≤ asked.part_bound → 1 ≤ parts)
+    → IsCost layer false (Answered answer) (Asking (record (asked_of asked) { parts = parts }))
+asking_allowed None most c c' answer asked parts asking few some = absurd asking
+asking_allowed (Some layer) most c c' answer asked parts asking few some = record {
+  part_bound_told = asking.bounds.part_bound_told;
+  parts_bounded = few asking.bounds.parts_bounded;
+  some_part = λ h. some (asking.bounds.some_part h) asking.bounds.parts_bounded;
+}
+
+-- Of the parts it has only to be told here that they are within the bound, and not none where one was asked.
+pub question_answered : (old : State) (name : List ℕ) (question : Question) (most : ℕ → ℕ → ℕ) (c c' : Counts) (told answer : Answer) (asked : Asked) (parts : ℕ) → told ≡ answer
+    → IsAnswered old (Ask name question) old (Answered answer) → IsAskingIn (layer_named name old) most asked c c'
+    → (asked.parts ≤ asked.part_bound → parts ≤ asked.part_bound) → (1 ≤ asked.parts → asked.parts ≤ asked.part_bound → 1 ≤ parts)
+    → AnswersTo old (Ok (Some (Ask name question))) (record {
+      told = Some (record { reply = Answered told; cost = Asking (record { parts = parts; part_bound = asked.part_bound; touches = asked.touches }) });
+      state = old;
+    })
+question_answered old name question most c c' told answer asked parts same is asking few some =
+    subst (λ a. AnswersTo old (Ok (Some (Ask name question))) (record { told = Some (record { reply = Answered a; cost = Asking (record (asked_of asked) { parts = parts }) }); state = old })) (sym same)
+    (answers_from old old (Ask name question) (Answered answer) (Asking (record (asked_of asked) { parts = parts })) is
+    (asking_allowed (layer_named name old) most c c' answer asked parts asking few some))
 
 -- ---- other commands
 

@@ -7,11 +7,11 @@ ghost use Rattle.map_shapes.specs.Shape.{model_shape};
 ghost use Rattle.script_lang.specs.LineFault.{fault_of};
 ghost use Rattle.map_layers.specs.Replies as layers;
 ghost use Rattle.answer_text.specs.Reply.{refusal_of, reply_of, cost_of};
-ghost use Rattle.map_session.specs.Replies.{update_cost, question_cost};
+ghost use Rattle.map_session.specs.Replies.{update_cost};
 
 use answer_text::{Refusal, Reply};
-use map_layers::{Answered, AskFault, CreateFault, UpdateFault};
-use map_shapes::{Asked, Recent, Shape, Spent};
+use map_layers::{AskFault, CreateFault, UpdateFault};
+use map_shapes::{Recent, Shape, Spent};
 use script_lang::LineFault;
 
 /// That a line has a fault.
@@ -68,20 +68,6 @@ fn refusal_of_update(fault: UpdateFault) -> Refusal
     }
 }
 
-/// What a question is answered, or why it isn't.
-pub fn answered(outcome: Result<(Answered, Asked), AskFault>) -> Reply
-    ensures reply { reply_of result ≡ layers.asked (λ given. replies.Answered given.0.answer) outcome }
-    ensures cost { cost_of result ≡ question_cost outcome }
-{
-    match outcome {
-        Ok((given, asked)) => Reply::Answered {
-            answer: given.into_answer(),
-            asked,
-        },
-        Err(fault) => refused(refusal_of_question(fault)),
-    }
-}
-
 /// The shape of an item, or why it isn't told.
 pub fn got(outcome: Result<Shape, AskFault>) -> Reply
     ensures reply { reply_of result ≡ layers.asked (λ shape. replies.Got (model_shape shape)) outcome }
@@ -115,7 +101,8 @@ pub fn recent(outcome: Result<Recent, AskFault>) -> Reply
     }
 }
 
-fn refusal_of_question(fault: AskFault) -> Refusal
+/// Why a question isn't answered.
+pub fn refusal_of_question(fault: AskFault) -> Refusal
     ensures { refusal_of result ≡ layers.refusal_of_ask fault }
 {
     match fault {

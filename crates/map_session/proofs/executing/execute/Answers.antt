@@ -1,12 +1,10 @@
 use Rattle.std.proofs.Common.{true, false, refl}
-use Rattle.map_model.specs.Command.{Add, Drop, Ask}
+use Rattle.map_model.specs.Command.{Add, Drop}
 use Rattle.map_model.specs.Shape as model
-use Rattle.map_questions.specs.Any.{question_of}
 use Rattle.map_layers.specs.Layers.{map_of}
-use Rattle.map_layers.specs.Questions.{most_for}
 use Rattle.map_model.specs.State.{layer_named}
-use Rattle.map_session.proofs.Counted.{update_counted, update_lap, question_counted, every_part_told}
-use Rattle.map_session.proofs.Steps.{given_as, made_allowed, reading_allowed, update_allowed, question_allowed}
+use Rattle.map_session.proofs.Counted.{update_counted, update_lap}
+use Rattle.map_session.proofs.Steps.{given_as, made_allowed, reading_allowed, update_allowed}
 use Rattle.map_session.proofs.executing.execute.Goals as goal
 
 pub returns-in-Add-clause-answered : goal.returns-in-Add-clause-answered
@@ -42,18 +40,6 @@ returns-in-Drop-clause-counted g c =
     (Drop c.in-Drop.name c.in-Drop.id) (λ layer. refl) false c.remove.result
     c.remove.ensures.answered c.remove.ensures.cost c.remove.ensures.told)
 
-pub returns-in-Ask-clause-answered : goal.returns-in-Ask-clause-answered
-returns-in-Ask-clause-answered g c =
-    rw c.in-Ask.is (given_as (map_of c.args.layers.now) (map_of c.args.layers.now) _ c.answered.result _ _ c.answered.ensures.reply c.answered.ensures.cost c.ask.ensures.answered
-    (question_allowed _ _ c.ask.result _ _ c.ask.ensures.cost _))
-
-pub returns-in-Ask-clause-counted : goal.returns-in-Ask-clause-counted
-returns-in-Ask-clause-counted g c =
-    let question = question_of c.in-Ask.question in
-    rw (c.in-Ask.is, c.answered.ensures.cost) (question_counted (map_of c.args.layers.now) (map_of c.args.layers.now)
-    (Ask c.in-Ask.name question) question (λ layer. refl) (λ given level n. most_for level given.1.parts n given.0.answer) (λ given. given.0.answer) c.ask.result
-    c.ask.ensures.answered c.ask.ensures.touches c.ask.ensures.reads c.ask.ensures.cost)
-
 pub returns-in-Layer-clause-answered : goal.returns-in-Layer-clause-answered
 returns-in-Layer-clause-answered g c =
     rw c.in-Layer.is (given_as (map_of c.args.layers.now) (map_of c.create.new.self) _ c.made.result _ _ c.made.ensures.reply c.made.ensures.cost
@@ -82,10 +68,3 @@ returns-in-Seg-clause-lap g c = rw c.in-Seg.is (update_lap c.args.steps.now c.ad
 
 pub returns-in-Drop-clause-lap : goal.returns-in-Drop-clause-lap
 returns-in-Drop-clause-lap g c = rw c.in-Drop.is (update_lap c.args.steps.now c.remove.new.steps (layer_named c.in-Drop.name (map_of c.args.layers.now)) c.remove.result c.remove.ensures.cost)
-
-pub returns-in-Ask-clause-lap : goal.returns-in-Ask-clause-lap
-returns-in-Ask-clause-lap g c = rw c.in-Ask.is c.ask.ensures.reads.same_lap
-
-pub returns-in-Ask-clause-parts : goal.returns-in-Ask-clause-parts
-returns-in-Ask-clause-parts g c =
-    rw (c.in-Ask.is, c.answered.ensures.cost) (every_part_told c.args.layers.now c.in-Ask.name (question_of c.in-Ask.question) c.ask.result c.ask.ensures.every_part)
