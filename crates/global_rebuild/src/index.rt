@@ -63,7 +63,7 @@ impl<B: Builder> Index<B> {
 
     /// Readies the next update. While a rebuild runs, it hands four items over to the shadow, or all that are left, each an insert, and puts
     /// it in the place of the main stack when it has all. Then it gives up a part of a stack that was put out of use, and takes the memory of
-    /// one update.
+    /// two ticks of each stack, of which an update is one.
     ///
     /// `NoMemory` where it isn't given. The items are as before; some may be handed over, and the rebuild may have ended.
     pub fn prepare<L: Ledger>(
@@ -75,8 +75,8 @@ impl<B: Builder> Index<B> {
         ensures chain { (stamps : ℕ) → IsIndexOf B.Part.Part.contents B.Item.stamp self.old chain.now.entries stamps
             → IsIndexOf B.Part.Part.contents B.Item.stamp self.new chain.now.entries stamps }
         ensures prepared { IfOk result (λ _. IsPrepared B.Part.Part.contents self.new) }
-        ensures rooms { IfOk result (λ _. IsForecast self.new.main) }
-        ensures shadow_rooms { IfOk result (λ _. (r : Walked B.Part B.Item) → self.new.shadow ≡ Some r → IsForecast r.stack) }
+        ensures ready { IfOk result (λ _. (2 ≤ self.new.main.spare) × IsForecast self.new.main) }
+        ensures shadow_ready { IfOk result (λ _. (r : Walked B.Part B.Item) → self.new.shadow ≡ Some r → (2 ≤ r.stack.spare) × IsForecast r.stack) }
         ensures walked { IfOk result (λ _. IsWalkedOn B.Part.Part.contents self.old self.new) }
 
         // No rebuild begins, and none that runs is given up.
@@ -338,7 +338,7 @@ fn give_up<B: Builder>(main: &mut Stack<B>, retired: &mut Option<Retired<B>>)
     }
 }
 
-/// Takes the memory of one update, for a stack and its shadow. What they hold stays.
+/// Takes the memory of two ticks, for a stack and its shadow. What they hold stays.
 fn take_memory<B: Builder>(
     main: &mut Stack<B>,
     shadow: &mut Option<Shadow<B>>,

@@ -99,8 +99,6 @@ impl<B: Builder> Tried<B> for Indexed<B> {
         B::Part: Answers<Q>,
     {
         let mut asking = Asking::<B::Part, Q>::new(bench.alloc, question);
-        // It says that the parts can be counted.
-        self.index.parts();
         self.index.ask::<Q, L>(&mut asking, &mut bench.steps)?;
         Ok(asking.finish()?.into_answer())
     }

@@ -76,8 +76,6 @@ impl<B: Builder> Tried<B> for Stacked<B> {
         B::Part: Answers<Q>,
     {
         let mut asking = Asking::<B::Part, Q>::new(bench.alloc, question);
-        // It says that the parts can be counted.
-        self.stack.parts();
         self.stack.ask::<Q, L>(&mut asking, &mut bench.steps)?;
         Ok(asking.finish()?.into_answer())
     }
