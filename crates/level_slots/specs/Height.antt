@@ -2,7 +2,7 @@
 use Rattle.std.specs.Prelude.{◌≡◌, ℕ, ◌+◌, ◌*◌, ◌^◌, ◌<◌, ◌≤◌, List, Some, All, length, drop, slice_get}
 use Rattle.builder_trait.specs.Parts.{Contents}
 use Rattle.stack_levels.specs.Slots.{Slots, IsIdle}
-use Rattle.stack_levels.specs.Levels.{parts_of, touches_of}
+use Rattle.stack_levels.specs.Levels.{parts_of, touches_of, weight_of}
 
 module _ {P Item : Type 0} where
   -- no complete part has more than so many items, dead ones included
@@ -20,6 +20,11 @@ module _ {P Item : Type 0} where
     pub parts : (g : ℕ) → weight < 2 ^ (g + 1) → parts_of levels ≤ 3 * (g + 1)
     pub sizes : (g : ℕ) → weight < 2 ^ (g + 1) → HaveAtMost contents (2 ^ g) levels
     pub items : size_of contents levels ≤ weight
+
+  -- Where the weight is less than 2 ^ (g + 1), there are no more than three complete parts for each level up to g. They have no more items than it.
+  pub record HaveFewParts (contents : P → Contents Item) (levels : List (Slots P Item)) : Type 0 where
+    pub parts : (g : ℕ) → weight_of levels < 2 ^ (g + 1) → parts_of levels ≤ 3 * (g + 1)
+    pub items : size_of contents levels ≤ weight_of levels
 
   -- the levels from a height on are idle, and the one right below it, if there is one, isn't
   pub record IsHeight (levels : List (Slots P Item)) (height : ℕ) : Type 0 where

@@ -9,7 +9,7 @@ ghost use Rattle.stack_levels.specs.Slots.{IsPartOf, held_in};
 ghost use Rattle.stack_levels.specs.Levels.{live_items, all_items, weight_of, parts_of, asked, touches_of};
 ghost use Rattle.level_slots.specs.Stack.{Stacked, HaveSameItems, held_by_level, memory_of};
 ghost use Rattle.level_slots.specs.Preparing.{AreKept, KeepMore, TakeMemory};
-ghost use Rattle.level_slots.specs.Height.{IsHeight, HaveAtMost, AreFew, size_of};
+ghost use Rattle.level_slots.specs.Height.{IsHeight, HaveAtMost, HaveFewParts, size_of};
 ghost use Rattle.stack_levels.specs.Asked.{AreThreeAtMost, HasAsked};
 ghost use Rattle.stack_levels.specs.Level.{IsOfLevel};
 ghost use Rattle.stack_levels.specs.Cost.{IsWithin, quotas};
@@ -169,7 +169,8 @@ impl<B: Builder> Stack<B> {
             ≡ record asking.old { so_far = asking.new.so_far; parts = asking.new.parts; live = asking.new.live; is_given_up = true }) }
         ensures refused { IsErr result → IsTrue asking.old.refusable }
         ensures cost { Spends steps.old steps.new 0 0 (touches_of (B.Part.ask_touches asking.old.question) self.now.levels) }
-        ensures few { AreFew B.Part.Part.contents (weight_of self.now.levels) self.now.levels }
+        ensures three { AreThreeAtMost B.Part.Part.contents self.now.levels }
+        ensures few { HaveFewParts B.Part.Part.contents self.now.levels }
     {
         // It says that what was answered so far is lawful.
         asking.consulted();
@@ -180,8 +181,7 @@ impl<B: Builder> Stack<B> {
     fn asked_levels(&self) -> &[Level<B>]
         ensures value { result.now ≡ self.now.levels }
         ensures room { parts_of result.now ≤ 96 }
-        ensures few { AreThreeAtMost B.Part.Part.contents result.now
-            → AreFew B.Part.Part.contents (weight_of self.now.levels) self.now.levels }
+        ensures few { HaveFewParts B.Part.Part.contents self.now.levels }
     {
         &self.levels
     }

@@ -3,6 +3,7 @@ use Rattle.query_laws.proofs.Values.{value-Permuted}
 use Rattle.level_slots.proofs.Forecasting.{when_ok}
 use Rattle.stack_levels.specs.Levels.{live_items, parts_of}
 use Rattle.level_slots.specs.Height.{AreFew}
+use Rattle.level_slots.proofs.FewParts.{parts-small}
 use Rattle.global_rebuild.specs.Index.{live_in}
 use Rattle.global_rebuild.proofs.Weights.{as_many, main_within}
 use Rattle.global_rebuild.proofs.index.Index.ask.Goals as goal
@@ -25,12 +26,13 @@ returns-clause-joined g c es stamps h =
 pub returns-clause-few : goal.returns-clause-few
 returns-clause-few g c =
     let contents = g.B.Part.Part.contents in
-    let h = c.ask.ensures.few in
+    let levels = c.self.inside.main.levels in
+    let few = c.ask.ensures.few in
     let light = main_within c.self.view_is c.self.invariant in
     let most = 2 * live_in contents c.args.self.now.main + 9 in
     subst (λ i. AreFew contents most i.main.levels) c.self.view_is (record {
-      on_level = h.on_level;
-      parts = λ g' less. h.parts g' (omega (arith, less, light));
-      sizes = λ g' less. h.sizes g' (omega (arith, less, light));
-      items = omega (arith, h.items, light);
+      on_level = c.ask.ensures.three.three;
+      parts = λ g' less. few.parts g' (omega (arith, less, light));
+      sizes = λ g' less. parts-small contents levels c.ask.ensures.three.of_level g' (omega (arith, less, light));
+      items = omega (arith, few.items, light);
     })

@@ -1,9 +1,8 @@
 use Rattle.std.proofs.Common.{◌≤◌, ap, subst, arith}
 use Rattle.builder_trait.specs.Builders.{PartKind}
-use Rattle.stack_levels.specs.Asked.{AreThreeAtMost}
-use Rattle.stack_levels.specs.Levels.{parts_of, weight_of}
-use Rattle.level_slots.specs.Height.{AreFew}
-use Rattle.level_slots.proofs.FewParts.{parts-few, parts-small}
+use Rattle.stack_levels.specs.Levels.{parts_of}
+use Rattle.level_slots.specs.Height.{HaveFewParts}
+use Rattle.level_slots.proofs.FewParts.{parts-few}
 use Rattle.level_slots.proofs.Stacks.{size-all}
 use Rattle.level_slots.proofs.stack.Stack.asked_levels.Given.{Over}
 use Rattle.level_slots.proofs.stack.Stack.asked_levels.Goals as goal
@@ -19,13 +18,10 @@ returns-clause-room g c =
     omega (arith, few, ap parts_of c.deref.ensures.value)
 
 pub returns-clause-few : goal.returns-clause-few
-returns-clause-few g c asked =
+returns-clause-few g c =
     let contents = g.B.Part.Part.contents in
     let levels = c.self.inside.levels.items in
-    let h = subst (AreThreeAtMost contents) c.deref.ensures.value asked in
-    subst (λ s. AreFew contents (weight_of s.levels) s.levels) c.self.view_is (record {
-      on_level = h.three;
+    subst (λ s. HaveFewParts contents s.levels) c.self.view_is (record {
       parts = parts-few contents (kind g) levels c.self.invariant.0.levels;
-      sizes = parts-small contents levels h.of_level;
       items = omega (arith, size-all contents levels, c.self.invariant.0.small);
     })
