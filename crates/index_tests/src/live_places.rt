@@ -49,12 +49,9 @@ fn counts_of<L: Ledger>(
     Ok(counts)
 }
 
-/// Counts and sums over four places of which the second is cleared, and the live places by rank; and how many places
-/// there are before and after a reset.
-fn counted<L: Ledger>(
-    alloc: Global,
-    blank: Blank,
-) -> Result<([u64; 8], [Option<usize>; 2], [usize; 2]), NoMemory>
+/// How many of four places are live, all and below the third, after the second is cleared; the turns that were taken before and
+/// by the questions; and how many places there are before and after a reset.
+fn counted<L: Ledger>(alloc: Global, blank: Blank) -> Result<([u64; 4], [usize; 2]), NoMemory>
     requires name { blank.name ≡ L.name }
     requires parts { blank.parts ≡ L.parts }
     requires shares { blank.parts ≡ SHARES }
@@ -63,32 +60,22 @@ fn counted<L: Ledger>(
     let mut counts = counts_of(alloc, &[5, 6, 7, 8], &mut steps)?;
     let turns = steps.lap_turns();
     steps.start_lap();
-    let all = counts.count_in(1, 3, &mut steps);
     counts.clear(1, &mut steps);
     let numbers = [
         counts.prefix(4, &mut steps),
-        counts.sum_in(0, 4, &mut steps),
         counts.prefix(2, &mut steps),
         turns,
         steps.lap_turns(),
-        all,
-        counts.count_in(1, 3, &mut steps),
-        counts.sum_in(1, 4, &mut steps),
-    ];
-    let ranks = [
-        counts.kth_live(1, &mut steps),
-        counts.kth_live(3, &mut steps),
     ];
     let some = counts.len();
     counts.reset();
-    Ok((numbers, ranks, [some, counts.len()]))
+    Ok((numbers, [some, counts.len()]))
 }
 
 #[test]
 fn counts_what_is_live(rt: HostRuntime) -> Result<(), Fail> {
-    let (numbers, ranks, lengths) = counted::<Brand>(rt.alloc(), blank())?;
-    assert_eq!(rt; numbers, [3, 20, 1, 8, 0, 2, 1, 15]);
-    assert_eq!(rt; ranks, [Some(2), None]);
+    let (numbers, lengths) = counted::<Brand>(rt.alloc(), blank())?;
+    assert_eq!(rt; numbers, [3, 1, 8, 0]);
     assert_eq!(rt; lengths, [4, 0]);
     Ok(())
 }

@@ -8,7 +8,7 @@ use builder_trait::{Answers, Asking, Builder, Part, part_of_one};
 use map_shapes::{CountIn, ListIn, Point, Rect, SumIn};
 use query_laws::step_ledger::{SHARES, Steps, blank};
 use query_laws::{NoMemory, Question};
-use range_ranks::{RangeBuilder, RangePart};
+use range_ranks::RangeBuilder;
 use std::alloc::Global;
 use std::marker::Brand;
 use std::sync::ledger::{Blank, Ledger};
@@ -27,10 +27,10 @@ fn answer_of<P: Answers<Q>, Q: Question<Item = P::Item>, L: Ledger>(
 }
 
 /// How many points of a part lie in each rectangle, and what they weigh.
-fn measured<L: Ledger>(
+fn measured<P: Answers<CountIn> + Answers<SumIn>, L: Ledger>(
     alloc: Global,
     rects: &[Rect],
-    part: &RangePart,
+    part: &P,
     steps: &mut Steps<L>,
 ) -> Result<Vec<[u64; 2]>, NoMemory> {
     let mut measured = Vec::new(alloc);
@@ -54,7 +54,7 @@ struct Findings {
     recounted: u64,
 }
 
-fn seen<L: Ledger>(
+fn seen<B: Builder<Item = Point>, L: Ledger>(
     alloc: Global,
     low: Point,
     high: Point,
@@ -62,6 +62,8 @@ fn seen<L: Ledger>(
     whole: Rect,
     blank: Blank,
 ) -> Result<Findings, NoMemory>
+where
+    B::Part: Answers<CountIn> + Answers<SumIn> + Answers<ListIn>,
     requires name { blank.name ≡ L.name }
     requires parts { blank.parts ≡ L.parts }
     requires shares { blank.parts ≡ SHARES }
@@ -70,13 +72,13 @@ fn seen<L: Ledger>(
     requires stamps { low.stamp ≢ high.stamp }
 {
     let mut steps = Steps::<L>::new(blank);
-    let mut part = rising_pair::<RangeBuilder, L>(alloc, low, high, &mut steps)?;
+    let mut part = rising_pair::<B, L>(alloc, low, high, &mut steps)?;
     let measured_all = measured(alloc, rects, &part, &mut steps)?;
     let listed = answer_of(alloc, &ListIn(whole), &part, &mut steps)?.into_vec();
     let marks = [part.mark(&high, &mut steps), part.mark(&high, &mut steps)];
     let remeasured = measured(alloc, rects, &part, &mut steps)?;
     let relisted = answer_of(alloc, &ListIn(whole), &part, &mut steps)?.into_vec();
-    let again = part_of_one(RangeBuilder::recycle(part), high, &mut steps);
+    let again = part_of_one(B::recycle(part), high, &mut steps);
     Ok(Findings {
         measured: measured_all,
         listed,
@@ -123,7 +125,7 @@ fn answers_over_rectangles(rt: HostRuntime) -> Result<(), Fail> {
         rect(0, 0, LAST, LAST - 1),
         rect(1, 2, 1, LAST),
     ];
-    let seen = seen::<Brand>(rt.alloc(), low, high, &rects, whole, blank())?;
+    let seen = seen::<RangeBuilder, Brand>(rt.alloc(), low, high, &rects, whole, blank())?;
     assert_eq!(rt;
         seen.measured.as_slice(),
         [[2, 50], [1, 40], [1, 10], [1, 10], [0, 0]].as_slice()

@@ -53,41 +53,24 @@ IsCleared-next {first} {at} {height} start cleared pos small is =
       height_at-multiple at height cleared.multiple pos wide,
     )
 
--- two numbers go down, a touch a bit
-pub record IsDescent (from to low high : ℕ) (old new : Counts) : Type 0 where
-  pub low_height : ℕ
-  pub high_height : ℕ
-  pub lower : IsCleared from low low_height
-  pub higher : IsCleared to high high_height
-  pub spent : Spends old new 0 0 (low_height + high_height)
+-- a number goes down, a touch a bit
+pub record IsDescent (first at : ℕ) (old new : Counts) : Type 0 where
+  pub height : ℕ
+  pub cleared : IsCleared first at height
+  pub spent : Spends old new 0 0 height
 
-module _ {from to : ℕ} {old : Counts} where
-  pub IsDescent-begin : IsDescent from to from to old old
-  IsDescent-begin = record { low_height = 0; high_height = 0; lower = IsCleared-none from; higher = IsCleared-none to; spent = Spends-nothing old }
+pub IsDescent-begin : (first : ℕ) (old : Counts) → IsDescent first first old old
+IsDescent-begin first old = record { height = 0; cleared = IsCleared-none first; spent = Spends-nothing old }
 
-  module _ {low high : ℕ} {mid new : Counts} (descent : IsDescent from to low high old mid) (touch : Spends mid new 0 0 1) (start : ℕ) where
-    pub IsDescent-low : 0 < low → from < 2 ^ 64 → start + 2 ^ height_at low ≡ low → IsDescent from to start high old new
-    IsDescent-low pos small is =
-        let next = IsCleared-next start descent.lower pos small is in
-        record {
-          low_height = height_at low + 1;
-          high_height = descent.high_height;
-          lower = next.0;
-          higher = descent.higher;
-          spent = Spends-within (Spends-then descent.spent touch) (omega arith) (omega arith) (omega (arith, next.1));
-        }
+pub IsDescent-next : {first at : ℕ} {old mid new : Counts} (start : ℕ) → IsDescent first at old mid → Spends mid new 0 0 1
+    → 0 < at → first < 2 ^ 64 → start + 2 ^ height_at at ≡ at → IsDescent first start old new
+IsDescent-next {first} {at} start descent touch pos small is =
+    let next = IsCleared-next start descent.cleared pos small is in
+    record {
+      height = height_at at + 1;
+      cleared = next.0;
+      spent = Spends-within (Spends-then descent.spent touch) (omega arith) (omega arith) (omega (arith, next.1));
+    }
 
-    pub IsDescent-high : 0 < high → to < 2 ^ 64 → start + 2 ^ height_at high ≡ high → IsDescent from to low start old new
-    IsDescent-high pos small is =
-        let next = IsCleared-next start descent.higher pos small is in
-        record {
-          low_height = descent.low_height;
-          high_height = height_at high + 1;
-          lower = descent.lower;
-          higher = next.0;
-          spent = Spends-within (Spends-then descent.spent touch) (omega arith) (omega arith) (omega (arith, next.1));
-        }
-
-  pub IsDescent-cost : {low high : ℕ} {new : Counts} → IsDescent from to low high old new → (g h : ℕ) → from < 2 ^ g → to < 2 ^ h → Spends old new 0 0 (g + h)
-  IsDescent-cost descent g h below above =
-      Spends-within descent.spent (omega arith) (omega arith) (omega (arith, descent.lower.few g below, descent.higher.few h above))
+pub IsDescent-cost : {first at : ℕ} {old new : Counts} → IsDescent first at old new → (h : ℕ) → first < 2 ^ h → Spends old new 0 0 h
+IsDescent-cost descent h below = Spends-within descent.spent (omega arith) (omega arith) (omega (arith, descent.cleared.few h below))

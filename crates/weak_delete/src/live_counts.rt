@@ -1,11 +1,11 @@
 //! The number and the weight of live places, by a Fenwick tree.
-ghost use Rattle.std.specs.Prelude.{◌≡◌, ℕ, ◌+◌, ◌-◌, ◌*◌, ◌/◌, ◌%◌, ◌≢◌, ◌^◌, ◌<◌, ◌≤◌, ◌∷◌, ◌++◌, ◌↔◌, [], IsTrue, true, false, IfOk, IfSome, IsNone, length, take, count_by, sum_by};
+ghost use Rattle.std.specs.Prelude.{◌≡◌, ℕ, ◌+◌, ◌-◌, ◌*◌, ◌/◌, ◌%◌, ◌≢◌, ◌^◌, ◌<◌, ◌≤◌, ◌∷◌, ◌++◌, [], true, false, IfOk, length, take, count_by};
 ghost use Rattle.query_laws.specs.StepLedger.{Spends};
-ghost use Rattle.weak_delete.specs.Places.{IsLive, is_live, live_amount, live_place, cleared, nothing_put, IsBuilt};
+ghost use Rattle.weak_delete.specs.Places.{IsLive, is_live, live_place, cleared, nothing_put, IsBuilt};
 ghost use Rattle.row_blocks.specs.Blocks.{height_at};
 ghost use Rattle.weak_delete.specs.Fenwick.{IsOver};
 
-use crate::packed::{WIDTH, live_below, nth_live, weight_below, without};
+use crate::packed::{WIDTH, live_below, without};
 use query_laws::NoMemory;
 use query_laws::step_ledger::{Row, Steps};
 use row_blocks::{block_len, height_above, height_at};
@@ -20,26 +20,7 @@ struct Node {
     weight: u64,
 }
 
-/// The node over no entry.
-const NOTHING: Node = Node {
-    count: 0,
-    weight: 0,
-};
-
 impl Node {
-    /// The node over the places of both.
-    #[inline]
-    fn plus(self, other: Node) -> Node
-        requires count { self.count + other.count < 2 ^ 32 }
-        requires weight { self.weight + other.weight < 2 ^ 64 }
-        ensures { result ≡ record { count = self.count + other.count; weight = self.weight + other.weight } }
-    {
-        Node {
-            count: self.count + other.count,
-            weight: self.weight + other.weight,
-        }
-    }
-
     /// The node over the places that another doesn't have, which has none but these.
     #[inline]
     fn minus(self, other: Node) -> Node
@@ -313,43 +294,8 @@ impl LiveCounts {
         if k == self.len {
             return self.total.count as u64;
         }
-        let before = self.between(0, k / WIDTH, steps).count;
+        let before = self.below(k / WIDTH, steps);
         before as u64 + self.live_before(k, steps) as u64
-    }
-
-    /// The number of live places from `from` on and below `to`: no touch where all places are live, and else at most
-    /// `2 * (h + 2)`, where there are at most `2^h` places.
-    pub fn count_in<L: Ledger>(&self, from: usize, to: usize, steps: &mut Steps<L>) -> u64
-        requires built { IsBuilt self.now }
-        requires ordered { from ≤ to }
-        requires within { to ≤ length self.now.places }
-        ensures count { result + count_by is_live (take from self.now.places) ≡ count_by is_live (take to self.now.places) }
-        ensures cost { (h : ℕ) → length self.now.places ≤ 2 ^ h → Spends steps.old steps.new 0 0 (2 * (h + 2)) }
-    {
-        if self.total.count as usize == self.len {
-            return (to - from) as u64;
-        }
-        let middle = self.between(from / WIDTH, to / WIDTH, steps).count as u64;
-        let last = self.live_before(to, steps) as u64;
-        let first = self.live_before(from, steps) as u64;
-        middle + last - first
-    }
-
-    /// The weight of the live places from `from` on and below `to`: at most `2 * (h + 2)` touches, where there are at most `2^h`
-    /// places.
-    pub fn sum_in<L: Ledger>(&self, from: usize, to: usize, steps: &mut Steps<L>) -> u64
-        requires built { IsBuilt self.now }
-        requires ordered { from ≤ to }
-        requires within { to ≤ length self.now.places }
-        ensures sum { result + sum_by live_amount (take from self.now.places) ≡ sum_by live_amount (take to self.now.places) }
-        ensures cost { (h : ℕ) → length self.now.places ≤ 2 ^ h → Spends steps.old steps.new 0 0 (2 * (h + 2)) }
-    {
-        // By its invariant the sums of all places fit.
-        let _total = self.total;
-        let middle = self.between(from / WIDTH, to / WIDTH, steps).weight;
-        let last = self.weight_before(to, steps);
-        let first = self.weight_before(from, steps);
-        middle + last - first
     }
 
     /// How many live places of its own entry stand before a place.
@@ -366,47 +312,21 @@ impl LiveCounts {
         live_below(mask, k % WIDTH)
     }
 
-    /// What the live places of its own entry that stand before a place weigh.
-    fn weight_before<L: Ledger>(&self, k: usize, steps: &mut Steps<L>) -> u64
-        requires { k ≤ length self.now.places }
-        ensures sum { result + sum_by live_amount (take (16 * (k / 16)) self.now.places) ≡ sum_by live_amount (take k self.now.places) }
-        ensures few { result ≤ 16 * (2 ^ 32 - 1) }
-        ensures cost { Spends steps.old steps.new 0 0 2 }
-    {
-        if k % WIDTH == 0 {
-            return 0;
-        }
-        let weights = self.weights.at(k / WIDTH, steps);
-        let mask = self.masks.at(k / WIDTH, steps);
-        weight_below(&weights, mask, k % WIDTH)
-    }
-
-    /// The node over the entries from `from` on and below `to`: both ends go down, from node to node, until they meet, and what
-    /// stands below that isn't read.
-    fn between<L: Ledger>(&self, from: usize, to: usize, steps: &mut Steps<L>) -> Node
+    /// How many live places the entries before this one have: it goes down, from node to node, until none stands before.
+    fn below<L: Ledger>(&self, entry: usize, steps: &mut Steps<L>) -> u32
         requires built { IsBuilt self.now }
-        requires ordered { from ≤ to }
-        requires within { 16 * to < length self.now.places + 16 }
-        ensures over { IsOver self.now.places (16 * from) (16 * to) result }
-        ensures cost { (g h : ℕ) → from < 2 ^ g → to < 2 ^ h → Spends steps.old steps.new 0 0 (g + h) }
+        requires within { 16 * entry < length self.now.places + 16 }
+        ensures count { result ≡ count_by is_live (take (16 * entry) self.now.places) }
+        ensures cost { (h : ℕ) → entry < 2 ^ h → Spends steps.old steps.new 0 0 h }
     {
-        let mut low = from;
-        let mut high = to;
-        let mut before = NOTHING;
-        let mut whole = NOTHING;
-        while low != high {
-            let end = low.max(high);
+        let mut end = entry;
+        let mut count = 0;
+        while end > 0 {
             let start = end - block_len(height_at(end));
-            let node = self.half(start, end, steps);
-            if low < high {
-                high = start;
-                whole = whole.plus(node);
-            } else {
-                low = start;
-                before = before.plus(node);
-            }
+            count += self.half(start, end, steps).count;
+            end = start;
         }
-        whole.minus(before)
+        count
     }
 
     /// The node over the first half of a block of entries.
@@ -418,42 +338,10 @@ impl LiveCounts {
         requires half { start + 2 ^ height_at end ≡ end }
         ensures over { IsOver self.now.places (16 * start) (16 * end) result }
 
-        // The sums of any places fit.
+        // The number of any places fits.
         ensures few { length self.now.places ≤ 2 ^ 31 }
-        ensures light { sum_by live_amount self.now.places ≤ length self.now.places * (2 ^ 32 - 1) }
         ensures cost { Spends steps.old steps.new 0 0 1 }
     {
         self.nodes.at(end - 1, steps)
-    }
-
-    /// The live place with exactly `j` live places below it, or None where at most `j` are live: at most `h + 1` touches, where
-    /// there are at most `2^h` places.
-    pub fn kth_live<L: Ledger>(&self, j: usize, steps: &mut Steps<L>) -> Option<usize>
-        requires built { IsBuilt self.now }
-        ensures found { IfSome result (λ k. IsLive self.now.places k) }
-        ensures rank { IfSome result (λ k. count_by is_live (take k self.now.places) ≡ j) }
-        ensures none { IsNone result ↔ (count_by is_live self.now.places ≤ j) }
-        ensures cost { (h : ℕ) → length self.now.places ≤ 2 ^ h → Spends steps.old steps.new 0 0 (h + 1) }
-    {
-        if j >= self.total.count as usize {
-            return None;
-        }
-        let last = (self.len - 1) / WIDTH;
-        let mut height = height_above(last);
-        let mut start = 0;
-        let mut rest = j;
-        while height > 0 {
-            height -= 1;
-            let end = start + block_len(height);
-            if end <= last {
-                let count = self.half(start, end, steps).count as usize;
-                if count <= rest {
-                    rest -= count;
-                    start = end;
-                }
-            }
-        }
-        let mask = self.masks.at(start, steps);
-        Some(WIDTH * start + nth_live(mask, rest))
     }
 }

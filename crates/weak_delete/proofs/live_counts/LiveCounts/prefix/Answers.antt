@@ -18,4 +18,4 @@ returns-then-self-clause-count g c =
 pub returns-clause-cost : goal.returns-clause-cost
 returns-clause-cost g c h few =
     let small : c.args.k / 16 < 2 ^ h = omega (arith, c.requires.within, pow_pos h) in
-    Spends-within (Spends-then (c.between-before.ensures.cost 0 h (omega arith) small) c.live_before.ensures.cost) (omega arith) (omega arith) (omega arith)
+    Spends-within (Spends-then (c.below-before.ensures.cost h small) c.live_before.ensures.cost) (omega arith) (omega arith) (omega arith)
