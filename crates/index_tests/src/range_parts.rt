@@ -27,7 +27,7 @@ fn answer_of<P: Answers<Q>, Q: Question<Item = P::Item>, L: Ledger>(
 }
 
 /// How many points of a part lie in each rectangle, and what they weigh.
-fn measured<P: Answers<CountIn> + Answers<SumIn>, L: Ledger>(
+fn measured<P: Part<Item = Point> + Answers<CountIn> + Answers<SumIn>, L: Ledger>(
     alloc: Global,
     rects: &[Rect],
     part: &P,
