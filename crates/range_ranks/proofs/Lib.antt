@@ -3,6 +3,8 @@ pub mod Searching
 pub mod Between
 pub mod LeafLemmas
 pub mod Hits
+pub mod HitBits
+pub mod HitPlaces
 pub mod ScanLemmas
 pub mod RowSlices
 pub mod SpanSums

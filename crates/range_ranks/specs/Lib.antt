@@ -6,3 +6,4 @@ pub mod Tree
 pub mod Queries
 pub mod Growing
 pub mod Marks
+pub mod LeafHits

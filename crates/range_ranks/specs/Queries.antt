@@ -56,12 +56,6 @@ pub record AreWithinOrdinates (part : Contents Point) (low high : ℕ) (rect : R
 abbrev pub has_ordinate : Rect → ℕ → Bool
 has_ordinate rect y = nat_le rect.y1 y && nat_le y rect.y2
 
--- the abscissa of the point at a place is in the rectangle, and this is the ordinate that the leaves have of it
-pub record IsOrdinateAt (part : Contents Point) (rect : Rect) (place y : ℕ) : Type 0 where
-  pub there : place < length part.items
-  pub inside : (p : Point) → slice_get part.items place ≡ Some p → (rect.x1 ≤ p.x) × (p.x ≤ rect.x2)
-  pub is : (p : Point) → slice_get part.items place ≡ Some p → y ≡ (if slice_index_or part.flags place false then p.y else nowhere)
-
 -- The abscissas of the points at these places are in the rectangle, and the leaf has the ordinates of those that are live: the places are some of
 -- its own.
 pub record IsLeafOf (part : Contents Point) (rect : Rect) (places : Places) (leaf : Leaf) : Type 0 where

@@ -19,23 +19,26 @@ use query_laws::step_ledger::Steps;
 use query_laws::{NoMemory, Total};
 use std::sync::ledger::Ledger;
 
-/// The most places that are scanned rather than counted by rows.
+/// The most places that are scanned for a number rather than counted by rows.
 fn most_scanned(measure: Measure) -> usize
-    ensures { result ≤ 1024 }
+    ensures { result ≤ 2048 }
 {
     match measure {
         Measure::Count => 1024,
-        Measure::Weight => 512,
+        Measure::Weight => 2048,
     }
 }
 
+/// The most places that are scanned for a list rather than followed down the rows.
+const MOST_LISTED: usize = 8192;
+
 /// Whether places are scanned: where they are few, or have no whole block.
-fn are_scanned(measure: Measure, places: Places, whole: Places) -> bool
+fn are_scanned(most: usize, places: Places, whole: Places) -> bool
     requires { places.from ≤ places.to }
-    ensures few { result ≡ true → whole.from ≢ whole.to → places.to - places.from ≤ 1024 }
+    ensures few { result ≡ true → whole.from ≢ whole.to → places.to - places.from ≤ most }
     ensures some { result ≡ false → whole.from ≢ whole.to }
 {
-    places.to - places.from <= most_scanned(measure) || whole.from == whole.to
+    places.to - places.from <= most || whole.from == whole.to
 }
 
 impl RangeRows {
@@ -56,7 +59,8 @@ impl RangeRows {
         let _len = points.len();
         let places = self.places_in(points, rect, steps);
         let whole = places.whole_blocks(LOWEST);
-        let scan = are_scanned(measure, places, whole);
+        let most = most_scanned(measure);
+        let scan = are_scanned(most, places, whole);
         if scan {
             let sum = self.measure_places(points, rect, places, measure, steps);
             tally.add(sum);
@@ -96,7 +100,8 @@ impl RangeRows {
         let _len = points.len();
         let places = self.places_in(points, rect, steps);
         let whole = places.whole_blocks(LOWEST);
-        if whole.from == whole.to {
+        let scan = are_scanned(MOST_LISTED, places, whole);
+        if scan {
             return self.list_places(points, rect, places, tally, steps);
         }
         let front = Places {

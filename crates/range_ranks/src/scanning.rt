@@ -1,13 +1,13 @@
 //! Neighbouring places of the first order, whose abscissas are in the rectangle.
-ghost use Rattle.std.specs.Prelude.{◌≡◌, ◌+◌, ◌-◌, ◌*◌, ◌/◌, ◌^◌, ◌<◌, ◌≤◌, ◌++◌, ℕ, OnOk, length, filter, map, sum_by, nat_le, ◌&&◌};
+ghost use Rattle.std.specs.Prelude.{◌≡◌, ◌+◌, ◌-◌, ◌*◌, ◌/◌, ◌%◌, ◌^◌, ◌<◌, ◌≤◌, ◌++◌, ℕ, OnOk, length, filter, map, sum_by, nat_le, ◌&&◌};
 ghost use Rattle.query_laws.specs.StepLedger.{Spends};
 ghost use Rattle.range_ranks.specs.Heights.{lowest};
+ghost use Rattle.range_ranks.specs.LeafHits.{AreHits, points_at};
 ghost use Rattle.range_ranks.specs.Measures.{measure_of};
 ghost use Rattle.range_ranks.specs.Tree.{IsTree};
 ghost use Rattle.range_ranks.specs.declared.scanning.Places.{Places};
 ghost use Rattle.row_blocks.specs.Blocks.{IsMultiple};
-ghost use Rattle.range_ranks.specs.Queries.{AreWithinAbscissas, IsLeafOf, IsOrdinateAt, has_ordinate, live_at, live_in_places};
-ghost use Rattle.map_shapes.specs.Questions.{is_in};
+ghost use Rattle.range_ranks.specs.Queries.{AreWithinAbscissas, IsLeafOf, has_ordinate, live_in_places};
 
 use crate::leaves::{LEAF_LEN, Leaf};
 use crate::measure::Measure;
@@ -19,6 +19,7 @@ use map_shapes::{IdTally, Point, Rect};
 use query_laws::NoMemory;
 use query_laws::step_ledger::Steps;
 use row_blocks::{block_len, block_start};
+use std::simd::prelude::*;
 use std::sync::ledger::Ledger;
 
 /// Neighbouring places of the first order: those from `from` on and below `to`.
@@ -85,57 +86,46 @@ fn hits(ordinates: &[u32], rect: &Rect) -> usize
     count
 }
 
-/// Whether an ordinate is in the rectangle.
+/// Which ordinates of a leaf are in the rectangle, from the first place on: the lowest bit tells of that one. All are compared at once, so that the
+/// processor guesses at none.
 #[inline]
-fn is_hit(rect: &Rect, y: u32) -> bool
-    ensures { result ≡ has_ordinate rect.now y }
+fn hit_bits(leaf: &Leaf, rect: &Rect, places: Places) -> u64
+    requires ordered { places.from ≤ places.to }
+    requires own { places.from % 16 + (places.to - places.from) ≤ 16 }
+    ensures { AreHits rect.now leaf.now places.from places.to result }
 {
-    rect.y1 <= y && y <= rect.y2
+    let ordinates = u32x16::from_array(leaf.ordinates);
+    let above = u32x16::splat(rect.y1).simd_le(ordinates).to_bitmask();
+    let below = ordinates.simd_le(u32x16::splat(rect.y2)).to_bitmask();
+    let own = (1 << (places.to - places.from)) - 1;
+    ((above & below) >> (places.from % LEAF_LEN)) & own
 }
 
-/// What the point at a place weighs, where it is live and in the rectangle: one touch at most.
+/// What the point at a place weighs.
 #[inline]
-fn weigh_at<L: Ledger>(
-    points: &FlatPart<Point>,
-    rect: &Rect,
-    place: usize,
-    y: u32,
-    steps: &mut Steps<L>,
-) -> u64
-    requires { IsOrdinateAt points.now rect.now place y }
-    ensures sum { result ≡ sum_by (λ p. p.w) (filter (is_in rect.now) (live_at points.now place)) }
+fn weigh_at<L: Ledger>(points: &FlatPart<Point>, place: usize, steps: &mut Steps<L>) -> u64
+    requires { place < length points.now.items }
+    ensures sum { result ≡ sum_by (λ p. p.w) (points_at points.now place) }
     ensures small { result < 2 ^ 31 }
     ensures cost { Spends steps.old steps.new 0 0 1 }
 {
-    let hit = is_hit(rect, y);
-    if hit {
-        points.items().at(place, steps).w as u64
-    } else {
-        0
-    }
+    points.items().at(place, steps).w as u64
 }
 
-/// Pushes the identifier of the point at a place, where it is live and in the rectangle: one touch then, and else none.
+/// Pushes the identifier of the point at a place.
 #[inline]
 fn list_at<L: Ledger>(
     points: &FlatPart<Point>,
-    rect: &Rect,
     place: usize,
-    y: u32,
     tally: &mut IdTally,
     steps: &mut Steps<L>,
 ) -> Result<(), NoMemory>
-    requires { IsOrdinateAt points.now rect.now place y }
-    ensures listed { OnOk result (tally.new ≡ tally.old ++ map (λ p. p.id) (filter (is_in rect.now) (live_at points.now place))) }
-    ensures cost { Spends steps.old steps.new 0 0 (length (filter (is_in rect.now) (live_at points.now place))) }
+    requires { place < length points.now.items }
+    ensures listed { OnOk result (tally.new ≡ tally.old ++ map (λ p. p.id) (points_at points.now place)) }
+    ensures cost { Spends steps.old steps.new 0 0 1 }
 {
-    let hit = is_hit(rect, y);
-    if hit {
-        let item = points.items().at(place, steps);
-        tally.push(item.id)
-    } else {
-        Ok(())
-    }
+    let item = points.items().at(place, steps);
+    tally.push(item.id)
 }
 
 /// What the live points of the rectangle at places of one leaf weigh: a touch for each of them.
@@ -152,9 +142,14 @@ fn weigh_leaf<L: Ledger>(
     ensures cost { Spends steps.old steps.new 0 0 (places.to - places.from) }
 {
     let mut sum = 0u64;
-    for place in places.from..places.to {
-        let y = leaf.ordinates[place % LEAF_LEN];
-        sum += weigh_at(points, rect, place, y, steps);
+    let mut place = places.from;
+    let mut left = hit_bits(leaf, rect, places);
+    while left != 0 {
+        let gap = left.trailing_zeros();
+        place += gap as usize;
+        sum += weigh_at(points, place, steps);
+        place += 1;
+        left = left >> gap >> 1;
     }
     sum
 }
@@ -196,9 +191,14 @@ fn list_leaf<L: Ledger>(
     ensures listed { OnOk result (tally.new ≡ tally.old ++ map (λ p. p.id) (live_in_places points.now rect.now places)) }
     ensures cost { Spends steps.old steps.new 0 0 (length (live_in_places points.now rect.now places)) }
 {
-    for place in places.from..places.to {
-        let y = leaf.ordinates[place % LEAF_LEN];
-        list_at(points, rect, place, y, tally, steps)?;
+    let mut place = places.from;
+    let mut left = hit_bits(leaf, rect, places);
+    while left != 0 {
+        let gap = left.trailing_zeros();
+        place += gap as usize;
+        list_at(points, place, tally, steps)?;
+        place += 1;
+        left = left >> gap >> 1;
     }
     Ok(())
 }

@@ -44,9 +44,9 @@ returns-then-scan-clause-cost g c =
     let blocks = c.whole_blocks-whole.ensures in
     let above = height-above part rows c.requires.over in
     let d = places.to - places.from in
-    let few : d ≤ 1024 = elim (cases_eq c.whole_blocks-whole.result.from c.whole_blocks-whole.result.to) [
+    let few : d ≤ 2048 = elim (cases_eq c.whole_blocks-whole.result.from c.whole_blocks-whole.result.to) [
       | inl none ↦ omega (arith, none, blocks.few, blocks.first, blocks.last, inside.ordered)
-      | inr apart ↦ c.are_scanned-scan.ensures.few c.if-scan.true apart
+      | inr apart ↦ omega (arith, c.are_scanned-scan.ensures.few c.if-scan.true apart, c.most_scanned-most.ensures)
     ] in
     Spends-within (Spends-then (c.places_in-places.ensures.cost h above) c.measure_places-sum.ensures.cost) refl refl
     (subst (λ n. 2 * (h + 1) + (d / 16 + 2 + d) ≤ 16 * ((n + 2) * (n + 2))) c.requires.over.height

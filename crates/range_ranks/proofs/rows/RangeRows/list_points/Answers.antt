@@ -1,5 +1,6 @@
-use Rattle.std.proofs.Common.{◌≡◌, ℕ, ◌+◌, ◌-◌, ◌*◌, ◌/◌, ◌<◌, ◌≤◌, length, refl, ap, subst, arith}
+use Rattle.std.proofs.Common.{◌≡◌, ℕ, ◌+◌, ◌-◌, ◌*◌, ◌/◌, ◌<◌, ◌≤◌, inl, inr, length, refl, ap, subst, arith}
 use Rattle.std.specs.List.{filter}
+use Rattle.std.proofs.lemmas.Bool.{cases_eq}
 use Rattle.std.proofs.lemmas.Result.{on_ok_weaker}
 use Rattle.query_laws.proofs.Counting.{Spends-then, Spends-within}
 use Rattle.builder_trait.specs.Parts.{live_of}
@@ -28,11 +29,14 @@ whole_blocks-whole-requires-clause-ordered g c = c.places_in-places.ensures.insi
 pub whole_blocks-whole-requires-clause-small : goal.whole_blocks-whole-requires-clause-small
 whole_blocks-whole-requires-clause-small g c = omega (arith, c.places_in-places.ensures.inside.within, c.requires.over.few)
 
+pub are_scanned-scan-requires : goal.are_scanned-scan-requires
+are_scanned-scan-requires g c = c.places_in-places.ensures.inside.ordered
+
 pub list_places-requires-clause-inside : goal.list_places-requires-clause-inside
 list_places-requires-clause-inside g c = (c.places_in-places.result, c.places_in-places.ensures.inside, omega arith, omega arith)
 
-pub returns-then-whole-clause-joined : goal.returns-then-whole-clause-joined
-returns-then-whole-clause-joined g c =
+pub returns-then-scan-clause-joined : goal.returns-then-scan-clause-joined
+returns-then-scan-clause-joined g c =
     let part = c.args.points.now in
     let rect = c.args.rect.now in
     let places = c.places_in-places.result in
@@ -41,8 +45,8 @@ returns-then-whole-clause-joined g c =
     (all_of part rect places c.len-len.ensures.valid.flagged c.places_in-places.ensures.inside))
     c.list_places.ensures.listed
 
-pub returns-then-whole-clause-cost : goal.returns-then-whole-clause-cost
-returns-then-whole-clause-cost g c =
+pub returns-then-scan-clause-cost : goal.returns-then-scan-clause-cost
+returns-then-scan-clause-cost g c =
     let part = c.args.points.now in
     let rect = c.args.rect.now in
     let rows = c.args.self.now in
@@ -53,7 +57,10 @@ returns-then-whole-clause-cost g c =
     let above = height-above part rows c.requires.over in
     let d = places.to - places.from in
     let hits = length (live_in_places part rect places) in
-    let few : d ≤ 1024 = omega (arith, c.if-whole.true, blocks.few, blocks.first, blocks.last, inside.ordered) in
+    let few : d ≤ 8192 = elim (cases_eq c.whole_blocks-whole.result.from c.whole_blocks-whole.result.to) [
+      | inl none ↦ omega (arith, none, blocks.few, blocks.first, blocks.last, inside.ordered)
+      | inr apart ↦ c.are_scanned-scan.ensures.few c.if-scan.true apart
+    ] in
     Spends-within (Spends-then (c.places_in-places.ensures.cost h above) c.list_places.ensures.cost) refl refl
     (subst (λ n. 2 * (h + 1) + (d / 16 + 2 + hits) ≤ 16 * ((n + 2) * (n + 2)) + 8 * (n + 2) * length (filter (is_in rect) (live_of part))) c.requires.over.height
     (subst (λ k. 2 * (h + 1) + (d / 16 + 2 + hits) ≤ 16 * ((h + 2) * (h + 2)) + 8 * (h + 2) * k) (ap length (all_of part rect places c.len-len.ensures.valid.flagged inside))
@@ -65,7 +72,7 @@ span_in-span-requires-clause-some g c =
     let places = c.places_in-places.result in
     let whole = c.whole_blocks-whole.result in
     let blocks = c.whole_blocks-whole.ensures in
-    let some : whole.from < whole.to = omega (arith, c.if-whole.false, blocks.ordered) in
+    let some : whole.from < whole.to = omega (arith, c.are_scanned-scan.ensures.some c.if-scan.false, blocks.ordered) in
     let are = AreWhole-found part places whole c.places_in-places.ensures.inside.within blocks.last some blocks.front blocks.back in
     omega (arith, tall part c.args.self.now c.requires.over whole are some)
 
@@ -84,7 +91,7 @@ pub list_blocks-requires-clause-whole : goal.list_blocks-requires-clause-whole
 list_blocks-requires-clause-whole g c =
     let whole = c.whole_blocks-whole.result in
     let blocks = c.whole_blocks-whole.ensures in
-    let some : whole.from < whole.to = omega (arith, c.if-whole.false, blocks.ordered) in
+    let some : whole.from < whole.to = omega (arith, c.are_scanned-scan.ensures.some c.if-scan.false, blocks.ordered) in
     AreWhole-found c.args.points.now c.places_in-places.result whole c.places_in-places.ensures.inside.within blocks.last some blocks.front blocks.back
 
 pub returns-clause-joined : goal.returns-clause-joined
@@ -119,7 +126,7 @@ returns-clause-cost g c =
     let inside = c.places_in-places.ensures.inside in
     let valid = c.len-len.ensures.valid in
     let above = height-above part rows c.requires.over in
-    let some : whole.from < whole.to = omega (arith, c.if-whole.false, blocks.ordered) in
+    let some : whole.from < whole.to = omega (arith, c.are_scanned-scan.ensures.some c.if-scan.false, blocks.ordered) in
     let are = AreWhole-found part places whole inside.within blocks.last some blocks.front blocks.back in
     let high : 9 ≤ h = tall part rows c.requires.over whole are some in
     let front = whole.from - places.from in
@@ -149,7 +156,7 @@ returns-in_err-list_places-clause-cost g c =
     let inside = c.places_in-places.ensures.inside in
     let valid = c.len-len.ensures.valid in
     let above = height-above part rows c.requires.over in
-    let some : whole.from < whole.to = omega (arith, c.if-whole.false, blocks.ordered) in
+    let some : whole.from < whole.to = omega (arith, c.are_scanned-scan.ensures.some c.if-scan.false, blocks.ordered) in
     let are = AreWhole-found part places whole inside.within blocks.last some blocks.front blocks.back in
     let high : 9 ≤ h = tall part rows c.requires.over whole are some in
     let front = whole.from - places.from in
@@ -176,7 +183,7 @@ returns-in_err-list_places-2-clause-cost g c =
     let inside = c.places_in-places.ensures.inside in
     let valid = c.len-len.ensures.valid in
     let above = height-above part rows c.requires.over in
-    let some : whole.from < whole.to = omega (arith, c.if-whole.false, blocks.ordered) in
+    let some : whole.from < whole.to = omega (arith, c.are_scanned-scan.ensures.some c.if-scan.false, blocks.ordered) in
     let are = AreWhole-found part places whole inside.within blocks.last some blocks.front blocks.back in
     let high : 9 ≤ h = tall part rows c.requires.over whole are some in
     let front = whole.from - places.from in
