@@ -8,7 +8,7 @@ mod patterns;
 mod town;
 
 use crate::exit::{exit_code, exit_code_without_arguments, run_once, words_of};
-use crate::{Ended, Status};
+use crate::Status;
 use map_io::{MemSink, MemSource};
 use query_laws::step_ledger::blank;
 use std::alloc::{AllocError, Global};
@@ -46,10 +46,14 @@ fn failing_calls(alloc: Global, call: u64) -> Result<Vec<u64>, AllocError>
     Ok(calls)
 }
 
-/// How a run ended, what was written, and how many bytes weren't read.
+/// How a run ended, the lines and refusals of its session and the updates of its layers, what was written, and how many bytes
+/// weren't read.
 #[derive(Drop)]
 struct Ran {
-    ended: Ended,
+    status: Status,
+    lines: u64,
+    refused: u64,
+    updates: u64,
     written: Vec<u8>,
     left: usize,
 }
@@ -75,12 +79,14 @@ fn run_words(
     let space = vec![in alloc; 0u8; room]?;
     let mut sink = MemSink::new(space, writes.piece, failing_calls(alloc, writes.failing)?);
     let ended = run_once::<_, _, Brand>(alloc, &owned, &mut source, &mut sink, blank());
-    let written = Vec::from_slice(alloc, sink.written())?;
-    let left = source.left();
+    let session = &ended.session;
     Ok(Ran {
-        ended,
-        written,
-        left,
+        status: ended.status,
+        lines: session.lines(),
+        refused: session.refused(),
+        updates: session.layers().updates(),
+        written: Vec::from_slice(alloc, sink.written())?,
+        left: source.left(),
     })
 }
 
@@ -95,7 +101,7 @@ fn run_script(
     requires writes { 1 ≤ writes.piece }
 {
     let ran = run_words(alloc, &[], script, reads, writes, 262_144)?;
-    Ok((ran.ended.status, ran.written))
+    Ok((ran.status, ran.written))
 }
 
 /// Two points at opposite corners, counted and weighed.
@@ -359,7 +365,7 @@ const REFUSED: [&[&str]; 11] = [
 fn words_are_refused(rt: HostRuntime) -> Result<(), Fail> {
     for words in REFUSED {
         let ran = run_words(rt.alloc(), words, b"size a\n", WHOLE, WHOLE, 64)?;
-        assert_eq!(rt; ran.ended.status, Status::Usage, "{words:?}");
+        assert_eq!(rt; ran.status, Status::Usage, "{words:?}");
         assert_eq!(rt; ran.written.as_slice(), USAGE, "{words:?}");
         assert_eq!(rt; ran.left, 7, "{words:?}");
     }
@@ -367,7 +373,7 @@ fn words_are_refused(rt: HostRuntime) -> Result<(), Fail> {
 
     // No room for the line: a proper prefix of it is written.
     let ran = run_words(rt.alloc(), &["x"], b"", WHOLE, BYTEWISE, 5)?;
-    assert_eq!(rt; ran.ended.status, Status::WriteFault);
+    assert_eq!(rt; ran.status, Status::WriteFault);
     assert_eq!(rt; ran.written.as_slice(), b"usage".as_slice());
     Ok(())
 }
@@ -527,10 +533,9 @@ fn a_sink_fails_at_each_byte(rt: HostRuntime) -> Result<(), Fail> {
 #[test]
 fn a_run_hands_its_session_back(rt: HostRuntime) -> Result<(), Fail> {
     let ran = run_words(rt.alloc(), &[], IDENTIFIERS, WHOLE, WHOLE, 512)?;
-    let session = &ran.ended.session;
-    assert_eq!(rt; session.lines(), 7);
-    assert_eq!(rt; session.refused(), 3);
-    assert_eq!(rt; session.layers().updates(), 3);
+    assert_eq!(rt; ran.lines, 7);
+    assert_eq!(rt; ran.refused, 3);
+    assert_eq!(rt; ran.updates, 3);
     Ok(())
 }
 
@@ -569,7 +574,7 @@ fn left_at_fault(
         failing,
     };
     let ran = run_words(alloc, &[], script, reads, writes, 16_384)?;
-    Ok((ran.ended.status, ran.left))
+    Ok((ran.status, ran.left))
 }
 
 // The first answer comes before the second piece.

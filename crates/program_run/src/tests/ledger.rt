@@ -71,7 +71,7 @@ fn run_with_ledger(alloc: Global, script: &str) -> Result<(Status, String), Fail
     )?;
     let written = str::from_utf8(&ran.written).unwrap_or("");
     Ok((
-        ran.ended.status,
+        ran.status,
         String::from_str(alloc, written.trim_end())?,
     ))
 }

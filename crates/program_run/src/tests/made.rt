@@ -1,11 +1,6 @@
 // Made scripts, beside numbers that another program has from a plain map.
-ghost use Rattle.std.specs.Prelude.{◌≡◌, ◌<◌, length};
-
 use super::patterns::are_answers;
 use super::*;
-use map_session::{MapSession, answer_lines};
-use query_laws::step_ledger::{SHARES, Steps};
-use std::sync::ledger::{Blank, Ledger};
 use workload_gen::Workload;
 
 /// Words, and what is written.
@@ -27,7 +22,7 @@ fn made_scripts_are_summed_up(rt: HostRuntime) -> Result<(), Fail> {
     for (words, wanted) in MADE {
         let ran = run_words(rt.alloc(), words, b"size a\n", WHOLE, WHOLE, 512)?;
         let written = str::from_utf8(&ran.written).unwrap_or("");
-        assert_eq!(rt; ran.ended.status, Status::Clean);
+        assert_eq!(rt; ran.status, Status::Clean);
         assert!(rt; are_answers(written, wanted), "{words:?}: {written}");
         assert_eq!(rt; ran.left, 7);
     }
@@ -54,7 +49,7 @@ fn a_made_script_is_the_same_again(rt: HostRuntime) -> Result<(), Fail> {
 
     // A fault in the summary leaves a proper prefix of it.
     let cut = run_words(rt.alloc(), words, b"", WHOLE, WHOLE, 5)?;
-    assert_eq!(rt; cut.ended.status, Status::WriteFault);
+    assert_eq!(rt; cut.status, Status::WriteFault);
     assert_eq!(rt; cut.written.as_slice(), b"comma".as_slice());
     Ok(())
 }
@@ -69,33 +64,16 @@ fn made_lines(alloc: Global, seed: u64, rounds: u32) -> Result<Vec<u8>, Fail> {
     Ok(script)
 }
 
-/// What the session itself answers to a whole text, which reads nothing, with the ledger.
-fn answers_to_whole<L: Ledger>(alloc: Global, script: &[u8], blank: Blank) -> Result<Vec<u8>, Fail>
-    requires name { blank.name ≡ L.name }
-    requires parts { blank.parts ≡ L.parts }
-    requires shares { blank.parts ≡ SHARES }
-    requires short { length script.now < 65536 }
-{
-    let mut session = MapSession::new(alloc, true);
-    let mut sink = MemSink::new(vec![in alloc; 0u8; 65_536]?, 4_096, Vec::new(alloc));
-    let mut steps = Steps::<L>::new(blank);
-    if answer_lines(&mut session, script, &mut sink, &mut steps).is_err() {
-        return Ok(Vec::new(alloc));
-    }
-    Ok(Vec::from_slice(alloc, sink.written())?)
-}
-
 #[test]
 fn a_script_is_answered_alike_in_any_pieces(rt: HostRuntime) -> Result<(), Fail> {
     let alloc = rt.alloc();
     let script = made_lines(alloc, 3, 200)?;
-    assert!(rt; script.len() < 65_536);
-    let wanted = answers_to_whole::<Brand>(alloc, &script, blank())?;
-    assert!(rt; wanted.starts_with(b"ok\n"));
+    let whole = run_words(alloc, &["--ledger"], &script, WHOLE, WHOLE, 65_536)?;
+    assert!(rt; whole.written.starts_with(b"ok\n"));
     for piece in 1..=64 {
         let reads = Plan { piece, failing: 0 };
         let ran = run_words(alloc, &["--ledger"], &script, reads, WHOLE, 65_536)?;
-        assert_eq!(rt; ran.written, wanted);
+        assert_eq!(rt; ran.written, whole.written);
     }
     Ok(())
 }
