@@ -16,7 +16,10 @@ use std::env;
 use std::marker::Brand;
 use std::process::ExitCode;
 use std::sync::ledger::{Blank, Ledger};
-use trials::{Bench, Layer, Plan, check_examples, check_made_script, measure_script, try_layer};
+use trials::{
+    Bench, Layer, Plan, check_examples, check_made_script, measure_script, tell_differences,
+    tell_script_difference, try_layer,
+};
 
 /// The exit status where a comparison differs. Other failures have 1, and wrong words 2.
 const DIFFERS: u8 = 3;
@@ -71,8 +74,10 @@ fn run_job<L: Ledger>(bench: &mut Bench<L>, job: &Job) -> Outcome {
         Work::Check(examples) => {
             let spread = Spread::Dense;
             check_kinds(bench, Plan { seed, spread, size })?;
+            tell_differences::<RangeRows, L>(bench, Plan { seed, spread, size })?;
             let mut map = PlainMap::new(bench.alloc);
             check_made_script(bench, &mut map, seed, 2_000)?;
+            tell_script_difference(bench, &mut map)?;
             examples.map_or(Ok(()), |folder| check_examples(bench, folder))
         }
     }
@@ -97,6 +102,3 @@ fn try_kind<L: Ledger>(bench: &mut Bench<L>, kind: &str, layer: Layer, plan: Pla
         _ => try_layer::<StabRows, L>(bench, layer, plan),
     }
 }
-
-#[cfg(test)]
-mod tests;

@@ -11,8 +11,7 @@ mod trial;
 mod tried;
 
 pub use bench::Bench;
-pub use marked::Marked;
 pub use script::measure_script;
-pub use session::{check_examples, check_made_script};
-pub use trial::{Layer, Plan, Trial, try_layer};
+pub use session::{check_examples, check_made_script, tell_script_difference};
+pub use trial::{Layer, Plan, tell_differences, try_layer};
 pub use tried::Kind;

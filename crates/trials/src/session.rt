@@ -2,8 +2,11 @@
 ghost use Rattle.std.specs.Prelude.{◌<◌};
 
 use crate::bench::Bench;
+use crate::trial::is_difference;
 use map_io::{MemSink, Sink};
-use map_session::{LineStart, MapSession, answer_begun, answer_piece};
+use map_session::{
+    LineStart, MapSession, OverPoints, OverSegments, Session, answer_begun, answer_piece,
+};
 use query_laws::NoMemory;
 use query_laws::step_ledger::Steps;
 use samples::{Exchange, Failure, Generator, Outcome, PlainMap};
@@ -40,6 +43,12 @@ pub fn check_made_script<L: Ledger>(
     Ok(writeln!(bench.report, "script lines {lines}")?)
 }
 
+/// Tells whether a difference is seen in the answers to a seeded script, where the plain map has items that the session never had.
+pub fn tell_script_difference<L: Ledger>(bench: &mut Bench<L>, map: &mut PlainMap) -> Outcome {
+    let seen = is_difference(&check_made_script(bench, map, 0, 500));
+    Ok(writeln!(bench.report, "lost items seen {seen} in a script")?)
+}
+
 /// Runs each script `NAME.livemap` of a folder by sessions of its own, at once and in pieces, and compares the answers with the file `NAME.out`.
 ///
 /// Tells how many there are. `Differs` where the answers aren't those of the file.
@@ -73,8 +82,8 @@ fn check_pieces<L: Ledger>(said: &Exchange, bench: &mut Bench<L>) -> Outcome {
 /// Compares the answers of a session to a text in pieces of so many bytes with those that are said with it.
 ///
 /// `NoMemory` where they differ and a line was refused memory.
-fn check_answers<L: Ledger>(
-    session: &mut MapSession,
+fn check_answers<P: OverPoints, S: OverSegments, L: Ledger>(
+    session: &mut Session<P, S>,
     said: &Exchange,
     length: usize,
     bench: &mut Bench<L>,
@@ -100,8 +109,8 @@ fn check_answers<L: Ledger>(
 }
 
 /// Gives a text to a session, in pieces of so many bytes. `Unfit` where the session is too long.
-fn give_text<K: Sink, L: Ledger>(
-    session: &mut MapSession,
+fn give_text<P: OverPoints, S: OverSegments, K: Sink, L: Ledger>(
+    session: &mut Session<P, S>,
     text: &[u8],
     length: usize,
     sink: &mut K,

@@ -92,6 +92,24 @@ fn run_trial<K: Kind, T: Tried<RowsBuilder<K>>, L: Ledger>(
     trial.empty(bench)
 }
 
+/// Tells whether a difference is seen: in what a part answers whose list lost its items, and then in the same after updates.
+pub fn tell_differences<K: Kind, L: Ledger>(bench: &mut Bench<L>, plan: Plan) -> Outcome {
+    let mut trial = Trial::<K, Marked<RowsBuilder<K>>>::new(bench.alloc, plan)?;
+    trial.fill(bench)?;
+    trial.items.clear();
+    let asked = is_difference(&trial.ask_each(2, bench));
+    let updated = is_difference(&trial.update(bench));
+    Ok(writeln!(
+        bench.report,
+        "lost items seen {asked} {updated}"
+    )?)
+}
+
+/// Whether a comparison ended with a difference.
+pub fn is_difference(done: &Outcome) -> bool {
+    matches!(done, Err(Failure::Differs(_)))
+}
+
 /// How many bytes of memory the process holds, which the system tells in pages of 4,096.
 fn bytes_held<L: Ledger>(bench: &Bench<L>) -> Outcome<u64> {
     let line = fs::read_to_string(bench.rt, "/proc/self/statm")?;
@@ -109,10 +127,10 @@ enum Change<I: Item> {
 
 /// What is tried, beside a plain list of its items.
 #[derive(Drop)]
-pub struct Trial<K: Kind, T: Tried<RowsBuilder<K>>> {
+struct Trial<K: Kind, T: Tried<RowsBuilder<K>>> {
     set: T,
     /// The items that were inserted, but `None` for each that was deleted: so each is at the place of its stamp.
-    pub items: Vec<Option<K::Item>>,
+    items: Vec<Option<K::Item>>,
     plan: Plan,
     generator: Generator,
     costs: Costs,
@@ -120,7 +138,7 @@ pub struct Trial<K: Kind, T: Tried<RowsBuilder<K>>> {
 
 impl<K: Kind, T: Tried<RowsBuilder<K>>> Trial<K, T> {
     /// Nothing was inserted yet.
-    pub fn new(alloc: Global, plan: Plan) -> Result<Trial<K, T>, NoMemory> {
+    fn new(alloc: Global, plan: Plan) -> Result<Trial<K, T>, NoMemory> {
         Ok(Trial {
             set: T::new(alloc, plan.size)?,
             items: Vec::with_capacity(alloc, plan.size)?,
@@ -135,7 +153,7 @@ impl<K: Kind, T: Tried<RowsBuilder<K>>> Trial<K, T> {
     }
 
     /// Inserts the first items, and asks each question.
-    pub fn fill<L: Ledger>(&mut self, bench: &mut Bench<L>) -> Outcome {
+    fn fill<L: Ledger>(&mut self, bench: &mut Bench<L>) -> Outcome {
         for _ in 0..self.plan.size {
             let change = self.drawn_change(0);
             self.change(change, bench)?;
@@ -149,7 +167,7 @@ impl<K: Kind, T: Tried<RowsBuilder<K>>> Trial<K, T> {
     }
 
     /// Makes the updates. Where answers are compared, it asks each question after each tenth.
-    pub fn update<L: Ledger>(&mut self, bench: &mut Bench<L>) -> Outcome {
+    fn update<L: Ledger>(&mut self, bench: &mut Bench<L>) -> Outcome {
         let updates = match self.is_compared() {
             true => self.plan.size.saturating_mul(6).min(COMPARED_UPDATES),
             false => self.plan.size.saturating_mul(3).min(T::UPDATES.1),
@@ -176,7 +194,7 @@ impl<K: Kind, T: Tried<RowsBuilder<K>>> Trial<K, T> {
     }
 
     /// Asks each question of the kind, so often where answers are compared. `Differs` where one isn't that of a scan.
-    pub fn ask_each<L: Ledger>(&mut self, asked: usize, bench: &mut Bench<L>) -> Outcome {
+    fn ask_each<L: Ledger>(&mut self, asked: usize, bench: &mut Bench<L>) -> Outcome {
         let live: Vec<K::Item> = self.items.iter().flatten().copied().collect(bench.alloc)?;
         for (word, class) in K::ASKED {
             self.ask((word, *class, asked), &live, bench)?;
