@@ -34,6 +34,12 @@ module _ {Item : Type 0} where
   turns_left kind c =
       c.merge.left + (if c.part.is_sealed then c.part.left else 2 ^ (c.level - 1) * (kind.slope * c.level + kind.base))
 
+  -- The turns that were taken: of a builder that is sealed just so many fewer are left, so that none is taken once it has ended; and before the seal
+  -- no more are taken than may be left.
+  pub record AreTaken (kind : PartKind Item) (turns : ℕ) (old new : Construction Item) : Type 0 where
+    pub most : turns_left kind new + turns ≤ turns_left kind old
+    pub exact : old.part.is_sealed ≡ true → turns_left kind new + turns ≡ turns_left kind old
+
   -- Right after a tick, and before an item is noted: what is left can be done in the ticks to come.
   pub record IsOnTime (kind : PartKind Item) (c : Construction Item) : Type 0 where
     pub in_time : turns_left kind c ≤ (half_of c - c.ticks) * quota kind.slope kind.base c.level
