@@ -120,6 +120,9 @@ impl<B: Builder> Stack<B> {
             (2 * g + asked B.Part.Part.contents B.Item.stamp (B.Item.stamp item.now) self.old.levels)
             (B.Part.Part.mark_touches g) steps.old steps.new }
 
+        // Each of these is asked, and none twice: the other marks, at most two a level, are of items that waited.
+        ensures all_asked { asked B.Part.Part.contents B.Item.stamp (B.Item.stamp item.now) self.old.levels ≤ steps.new.marks - steps.old.marks }
+
         // At most three of each level up to g, and no part weighs more.
         ensures few_asked { (g : ℕ) → weight_of self.new.levels < 2 ^ (g + 1)
             → asked B.Part.Part.contents B.Item.stamp (B.Item.stamp item.now) self.old.levels ≤ 3 * (g + 1) }

@@ -12,7 +12,7 @@ use std::marker::Brand;
 use std::sync::ledger::{Blank, Ledger};
 use std::test::Fail;
 
-type Flat = LayerIndex<FlatBuilder<Point>>;
+pub(crate) type Flat = LayerIndex<FlatBuilder<Point>>;
 
 type Three = (Flat, (Flat, Flat));
 
@@ -98,7 +98,7 @@ const MOVES: [(u64, u16, bool, usize, u32); 8] = [
 ];
 
 /// Adds a point of a weight, or drops one where the weight is 0.
-fn change<X: Indexes<Item = Point>, L: Ledger>(
+pub(crate) fn change<X: Indexes<Item = Point>, L: Ledger>(
     layer: &mut KindLayer<X>,
     id: u64,
     w: u16,

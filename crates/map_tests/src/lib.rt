@@ -3,3 +3,5 @@
 
 #[cfg(test)]
 mod indexes;
+#[cfg(test)]
+mod memory;

@@ -22,8 +22,8 @@ use Rattle.ordered_merge.specs.Merging.{Merging, Merges, HasRead, taken_among}
 use Rattle.ordered_merge.proofs.Fronts.{All-permuted}
 use Rattle.ordered_merge.proofs.MergingLemmas.{Merges-swap, Merges-marked, HasRead-swap, swapped, read_whole, taken_le}
 use Rattle.partial_build.specs.NewPart.{put_of, IsAllLive}
-use Rattle.partial_build.specs.Construction.{Construction, Builds, KeepsUp, IsUpToDate, IsReadOf, IsPublished, stays, is_taken, skipped_of}
-use Rattle.partial_build.proofs.Stamps.{same_place, has_stamp-at, has_stamp-push, has_stamp-without, slice_get-fallen, length-fallen, filter-flags, filter-taken, Permuted-skipped, Permuted-crossed}
+use Rattle.partial_build.specs.Construction.{Construction, Builds, KeepsUp, IsUpToDate, IsTakenOf, IsPublished, stays, is_taken, skipped_of}
+use Rattle.partial_build.proofs.Stamps.{AllPairs-front, AllStampsDiffer-push, AllStampsDiffer-last, same_place, has_stamp-at, has_stamp-push, has_stamp-without, slice_get-fallen, length-fallen, filter-flags, filter-taken, Permuted-skipped, Permuted-crossed}
 
 noted_bit : (t h w e : Bool) → ((t && (h && not w)) && not e) ≡ (t && (h && not (w || e)))
 noted_bit false h w e = refl
@@ -37,6 +37,12 @@ marked_bit true true true = refl
 marked_bit true true false = refl
 marked_bit true false true = refl
 marked_bit true false false = refl
+
+both_true : (a b c : Bool) → true ≡ (a && (b && not c)) → (a ≡ true) × (b ≡ true) × (c ≡ false)
+both_true true true false e = (refl, refl, refl)
+both_true true true true e = absurd cc
+both_true true false c e = absurd cc
+both_true false b c e = absurd cc
 
 and_true : (b : Bool) → (b && true) ≡ b
 and_true true = refl
@@ -106,8 +112,12 @@ module _ {Item : Type 0} {kind : PartKind Item} where
       other_apart = h.apart;
       up_to_date = h.other_up_to_date;
       other_up_to_date = h.up_to_date;
-      noted = All-weaker (λ x. IsReadOf m.a.table a.items x ⊎ IsReadOf m.b.table b.items x)
-          (λ x. IsReadOf m.b.table b.items x ⊎ IsReadOf m.a.table a.items x) (λ x. ⊎_elim inr inl) waiting h.noted;
+      waits = record {
+        taken = All-weaker (λ x. IsTakenOf m.a.table a.items x ⊎ IsTakenOf m.b.table b.items x)
+            (λ x. IsTakenOf m.b.table b.items x ⊎ IsTakenOf m.a.table a.items x) (λ x. ⊎_elim inr inl) waiting h.waits.taken;
+        differ = h.waits.differ;
+        live = h.waits.live;
+      };
     }
 
     module _ (k : ℕ) (x : Item) (at : slice_get a.items k ≡ Some x) where
@@ -126,8 +136,9 @@ module _ {Item : Type 0} {kind : PartKind Item} where
           (has_stamp-push kind.stamp (kind.stamp y) waiting x ∙ ap (λ e. has_stamp kind.stamp (kind.stamp y) waiting || e) (test_swap (kind.stamp x) (kind.stamp y)))
 
       -- an item that was read dies in a, and waits
-      pub KeepsUp-noted : k < length m.a.table → KeepsUp kind m part (waiting ++ x ∷ []) (marked kind.stamp (kind.stamp x) a) b
-      KeepsUp-noted read = record {
+      pub KeepsUp-noted : k < length m.a.table → slice_get a.flags k ≡ Some true
+          → KeepsUp kind m part (waiting ++ x ∷ []) (marked kind.stamp (kind.stamp x) a) b
+      KeepsUp-noted read alive = record {
         merges = Merges-marked h.merges (kind.stamp x);
         valid = IsPart-marked kind.stamp (kind.stamp x) h.valid;
         other_valid = h.other_valid;
@@ -145,7 +156,16 @@ module _ {Item : Type 0} {kind : PartKind Item} where
             (ap (λ w. has_stamp kind.stamp s (live_of part) && not w)
             (sym (ap (λ e. has_stamp kind.stamp s waiting || e) (other_there l y at_y) ∙ or_false (has_stamp kind.stamp s waiting)))
             ∙ sym (waits_too y));
-        noted = All-push (λ y. IsReadOf m.a.table a.items y ⊎ IsReadOf m.b.table b.items y) waiting x h.noted (inl (k, read, at));
+        waits =
+            let s = kind.stamp x in
+            let was : (is_taken m.a.table k ≡ true) × (has_stamp kind.stamp s (live_of part) ≡ true) × (has_stamp kind.stamp s waiting ≡ false) =
+            both_true (is_taken m.a.table k) (has_stamp kind.stamp s (live_of part)) (has_stamp kind.stamp s waiting)
+            (same_Some true (is_taken m.a.table k && stays kind.stamp part waiting s) (sym alive ∙ h.up_to_date k x read at)) in
+            record {
+              taken = All-push (λ y. IsTakenOf m.a.table a.items y ⊎ IsTakenOf m.b.table b.items y) waiting x h.waits.taken (inl (k, read, at, was.0));
+              differ = AllStampsDiffer-push kind.stamp waiting x h.waits.differ was.2;
+              live = All-push (λ y. has_stamp kind.stamp (kind.stamp y) (live_of part) ≡ true) waiting x h.waits.live was.1;
+            };
       }
 
       -- an item that wasn't read dies in a
@@ -162,7 +182,7 @@ module _ {Item : Type 0} {kind : PartKind Item} where
             ∙ ap (λ e. Some (flag && not e)) (other_here l y at_y (λ same. absurd (omega arith)))
             ∙ ap Some (and_true flag);
         other_up_to_date = h.other_up_to_date;
-        noted = h.noted;
+        waits = record { taken = h.waits.taken; differ = h.waits.differ; live = h.waits.live };
       }
 
       -- an item of a has its stamp alone in the new part
@@ -182,33 +202,38 @@ module _ {Item : Type 0} {kind : PartKind Item} where
           (All-kept Owned (take (length m.b.table) (map is_some m.b.table)) (take (length m.b.table) b.items) (All-take Owned (length m.b.table) b.items owned_other)))
 
   module _ {m : Merging Item} {part : Contents Item} {waiting : List Item} {a b : Contents Item} (h : KeepsUp kind m part waiting a b) where
-    pub OwnsStamp-read : (x : Item) → IsReadOf m.a.table a.items x ⊎ IsReadOf m.b.table b.items x → OwnsStamp kind.stamp x part.items
-    OwnsStamp-read x = ⊎_elim (λ read. OwnsStamp-source h read.0 x read.2) (λ read. OwnsStamp-source (KeepsUp-swap h) read.0 x read.2)
+    pub OwnsStamp-taken : (x : Item) → IsTakenOf m.a.table a.items x ⊎ IsTakenOf m.b.table b.items x → OwnsStamp kind.stamp x part.items
+    OwnsStamp-taken x = ⊎_elim (λ read. OwnsStamp-source h read.0 x read.2) (λ read. OwnsStamp-source (KeepsUp-swap h) read.0 x read.2)
 
     -- what waits has another stamp than what wasn't read yet
     none_waits : (l : ℕ) (y : Item) → length m.a.table ≤ l → slice_get a.items l ≡ Some y → has_stamp kind.stamp (kind.stamp y) waiting ≡ false
     none_waits l y later at =
         list_any_none (λ x. kind.stamp x == kind.stamp y) waiting
-        (All-weaker (λ x. IsReadOf m.a.table a.items x ⊎ IsReadOf m.b.table b.items x) (λ x. (kind.stamp x == kind.stamp y) ≡ false)
+        (All-weaker (λ x. IsTakenOf m.a.table a.items x ⊎ IsTakenOf m.b.table b.items x) (λ x. (kind.stamp x == kind.stamp y) ≡ false)
         (λ x. ⊎_elim
         (λ read. test_other (kind.stamp x) (kind.stamp y) (λ same.
         let place : read.0 ≡ l = same_place kind.stamp a.items h.apart read.0 l x y read.2 at same in
         let earlier : read.0 < length m.a.table = read.1 in absurd (omega arith)))
         (λ read. test_other (kind.stamp x) (kind.stamp y) (λ same. h.merges.sources.stamps_differ l read.0 y x at read.2 (sym same))))
-        waiting h.noted)
+        waiting h.waits.taken)
 
   module _ {m new : Merging Item} {part fresh : Contents Item} {waiting : List Item} {a b : Contents Item} {n : ℕ}
       (h : KeepsUp kind m part waiting a b) (merges : Merges kind new a b (put_of fresh))
       (read : HasRead n m new a b (put_of part) (put_of fresh)) (live : IsAllLive part) (still_live : IsAllLive fresh) where
+    -- what was taken of a before is taken still
+    still_taken : (l : ℕ) → l < length m.a.table → is_taken m.a.table l ≡ is_taken new.a.table l
+    still_taken l below =
+        ap is_some (same_Some (get_or m.a.table l None) (get_or new.a.table l None)
+        (sym (slice_get-get_or m.a.table l None below) ∙ sym (read.taken.kept l below)
+        ∙ slice_get-get_or new.a.table l None (omega (arith, read.taken.longer))))
+
+    IsTakenOf-read : (x : Item) → IsTakenOf m.a.table a.items x → IsTakenOf new.a.table a.items x
+    IsTakenOf-read x r = (r.0, omega (arith, r.1, read.taken.longer), r.2, sym (still_taken r.0 r.1) ∙ r.3)
+
     -- what was read of a before
     read_before : (l : ℕ) (y : Item) → l < length m.a.table → slice_get a.items l ≡ Some y
         → slice_get a.flags l ≡ Some (is_taken new.a.table l && stays kind.stamp fresh waiting (kind.stamp y))
-    read_before l y below at =
-        let entry : get_or m.a.table l None ≡ get_or new.a.table l None =
-        same_Some (get_or m.a.table l None) (get_or new.a.table l None)
-        (sym (slice_get-get_or m.a.table l None below) ∙ sym (read.taken.kept l below)
-        ∙ slice_get-get_or new.a.table l None (omega (arith, read.taken.longer))) in
-        h.up_to_date l y below at ∙ ap Some (by (is_taken m.a.table l) refl (ap is_some entry))
+    read_before l y below at = h.up_to_date l y below at ∙ ap Some (by (is_taken m.a.table l) refl (still_taken l below))
       where
         w : Bool
         w = has_stamp kind.stamp (kind.stamp y) waiting
@@ -253,12 +278,24 @@ module _ {Item : Type 0} {kind : PartKind Item} where
     other_apart = h.other_apart;
     up_to_date = IsUpToDate-read h merges read live still_live;
     other_up_to_date = IsUpToDate-read (KeepsUp-swap h) (Merges-swap merges) (HasRead-swap read) live still_live;
-    noted = All-weaker (λ x. IsReadOf m.a.table a.items x ⊎ IsReadOf m.b.table b.items x)
-        (λ x. IsReadOf new.a.table a.items x ⊎ IsReadOf new.b.table b.items x)
+    waits =
+        let now : All (λ x. IsTakenOf new.a.table a.items x ⊎ IsTakenOf new.b.table b.items x) waiting =
+        All-weaker (λ x. IsTakenOf m.a.table a.items x ⊎ IsTakenOf m.b.table b.items x)
+        (λ x. IsTakenOf new.a.table a.items x ⊎ IsTakenOf new.b.table b.items x)
         (λ x. ⊎_elim
-        (λ r. inl (r.0, omega (arith, r.1, read.taken.longer), r.2))
-        (λ r. inr (r.0, omega (arith, r.1, read.other_taken.longer), r.2)))
-        waiting h.noted;
+        (λ r. inl (IsTakenOf-read h merges read live still_live x r))
+        (λ r. inr (IsTakenOf-read (KeepsUp-swap h) (Merges-swap merges) (HasRead-swap read) live still_live x r)))
+        waiting h.waits.taken in
+        record {
+          taken = now;
+          differ = h.waits.differ;
+          live = All-weaker (λ x. IsTakenOf new.a.table a.items x ⊎ IsTakenOf new.b.table b.items x)
+              (λ x. has_stamp kind.stamp (kind.stamp x) (live_of fresh) ≡ true)
+              (λ x. ⊎_elim
+              (λ r. taken_there merges still_live r.0 x r.1 r.2 r.3)
+              (λ r. taken_there (Merges-swap merges) still_live r.0 x r.1 r.2 r.3))
+              waiting now;
+        };
   }
 
   -- an item that waits is marked in the new part
@@ -286,12 +323,22 @@ module _ {Item : Type 0} {kind : PartKind Item} where
       other_apart = h.other_apart;
       up_to_date = IsUpToDate-marked m.a.table a h.up_to_date live;
       other_up_to_date = IsUpToDate-marked m.b.table b h.other_up_to_date live;
-      noted = All-front (λ y. IsReadOf m.a.table a.items y ⊎ IsReadOf m.b.table b.items y) waiting x h.noted;
+      waits = record {
+        taken = All-front (λ y. IsTakenOf m.a.table a.items y ⊎ IsTakenOf m.b.table b.items y) waiting x h.waits.taken;
+        differ = AllPairs-front (λ y z. kind.stamp y ≢ kind.stamp z) waiting (x ∷ []) h.waits.differ;
+        live = λ l d within.
+            let y = get_or waiting l d in
+            let was = All-front (λ z. has_stamp kind.stamp (kind.stamp z) (live_of part) ≡ true) waiting x h.waits.live l d within in
+            let other : (kind.stamp y == kind.stamp x) ≡ false =
+            test_other (kind.stamp y) (kind.stamp x) (AllStampsDiffer-last kind.stamp waiting x h.waits.differ l d within) in
+            ap (has_stamp kind.stamp (kind.stamp y)) live ∙ has_stamp-without kind.stamp (kind.stamp y) (kind.stamp x) (live_of part)
+            ∙ ap (λ b. b && not (kind.stamp y == kind.stamp x)) was ∙ ap not other;
+      };
     }
 
     -- and is the only one with its stamp there
     pub OwnsStamp-waiting : OwnsStamp kind.stamp x part.items
-    OwnsStamp-waiting = OwnsStamp-read h x (All-last (λ y. IsReadOf m.a.table a.items y ⊎ IsReadOf m.b.table b.items y) waiting x h.noted)
+    OwnsStamp-waiting = OwnsStamp-taken h x (All-last (λ y. IsTakenOf m.a.table a.items y ⊎ IsTakenOf m.b.table b.items y) waiting x h.waits.taken)
 
   -- the new part has at most as many items as there is room for
   pub few_items : {m : Merging Item} {part : Contents Item} {waiting : List Item} {a b : Contents Item} {n : ℕ} → KeepsUp kind m part waiting a b

@@ -1,9 +1,11 @@
 -- Items that are told apart by their stamps, in lists.
-use Rattle.std.proofs.Common.{◌≡◌, ◌≢◌, ℕ, zero, suc, ◌<◌, ◌==◌, ◌&&◌, ◌||◌, Bool, true, false, not, Option, Some, None, List, [], ◌∷◌, ◌++◌, length, map, get_or, refl, sym, ap, ◌∙◌, arith, subst, slice_get, filter, append_assoc, cond}
+use Rattle.std.proofs.Common.{◌≡◌, ◌≢◌, ℕ, zero, suc, ◌<◌, ◌==◌, ◌&&◌, ◌||◌, Bool, true, false, not, Option, Some, None, List, [], ◌∷◌, ◌++◌, length, map, get_or, refl, sym, ap, ◌∙◌, arith, subst, slice_get, filter, append_assoc, cond, AllPairs}
 use Rattle.std.specs.List.{items_where_true}
 use Rattle.std.specs.Option.{is_some}
 use Rattle.std.proofs.lemmas.Bool.Decides.{nat_tests}
-use Rattle.std.proofs.lemmas.Option.{slice_get_within, get_or_from_slice_get, same_Some}
+use Rattle.std.proofs.lemmas.List.{get_or_append_left, get_or_push, length-append, length_push}
+use Rattle.std.proofs.lemmas.List.Quantifiers.{all_pairs_push}
+use Rattle.std.proofs.lemmas.Option.{slice_get_within, slice_get-get_or, get_or_from_slice_get, same_Some}
 use Rattle.query_laws.specs.Orders.{AllStampsDiffer}
 use Rattle.query_laws.specs.Permuted.{Permuted, nothing, same_head, composed}
 use Rattle.query_laws.proofs.Permutations.{Permuted-append_left, Permuted-append_right, Permuted-append_comm, Permuted-middle}
@@ -32,6 +34,12 @@ or_none : (b : Bool) → (b || false) ≡ b
 or_none true = refl
 or_none false = refl
 
+pub AllPairs-front : {A : Type 0} (R : A → A → Type 0) (xs ys : List A) → AllPairs R (xs ++ ys) → AllPairs R xs
+AllPairs-front R xs ys pairs i j d below within =
+    let longer : j < length (xs ++ ys) = omega (arith, within, length-append xs ys) in
+    subst (λ x. R x (get_or xs j d)) (get_or_append_left xs ys d i (omega arith))
+    (subst (R (get_or (xs ++ ys) i d)) (get_or_append_left xs ys d j within) (pairs i j d below longer))
+
 module _ {Item : Type 0} (stamp : Item → ℕ) where
   -- a stamp stands at one place of such a list
   pub same_place : (xs : List Item) → AllStampsDiffer stamp xs → (k l : ℕ) (x y : Item) → slice_get xs k ≡ Some x → slice_get xs l ≡ Some y
@@ -49,6 +57,22 @@ module _ {Item : Type 0} (stamp : Item → ℕ) where
   has_stamp-at [] k x at = absurd cc
   has_stamp-at (y ∷ ys) zero x at = let is : y ≡ x = cc in rw is (rw (test_same (stamp x)) refl)
   has_stamp-at (y ∷ ys) (suc k) x at = or_later (stamp y == stamp x) (has_stamp-at ys k x at)
+
+  -- an item with another stamp than those of a list comes after them
+  pub AllStampsDiffer-push : (xs : List Item) (x : Item) → AllStampsDiffer stamp xs → has_stamp stamp (stamp x) xs ≡ false
+      → AllStampsDiffer stamp (xs ++ x ∷ [])
+  AllStampsDiffer-push xs x apart none =
+      all_pairs_push (λ y z. stamp y ≢ stamp z) xs x apart
+      (λ k d within same.
+      let here = has_stamp-at xs k (get_or xs k d) (slice_get-get_or xs k d within) in
+      let there : has_stamp stamp (stamp x) xs ≡ true = ap (λ s. has_stamp stamp s xs) (sym same) ∙ here in absurd cc)
+
+  -- the last of such a list, and those before it
+  pub AllStampsDiffer-last : (xs : List Item) (x : Item) → AllStampsDiffer stamp (xs ++ x ∷ []) → (k : ℕ) (d : Item) → k < length xs
+      → stamp (get_or xs k d) ≢ stamp x
+  AllStampsDiffer-last xs x apart k d within same =
+      apart k (length xs) d within (omega (arith, length_push xs x))
+      (ap stamp (get_or_append_left xs (x ∷ []) d k within) ∙ same ∙ ap stamp (sym (get_or_push xs x d (length xs) refl)))
 
   pub has_stamp-push : (s : ℕ) (xs : List Item) (x : Item) → has_stamp stamp s (xs ++ x ∷ []) ≡ (has_stamp stamp s xs || (stamp x == s))
   has_stamp-push s [] x = or_none (stamp x == s)

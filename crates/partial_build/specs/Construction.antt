@@ -34,6 +34,12 @@ module _ {Item : Type 0} where
   turns_left kind c =
       c.merge.left + (if c.part.is_sealed then c.part.left else 2 ^ (c.level - 1) * (kind.slope * c.level + kind.base))
 
+  -- The turns that were taken: of a builder that is sealed just so many fewer are left, so that none is taken once it has ended; and before the seal
+  -- no more are taken than may be left.
+  pub record AreTaken (kind : PartKind Item) (turns : ℕ) (old new : Construction Item) : Type 0 where
+    pub most : turns_left kind new + turns ≤ turns_left kind old
+    pub exact : old.part.is_sealed ≡ true → turns_left kind new + turns ≡ turns_left kind old
+
   -- Right after a tick, and before an item is noted: what is left can be done in the ticks to come.
   pub record IsOnTime (kind : PartKind Item) (c : Construction Item) : Type 0 where
     pub in_time : turns_left kind c ≤ (half_of c - c.ticks) * quota kind.slope kind.base c.level
@@ -50,9 +56,15 @@ module _ {Item : Type 0} where
       (k : ℕ) (x : Item) → k < length table → slice_get source.items k ≡ Some x
       → slice_get source.flags k ≡ Some (is_taken table k && stays stamp part waiting (stamp x))
 
-  -- the item was read of a source
-  abbrev pub IsReadOf : List (Option ℕ) → List Item → Item → Type 0
-  IsReadOf table xs x = (k : ℕ) × (k < length table) × (slice_get xs k ≡ Some x)
+  -- the item was taken of a source
+  abbrev pub IsTakenOf : List (Option ℕ) → List Item → Item → Type 0
+  IsTakenOf table xs x = (k : ℕ) × (k < length table) × (slice_get xs k ≡ Some x) × (is_taken table k ≡ true)
+
+  -- What waits are different items, each taken of a source, and live in the new part.
+  pub record AreWaiting (stamp : Item → ℕ) (m : Merging Item) (part a b : Contents Item) (waiting : List Item) : Type 0 where
+    pub taken : All (λ x. IsTakenOf m.a.table a.items x ⊎ IsTakenOf m.b.table b.items x) waiting
+    pub differ : AllStampsDiffer stamp waiting
+    pub live : All (λ x. has_stamp stamp (stamp x) (live_of part) ≡ true) waiting
 
   -- what was read of a and b is in the new part or waits, as a and b are now
   pub record KeepsUp (kind : PartKind Item) (m : Merging Item) (part : Contents Item) (waiting : List Item) (a b : Contents Item) : Type 0 where
@@ -63,7 +75,7 @@ module _ {Item : Type 0} where
     pub other_apart : AllStampsDiffer kind.stamp b.items
     pub up_to_date : IsUpToDate kind.stamp part waiting m.a.table a
     pub other_up_to_date : IsUpToDate kind.stamp part waiting m.b.table b
-    pub noted : All (λ x. IsReadOf m.a.table a.items x ⊎ IsReadOf m.b.table b.items x) waiting
+    pub waits : AreWaiting kind.stamp m part a b waiting
 
   -- the construction of the new part of a and b, as these are now
   abbrev pub Builds : PartKind Item → Construction Item → Contents Item → Contents Item → Type 0

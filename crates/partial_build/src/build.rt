@@ -6,7 +6,7 @@ ghost use Rattle.builder_trait.specs.Parts.{Contents, marked, live_of};
 ghost use Rattle.builder_trait.specs.Builders.{begun, all_live};
 ghost use Rattle.ordered_merge.specs.Merging.{unbegun, is_passed};
 ghost use Rattle.partial_build.specs.Quota.{quota};
-ghost use Rattle.partial_build.specs.Construction.{Builds, IsOnTime, IsPublished, turns_left};
+ghost use Rattle.partial_build.specs.Construction.{Builds, AreTaken, IsOnTime, IsPublished, turns_left};
 
 use crate::new_part::NewPart;
 use crate::room::Tables;
@@ -80,8 +80,8 @@ impl<B: Builder> Build<B> {
         }
     }
 
-    /// One tick: a quota of turns, and fewer only where the part is built by fewer; and then, where it is built, two marks of items
-    /// that wait, or of all where fewer wait. Sixteen touches at most for each turn, and those of the kind for each mark.
+    /// One tick: a quota of turns, fewer only where the part is built by fewer, and none once it is built; and then, where it is built,
+    /// two marks of items that wait, or of all where fewer wait. Sixteen touches at most for each turn, and those of the kind for each mark.
     pub fn tick<L: Ledger>(&mut self, a: &B::Part, b: &B::Part, steps: &mut Steps<L>)
         requires early { self.old.ticks < 2 ^ self.old.level }
         requires builds { Builds ⟦<B as Kinded>⟧.kind self.old (B.Part.Part.contents a.now) (B.Part.Part.contents b.now) }
@@ -90,7 +90,8 @@ impl<B: Builder> Build<B> {
         ensures on_time { IsOnTime ⟦<B as Kinded>⟧.kind self.new }
         ensures turns { steps.new.turns - steps.old.turns ≤ quota B.SLOPE B.BASE self.old.level }
         ensures all_turns { steps.new.turns - steps.old.turns < quota B.SLOPE B.BASE self.old.level → self.new.part.is_built ≡ true }
-        ensures marks { steps.new.marks - steps.old.marks ≡ (if self.new.part.is_built then min MARKS (length self.old.waiting) else 0) }
+        ensures taken { AreTaken ⟦<B as Kinded>⟧.kind (steps.new.turns - steps.old.turns) self.old self.new }
+        ensures marks { steps.new.marks - steps.old.marks ≡ (if self.new.part.is_built then min 2 (length self.old.waiting) else 0) }
         ensures drained { length self.new.waiting + (steps.new.marks - steps.old.marks) ≡ length self.old.waiting }
         ensures cost { let turns = steps.new.turns - steps.old.turns in let marks = steps.new.marks - steps.old.marks in
             Spends steps.old steps.new turns marks (16 * turns + marks * B.Part.Part.mark_touches self.old.level) }
@@ -118,6 +119,7 @@ impl<B: Builder> Build<B> {
         ensures same { self.new ≡ record self.old { merge = self.new.merge; part = self.new.part } }
         ensures left { self.new.merge.left + count ≡ self.old.merge.left }
         ensures fewer { turns_left ⟦<B as Kinded>⟧.kind self.new + count ≤ turns_left ⟦<B as Kinded>⟧.kind self.old }
+        ensures exact { count ≡ 0 → turns_left ⟦<B as Kinded>⟧.kind self.new ≡ turns_left ⟦<B as Kinded>⟧.kind self.old }
         ensures cost { Spends steps.old steps.new count 0 (16 * count) }
     {
         if count == 0 {

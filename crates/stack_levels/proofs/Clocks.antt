@@ -1,9 +1,9 @@
 -- The clocks of levels through a tick.
-use Rattle.std.proofs.Common.{◌≡◌, ℕ, ◌+◌, ◌^◌, ◌≤◌, ◌∙◌, Option, Some, None, true, List, [], ◌∷◌, map, refl, sym, ap, subst, arith}
+use Rattle.std.proofs.Common.{◌≡◌, ℕ, ◌+◌, ◌^◌, ◌≤◌, ◌∙◌, Option, Some, None, true, List, [], ◌∷◌, map, refl, ap, subst, arith}
 use Rattle.std.specs.Option.{option_map, option_map_or, is_some}
 use Rattle.partial_build.specs.Construction.{Construction}
-use Rattle.stack_levels.specs.Slots.{Slots, ticks_of, clock_of}
-use Rattle.stack_levels.specs.Neighbours.{TakesTick, rests, begins, goes_on, ends}
+use Rattle.stack_levels.specs.Slots.{Slots, clock_of}
+use Rattle.stack_levels.specs.Neighbours.{TakesTick, begins, goes_on, ends}
 use Rattle.stack_levels.specs.Towers.{TakeTicks}
 use Rattle.stack_levels.specs.Marking.{AreNoted}
 

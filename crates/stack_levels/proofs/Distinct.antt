@@ -1,5 +1,5 @@
 -- Lists of items with different stamps, and parts of them.
-use Rattle.std.proofs.Common.{◌≡◌, ◌≢◌, ℕ, ◌+◌, ◌<◌, List, [], ◌∷◌, ◌++◌, length, get_or, Some, slice_get, sym, ap, subst, ◌∙◌, arith, All, AllPairs, append_assoc}
+use Rattle.std.proofs.Common.{◌≡◌, ◌≢◌, ℕ, ◌+◌, ◌<◌, List, [], ◌∷◌, ◌++◌, length, get_or, Some, slice_get, sym, ap, subst, ◌∙◌, arith, All, append_assoc}
 use Rattle.std.proofs.lemmas.List.{get_or_append_left, append-nil, get_or-append-add, length-append}
 use Rattle.std.proofs.lemmas.List.Kept.{AllPairs-cons}
 use Rattle.std.proofs.lemmas.Option.{slice_get_within, slice_get-get_or, get_or_from_slice_get}
@@ -8,15 +8,8 @@ use Rattle.query_laws.proofs.Permutations.{Permuted-refl, Permuted-sym, Permuted
 use Rattle.query_laws.specs.Orders.{AllStampsDiffer}
 use Rattle.query_laws.proofs.Stamps.{AllStampsDiffer-permuted}
 use Rattle.ordered_merge.specs.Merging.{StampsDiffer}
-use Rattle.partial_build.proofs.Stamps.{Permuted-crossed}
+use Rattle.partial_build.proofs.Stamps.{AllPairs-front, Permuted-crossed}
 use Rattle.stack_levels.specs.Slots.{IsPartOf}
-
-module _ {A : Type 0} (R : A → A → Type 0) where
-  AllPairs-front : (xs ys : List A) → AllPairs R (xs ++ ys) → AllPairs R xs
-  AllPairs-front xs ys pairs i j d below within =
-      let longer : j < length (xs ++ ys) = omega (arith, within, length-append xs ys) in
-      subst (λ x. R x (get_or xs j d)) (get_or_append_left xs ys d i (omega arith))
-      (subst (R (get_or (xs ++ ys) i d)) (get_or_append_left xs ys d j within) (pairs i j d below longer))
 
 module _ {Item : Type 0} where
   pub IsPartOf-permuted : (xs : List Item) {ys : List Item} → Permuted xs ys → IsPartOf xs ys

@@ -1,5 +1,6 @@
 -- What ticks cost one after the other.
-use Rattle.std.proofs.Common.{◌≡◌, ℕ, suc, ◌+◌, ◌-◌, ◌*◌, ◌≤◌, ◌∙◌, ⊎_elim, refl, ap, sym, subst, arith, sum_by}
+use Rattle.std.proofs.Common.{◌≡◌, ℕ, zero, suc, ◌+◌, ◌-◌, ◌*◌, ◌^◌, ◌<◌, ◌≤◌, ◌∙◌, ⊎_elim, refl, ap, sym, subst, arith, sum_by}
+use Rattle.std.proofs.Math.Nat.{pow-suc}
 use Rattle.std.specs.List.{range_with_len}
 use Rattle.std.proofs.lemmas.Bool.{cases_lt}
 use Rattle.std.proofs.lemmas.List.Sums.{sum_by-cons}
@@ -7,6 +8,13 @@ use Rattle.query_laws.specs.StepLedger.{Counts, Spends}
 use Rattle.query_laws.proofs.Counting.{Spends-then, Spends-within}
 use Rattle.partial_build.specs.Quota.{quota}
 use Rattle.stack_levels.specs.Cost.{IsWithin, quotas}
+
+-- for each weight there is a bound
+pub below_power : (n : ℕ) → n < 2 ^ (n + 1)
+below_power zero = omega arith
+below_power (suc n) =
+    let below = below_power n in
+    let same : 2 ^ (suc n + 1) ≡ 2 ^ suc (n + 1) = ap (λ k. 2 ^ k) (omega arith) in omega (arith, below, same, pow-suc 2 (n + 1))
 
 pub IsWithin-of : {turns marks touches turns' marks' touches' : ℕ} {old new : Counts} → Spends old new turns marks touches
     → turns ≤ turns' → marks ≤ marks' → touches ≤ 16 * turns + marks * touches' → IsWithin turns' marks' touches' old new

@@ -4,7 +4,9 @@ use Rattle.std.specs.List.{flat_map}
 use Rattle.std.specs.Option.{option_map, option_map_or, is_some}
 use Rattle.query_laws.specs.Permuted.{Permuted}
 use Rattle.builder_trait.specs.Parts.{Contents, has_stamp, live_of}
-use Rattle.partial_build.specs.Construction.{Construction}
+use Rattle.builder_trait.specs.Builders.{PartKind}
+use Rattle.partial_build.specs.Construction.{Construction, turns_left}
+use Rattle.partial_build.specs.Quota.{quota}
 
 -- the complete parts of a level, oldest first; the construction of its next part, which is made of the two oldest parts of the level
 -- below; whether there is room for the one after that; and how many builders are kept, each made of a part that was retired
@@ -30,6 +32,10 @@ module _ {P Item : Type 0} where
   -- the same, where one runs
   abbrev pub clock_of : Slots P Item → Option ℕ
   clock_of l = option_map (λ c. c.ticks) l.construction
+
+  -- the turns that a tick may take of it: those that it has left, and a quota where it begins
+  abbrev pub turns_to_go : PartKind Item → Slots P Item → ℕ
+  turns_to_go kind l = option_map_or (turns_left kind) l.construction (quota kind.slope kind.base l.level)
 
   -- the parts of a level that are in memory: the complete ones, the one under construction, and empty ones, in the room and in the
   -- builders that are kept

@@ -6,7 +6,7 @@ ghost use Rattle.query_laws.specs.Orders.{AllStampsDiffer};
 ghost use Rattle.query_laws.specs.StepLedger.{Spends};
 ghost use Rattle.builder_trait.specs.Parts.{OwnsStamp, has_stamp, marked, live_of};
 ghost use Rattle.partial_build.specs.Quota.{quota};
-ghost use Rattle.stack_levels.specs.Slots.{ticks_of, held_in, live_in, items_in, asked_in, IsIdle};
+ghost use Rattle.stack_levels.specs.Slots.{ticks_of, turns_to_go, held_in, live_in, items_in, asked_in, IsIdle};
 ghost use Rattle.stack_levels.specs.Level.{IsOfLevel};
 ghost use Rattle.stack_levels.specs.Neighbours.{IsConstructionOf, IsFed, IsPunctual, IsPublication};
 ghost use Rattle.stack_levels.specs.Marking.{IsLiveIn, AreMarkedAt};
@@ -181,6 +181,7 @@ impl<B: Builder> Level<B> {
         ensures same { self.new ≡ record self.old { construction = self.new.construction } }
         ensures ticked { ticks_of self.new ≡ ticks_of self.old + 1 }
         ensures punctual { IsPunctual ⟦<B as Kinded>⟧.kind self.new }
+        ensures to_go { steps.new.turns - steps.old.turns ≤ turns_to_go ⟦<B as Kinded>⟧.kind self.old }
         ensures cost { IsWithin (quota B.SLOPE B.BASE self.old.level) 2 (B.Part.Part.mark_touches self.old.level) steps.old steps.new }
     {
         match &mut self.construction {

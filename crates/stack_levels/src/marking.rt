@@ -1,5 +1,5 @@
 //! The item of a delete: it is marked as dead, and a construction that reads its part takes note.
-ghost use Rattle.std.specs.Prelude.{◌≡◌, ℕ, ◌+◌, ◌*◌, ◌^◌, ◌<◌, ◌≤◌, false, List, ◌∷◌, All, Contains, map};
+ghost use Rattle.std.specs.Prelude.{◌≡◌, ℕ, ◌+◌, ◌-◌, ◌*◌, ◌^◌, ◌<◌, ◌≤◌, false, List, ◌∷◌, All, Contains, map};
 ghost use Rattle.query_laws.specs.Orders.{AllStampsDiffer};
 ghost use Rattle.query_laws.specs.Permuted.{Permuted};
 ghost use Rattle.query_laws.specs.StepLedger.{Spends};
@@ -128,6 +128,7 @@ pub fn take_out<B: Builder, L: Ledger>(
         → IsWithin (quotas B.SLOPE B.BASE 1 g)
         (2 * g + asked B.Part.Part.contents B.Item.stamp (B.Item.stamp item.now) levels.old)
         (B.Part.Part.mark_touches g) steps.old steps.new }
+    ensures all_asked { asked B.Part.Part.contents B.Item.stamp (B.Item.stamp item.now) levels.old ≤ steps.new.marks - steps.old.marks }
 {
     mark_in(levels, item, steps);
     take_tick(levels, steps);

@@ -5,7 +5,7 @@ use Rattle.stack_levels.specs.Slots.{IsPartOf}
 use Rattle.stack_levels.specs.Levels.{weight_of, all_items, asked}
 use Rattle.stack_levels.specs.Cost.{IsWithin}
 use Rattle.stack_levels.proofs.Clocks.{TakeTicks-from}
-use Rattle.stack_levels.proofs.Spending.{IsWithin-more, IsWithin-of, IsWithin-then}
+use Rattle.stack_levels.proofs.Spending.{below_power, IsWithin-more, IsWithin-of, IsWithin-then}
 use Rattle.stack_levels.proofs.MarkedLevels.{owned_live, levels-from_all, halfway-marked, rooms_now, rooms_next, some_live}
 use Rattle.stack_levels.proofs.marking.take_out.Given.{Over}
 use Rattle.stack_levels.proofs.marking.take_out.Goals as goal
@@ -42,6 +42,12 @@ pub returns-clause-each : goal.returns-clause-each
 returns-clause-each g c =
     TakeTicks-from c.args.levels.now c.mark_in.new.levels c.take_tick.new.levels c.mark_in.ensures.marked.numbers c.mark_in.ensures.marked.clocks
     c.take_tick.ensures.each
+
+pub returns-clause-all_asked : goal.returns-clause-all_asked
+returns-clause-all_asked g c =
+    let old = weight_of c.args.levels.now in
+    let mid = weight_of c.mark_in.new.levels in
+    omega (arith, (c.mark_in.ensures.cost old (below_power old)).marks_spent, (c.take_tick.ensures.cost mid (below_power mid)).spent.marks_spent)
 
 pub returns-clause-cost : goal.returns-clause-cost
 returns-clause-cost g c g' light =

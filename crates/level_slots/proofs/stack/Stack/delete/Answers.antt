@@ -90,6 +90,9 @@ returns-clause-spare g c = omega (arith, c.requires.spare, ap (λ v. v.spare) c.
 pub returns-clause-cost : goal.returns-clause-cost
 returns-clause-cost g c g' light = rw (← seen g c) (c.take_out.ensures.cost g' (rw (whole g c) at light))
 
+pub returns-clause-all_asked : goal.returns-clause-all_asked
+returns-clause-all_asked g c = rw (← seen g c) c.take_out.ensures.all_asked
+
 pub returns-clause-few_asked : goal.returns-clause-few_asked
 returns-clause-few_asked g c g' light =
     let contents = g.B.Part.Part.contents in

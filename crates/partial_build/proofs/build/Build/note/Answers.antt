@@ -17,7 +17,7 @@ returns-clause-of_a g c a b k builds at live =
     let read = (c.passed.ensures.of_a a b (put_of c.self.inside.part.contents) k h.merges at).0 c.if-not-passed.false in
     subst (λ l. KeepsUp (kind g) c.self.inside.merge c.self.inside.part.contents l
     (marked g.B.Item.Item.stamp (g.B.Item.Item.stamp c.args.item.now) a) b)
-    (sym c.push_reserved.ensures.items) (KeepsUp-noted h k c.args.item.now at read)
+    (sym c.push_reserved.ensures.items) (KeepsUp-noted h k c.args.item.now at read live)
 
 pub returns-clause-of_b : goal.returns-clause-of_b
 returns-clause-of_b g c a b k builds at live =
@@ -25,7 +25,7 @@ returns-clause-of_b g c a b k builds at live =
     let read = (c.passed.ensures.of_b a b (put_of c.self.inside.part.contents) k h.merges at).0 c.if-not-passed.false in
     subst (λ l. KeepsUp (kind g) c.self.inside.merge c.self.inside.part.contents l a
     (marked g.B.Item.Item.stamp (g.B.Item.Item.stamp c.args.item.now) b))
-    (sym c.push_reserved.ensures.items) (KeepsUp-swap (KeepsUp-noted (KeepsUp-swap h) k c.args.item.now at read))
+    (sym c.push_reserved.ensures.items) (KeepsUp-swap (KeepsUp-noted (KeepsUp-swap h) k c.args.item.now at read live))
 
 pub returns-then-not-passed-clause-of_a : goal.returns-then-not-passed-clause-of_a
 returns-then-not-passed-clause-of_a g c a b k builds at live =

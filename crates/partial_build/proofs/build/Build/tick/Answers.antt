@@ -2,7 +2,7 @@ use Rattle.std.proofs.Common.{◌≡◌, ℕ, Bool, true, ◌+◌, ◌-◌, ◌^
 use Rattle.std.proofs.lemmas.Bool.{cases_lt}
 use Rattle.builder_trait.specs.Builders.{PartKind}
 use Rattle.partial_build.specs.Quota.{quota}
-use Rattle.partial_build.specs.Construction.{Construction, turns_left}
+use Rattle.partial_build.specs.Construction.{Construction, Builds, turns_left}
 use Rattle.partial_build.proofs.Clock.{twice, built_ended, ended_built, IsTicked, IsTicked-paid}
 use Rattle.partial_build.proofs.build.Build.tick.Given.{Over}
 use Rattle.partial_build.proofs.build.Build.tick.Goals as goal
@@ -92,3 +92,10 @@ returns-clause-on_time g c = record {
   few_waiting = (ticked g c).few_waiting;
   few_to_come = omega (arith, (ticked g c).few_to_come, twice c.self-2.inside.level c.self-2.invariant.least);
 }
+
+pub drain-requires : goal.drain-requires
+drain-requires g c =
+    let contents = g.B.Part.Part.contents in
+    let a = contents c.args.a.now in
+    let b = contents c.args.b.now in
+    record { some = (a, b, subst (λ v. Builds (kind g) v a b) (sym c.grow.ensures.same) c.read.ensures.builds) }

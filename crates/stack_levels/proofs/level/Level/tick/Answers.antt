@@ -1,8 +1,15 @@
-use Rattle.std.proofs.Common.{◌≡◌, ℕ, ◌≤◌, ◌∙◌, ap, sym, subst, arith, Bool, true, false, if◌then◌else◌, min, length}
+use Rattle.std.proofs.Common.{◌≡◌, ℕ, ◌-◌, ◌≤◌, ◌∙◌, Some, ap, sym, subst, arith, Bool, true, false, if◌then◌else◌, min, length}
+use Rattle.std.specs.Option.{option_map_or}
+use Rattle.builder_trait.specs.Builders.{PartKind}
+use Rattle.partial_build.specs.Construction.{turns_left}
 use Rattle.partial_build.specs.Quota.{quota}
 use Rattle.stack_levels.specs.Cost.{IsWithin}
 use Rattle.stack_levels.proofs.Held.{IsLevel-building, counted}
+use Rattle.stack_levels.proofs.level.Level.tick.Given.{Over}
 use Rattle.stack_levels.proofs.level.Level.tick.Goals as goal
+
+abbrev kind : (g : Over) → PartKind g.row.B-Item.Denot
+kind g = record { stamp = g.B.Item.Item.stamp; before = g.B.Item.Item.before; slope = g.B.Builder.SLOPE; base = g.B.Builder.BASE }
 
 at_most_two : (b : Bool) (n : ℕ) → (if b then min 2 n else 0) ≤ 2
 at_most_two true n = omega arith
@@ -15,6 +22,12 @@ pub invariant_of-self : goal.invariant_of-self
 invariant_of-self g c =
     IsLevel-building c.self.invariant c.tick.new.self (c.tick.ensures.ticked.0 ∙ c.self.invariant.builds c.in-Some.construction c.in-Some.is)
     (omega (arith, c.self.invariant.few, counted c.in-Some.is))
+
+pub returns-clause-to_go : goal.returns-clause-to_go
+returns-clause-to_go g c =
+    let runs : c.args.self.now.construction ≡ Some c.in-Some.construction = sym (ap (λ v. v.construction) c.self.view_is) ∙ c.in-Some.is in
+    subst (λ o. c.tick.new.steps.turns - c.args.steps.now.turns ≤ option_map_or (turns_left (kind g)) o (quota g.B.Builder.SLOPE g.B.Builder.BASE c.args.self.now.level)) (sym runs)
+    (omega (arith, c.tick.ensures.taken.most))
 
 pub returns-clause-cost : goal.returns-clause-cost
 returns-clause-cost g c =
