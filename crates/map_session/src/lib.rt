@@ -15,6 +15,7 @@ ghost use Rattle.map_session.specs.Laps.{AreLaps};
 ghost use Rattle.map_session.specs.Ledger.{told_in, lacking_in, told_to, lacking_to, AddsUp};
 
 mod answering;
+mod calling;
 mod executing;
 mod line_start;
 mod replying;

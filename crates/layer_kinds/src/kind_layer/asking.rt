@@ -1,14 +1,15 @@
 //! A question to a layer.
 ghost use Rattle.std.specs.Prelude.{◌≡◌, IfOk, length};
-ghost use Rattle.query_laws.specs.StepLedger.{AtLapStart};
+ghost use Rattle.query_laws.specs.StepLedger.{AtLapStart, lap_of};
 ghost use Rattle.map_model.specs.Answer.{answer_over};
 ghost use Rattle.map_model.specs.Command.{lists_ids};
 ghost use Rattle.map_model.specs.Cost.{bounds_at};
 ghost use Rattle.layer_kinds.specs.Layered.{items_of, IsAskRefusal};
 ghost use Rattle.layer_kinds.specs.Asking.{IsEveryPart, IsAsking, IsReading, IsTouching, most_of};
 
+use crate::bounds::Bounds;
 use crate::{AskFault, Has, KindLayer};
-use builder_trait::{AnsweringRows, Given, Rows, RowsPart};
+use builder_trait::{AnsweringRows, Answers, Given, Rows, RowsPart};
 use map_kinds::{MapQuestion, MapRows};
 use map_shapes::{Asked, Shaped};
 use query_laws::Question;
@@ -40,10 +41,23 @@ where
     ensures reads { IsReading steps.old steps.new }
 {
     let given = layer.indexes.index().ask(alloc, question, steps)?;
-    let asked = Asked {
-        parts: given.consulted(),
-        part_bound: layer.bounds().parts,
-        touches: steps.lap_touches(),
-    };
+    let asked = told(&given, layer.bounds(), steps);
     Ok((given, asked))
+}
+
+/// What is told of an answer's cost: the parts that were asked, beside the bound, and the touches of the lap.
+fn told<P: Answers<Q>, Q: Question<Item = P::Item>, L: Ledger>(
+    given: &Given<P, Q>,
+    bounds: Bounds,
+    steps: &Steps<L>,
+) -> Asked
+    ensures parts { result.parts ≡ given.now.parts }
+    ensures part_bound { result.part_bound ≡ bounds.parts }
+    ensures touches { result.touches ≡ lap_of steps.now.lap_start.touches steps.now.touches }
+{
+    Asked {
+        parts: given.consulted(),
+        part_bound: bounds.parts,
+        touches: steps.lap_touches(),
+    }
 }

@@ -2,9 +2,7 @@ use Rattle.std.proofs.Common.{rules, ◌≡◌, ◌+◌, ◌^◌, true, ◌*◌,
 use Rattle.std.specs.Prelude.{IfSome}
 use Rattle.std.specs.Option.{is_some}
 use Rattle.std.proofs.lemmas.List.{length-map}
-use Rattle.query_laws.specs.StepLedger.{lap_of}
 use Rattle.stack_levels.specs.Levels.{parts_of}
-use Rattle.map_shapes.specs.declared.asked.Asked.{Asked}
 use Rattle.map_model.specs.Answer.{answer_over}
 use Rattle.map_model.specs.Cost.{greatest_level, bounds_at}
 use Rattle.layer_kinds.specs.Indexing.{IsOf}
@@ -62,8 +60,8 @@ returns-clause-every_part g c =
     let there : is_some c.index.result.now ≡ true = c.in_ok-given.ensures.refused in
     let every = asked_every c.index.result.now c.in_ok-given.given.parts there c.in_ok-given.ensures.few c.in_ok-given.ensures.parts in
     let index : c.index.result.now ≡ g.X.Has.index c.args.layer.now.indexes = c.index.ensures ∙ ap (λ k. g.X.Has.index k.indexes) c.layer.view_is in (
-      subst (λ n. IsEveryPart (g.X.Has.index c.args.layer.now.indexes) n) (sym c.consulted.ensures) (subst (λ o. IsEveryPart o c.in_ok-given.given.parts) index every),
-      c.consulted.ensures,
+      subst (λ n. IsEveryPart (g.X.Has.index c.args.layer.now.indexes) n) (sym c.told-asked.ensures.parts) (subst (λ o. IsEveryPart o c.in_ok-given.given.parts) index every),
+      c.told-asked.ensures.parts,
       (c.in_ok-given.ensures.answer es l.directory.adds here).1 ∙ ap (λ k. length k.entries) c.layer.view_is,
     )
 
@@ -78,8 +76,7 @@ returns-clause-cost g c =
     let of = g.met.X.Has.is_of l.indexes es l.directory.adds c.layer.invariant.1 in
     let here : IsOf (λ part. part) g.R.Item.Item.stamp c.index.result.now es l.directory.adds =
     subst (λ o. IsOf (λ part. part) g.R.Item.Item.stamp o es l.directory.adds) (sym c.index.ensures) of in
-    let asked : Asked = record { parts = c.consulted.result; part_bound = c.bounds.result.parts; touches = c.lap_touches.result } in
-    let told : asked.touches ≡ lap_of c.ask.new.steps.lap_start.touches c.ask.new.steps.touches = search rules in
+    let asked = c.told-asked.result in
     let answer : c.in_ok-given.given.answer ≡ g.Q.Question.value q points = (c.in_ok-given.ensures.answer es l.directory.adds here).0 in
     let many : length points ≡ n = length-map es (λ e. e.item) in
     let rate = g.Q.MapQuestion.touches level in
@@ -91,6 +88,6 @@ returns-clause-cost g c =
     (asked_told g.R.Item.Item.stamp (g.Q.MapQuestion.hits q) (g.R.AnsweringRows.ask_touches q) g.Q.MapQuestion.touches (g.met.Q.MapQuestion.part_touches q) g.Q.MapQuestion.few
     es l.directory.adds c.layer.invariant.2 c.index.result.now asked (g.Q.MapQuestion.most_touches level asked.parts n c.in_ok-given.given.answer) here c.in_ok-given.ensures.refused
     c.in_ok-given.ensures.few c.in_ok-given.ensures.cost
-    (subst (λ k. IfSome c.index.result.now (λ i. k ≡ parts_of i.main.levels)) (sym c.consulted.ensures) c.in_ok-given.ensures.parts)
-    (c.bounds.ensures.parts ∙ ap (λ k. (bounds_at (length k.entries)).parts) (sym c.layer.view_is)) c.requires.lap told
+    (subst (λ k. IfSome c.index.result.now (λ i. k ≡ parts_of i.main.levels)) (sym c.told-asked.ensures.parts) c.in_ok-given.ensures.parts)
+    (c.told-asked.ensures.part_bound ∙ c.bounds.ensures.parts ∙ ap (λ k. (bounds_at (length k.entries)).parts) (sym c.layer.view_is)) c.requires.lap c.told-asked.ensures.touches
     (subst (λ a. asked.parts * rate.part + rate.hit * hit_ones + rate.item * (2 * n + 9) ≤ g.Q.MapQuestion.most_touches level asked.parts n a) (sym answer) most))

@@ -7,7 +7,7 @@ use Rattle.map_layers.specs.Layers.{map_of}
 use Rattle.map_layers.specs.Questions.{most_for}
 use Rattle.map_session.proofs.Counted.{question_counted}
 use Rattle.map_session.proofs.Steps.{given_as, question_answered}
-use Rattle.map_session.proofs.executing.answer.Goals as goal
+use Rattle.map_session.proofs.calling.answer.Goals as goal
 
 pub returns-in-Ok-clause-answered : goal.returns-in-Ok-clause-answered
 returns-in-Ok-clause-answered g c =
