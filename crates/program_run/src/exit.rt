@@ -54,7 +54,7 @@ pub fn end<S: Source, K: Sink, L: Ledger>(
 }
 
 /// A run whose steps are counted from nothing.
-pub(crate) fn run_once<S: Source, K: Sink, L: Ledger>(
+fn run_once<S: Source, K: Sink, L: Ledger>(
     alloc: Global,
     words: &[String],
     source: &mut S,
@@ -78,7 +78,7 @@ pub fn arguments<R: Env + AllocGlobal>(rt: &R) -> io::Result<Vec<String>> {
 }
 
 /// The words after the program's name.
-pub(crate) fn words_of(arguments: &[String]) -> &[String]
+fn words_of(arguments: &[String]) -> &[String]
     ensures { result.now ≡ drop 1 arguments.now }
 {
     match arguments {
@@ -88,14 +88,14 @@ pub(crate) fn words_of(arguments: &[String]) -> &[String]
 }
 
 /// What the program ends with.
-pub(crate) fn exit_code(status: Status) -> ExitCode
+fn exit_code(status: Status) -> ExitCode
     ensures { exit_status result ≡ code_of status }
 {
     ExitCode::from(status.code())
 }
 
 /// What the program ends with where the arguments can't be had.
-pub(crate) fn exit_code_without_arguments(error: &io::Error) -> ExitCode
+fn exit_code_without_arguments(error: &io::Error) -> ExitCode
     ensures no_memory { error_kind error.now ≡ ErrorKind.OutOfMemory → exit_status result ≡ 6 }
     ensures refused { error_kind error.now ≢ ErrorKind.OutOfMemory → exit_status result ≡ 7 }
 {

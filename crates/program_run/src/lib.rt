@@ -9,6 +9,3 @@ mod reading;
 
 pub use ended::{Ended, Status, run};
 pub use exit::{arguments, end};
-
-#[cfg(test)]
-mod tests;

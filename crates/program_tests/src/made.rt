@@ -1,6 +1,9 @@
-// Made scripts, beside numbers that another program has from a plain map.
-use super::patterns::are_answers;
-use super::*;
+//! Made scripts, beside numbers that another program has from a plain map.
+use crate::over_memory::{BYTEWISE, Plan, WHOLE, run_words};
+use crate::patterns::are_answers;
+use program_run::Status;
+use std::alloc::Global;
+use std::test::Fail;
 use workload_gen::Workload;
 
 /// Words, and what is written.

@@ -1,4 +1,4 @@
-// Answers beside patterns, in which `A..B` stands for a number from A to B.
+//! Answers beside patterns, in which `A..B` stands for a number from A to B.
 
 /// Whether a number, or another word, is as a pattern has it.
 fn is_word(word: &str, pattern: &str) -> bool {

@@ -1,5 +1,8 @@
-// A town of shops and streets.
-use super::*;
+//! A town of shops and streets.
+use crate::over_memory::{WHOLE, run_script};
+use program_run::Status;
+use std::alloc::AllocError;
+use std::test::Fail;
 
 /// Its questions and answers.
 const QUESTIONS: [(&str, &str); 12] = [

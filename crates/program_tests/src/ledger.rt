@@ -1,6 +1,9 @@
-// Scripts with the ledger: numbers that were worked out by hand, and the ranges in which the others lie.
-use super::patterns::are_answers;
-use super::*;
+//! Scripts with the ledger: numbers that were worked out by hand, and the ranges in which the others lie.
+use crate::over_memory::{WHOLE, run_words};
+use crate::patterns::are_answers;
+use program_run::Status;
+use std::alloc::{AllocError, Global};
+use std::test::Fail;
 
 /// A script, and its answers: `A..B` stands for a number from A to B.
 const ROWS: [(&str, &str); 5] = [
@@ -70,10 +73,7 @@ fn run_with_ledger(alloc: Global, script: &str) -> Result<(Status, String), Fail
         16_384,
     )?;
     let written = str::from_utf8(&ran.written).unwrap_or("");
-    Ok((
-        ran.status,
-        String::from_str(alloc, written.trim_end())?,
-    ))
+    Ok((ran.status, String::from_str(alloc, written.trim_end())?))
 }
 
 #[test]
