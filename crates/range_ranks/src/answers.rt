@@ -1,5 +1,5 @@
 //! Answers to questions.
-ghost use Rattle.std.specs.Prelude.{◌≡◌, ◌≢◌, ◌+◌, ◌-◌, ◌*◌, ◌^◌, ◌≤◌, ℕ, true, false, length, OnOk};
+ghost use Rattle.std.specs.Prelude.{◌≡◌, ◌≢◌, ◌+◌, ◌-◌, ◌≤◌, true, false, OnOk};
 ghost use Rattle.query_laws.specs.StepLedger.{Spends};
 ghost use Rattle.query_laws.specs.Sums.{capped_add};
 ghost use Rattle.builder_trait.specs.Parts.{live_of};
