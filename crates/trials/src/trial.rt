@@ -99,10 +99,7 @@ pub fn tell_differences<K: Kind, L: Ledger>(bench: &mut Bench<L>, plan: Plan) ->
     trial.items.clear();
     let asked = is_difference(&trial.ask_each(2, bench));
     let updated = is_difference(&trial.update(bench));
-    Ok(writeln!(
-        bench.report,
-        "lost items seen {asked} {updated}"
-    )?)
+    Ok(writeln!(bench.report, "lost items seen {asked} {updated}")?)
 }
 
 /// Whether a comparison ended with a difference.
