@@ -12,15 +12,15 @@ ghost use Rattle.program_run.specs.Made.{live_made, AnswersMade};
 
 use crate::Status;
 use map_io::{Sink, WriteFault};
-use map_session::{OverPoints, OverSegments, Session};
+use map_session::MapSession;
 use query_laws::step_ledger::Steps;
 use script_lang::Command;
 use std::sync::ledger::Ledger;
 use workload_gen::{Summary, Workload, layer_name};
 
 /// Executes the script of a seed in a new session, and writes the summary of its answers.
-pub fn answer_made<P: OverPoints, G: OverSegments, K: Sink, L: Ledger>(
-    session: &mut Session<P, G>,
+pub fn answer_made<K: Sink, L: Ledger>(
+    session: &mut MapSession,
     seed: u64,
     size: u32,
     sink: &mut K,
@@ -41,8 +41,8 @@ pub fn answer_made<P: OverPoints, G: OverSegments, K: Sink, L: Ledger>(
 }
 
 /// Executes the script of a seed, and sums up its answers.
-fn execute_made<P: OverPoints, G: OverSegments, L: Ledger>(
-    session: &mut Session<P, G>,
+fn execute_made<L: Ledger>(
+    session: &mut MapSession,
     seed: u64,
     size: u32,
     steps: &mut Steps<L>,
@@ -59,8 +59,8 @@ fn execute_made<P: OverPoints, G: OverSegments, L: Ledger>(
 }
 
 /// Executes a command, and takes its answer in.
-fn obey<P: OverPoints, G: OverSegments, L: Ledger>(
-    session: &mut Session<P, G>,
+fn obey<L: Ledger>(
+    session: &mut MapSession,
     command: &Command,
     summary: &mut Summary,
     steps: &mut Steps<L>,
@@ -77,7 +77,7 @@ fn obey<P: OverPoints, G: OverSegments, L: Ledger>(
 }
 
 /// How many items the layer of made scripts has.
-fn live_items<P: OverPoints, G: OverSegments>(session: &Session<P, G>) -> u64
+fn live_items(session: &MapSession) -> u64
     ensures { result ≡ live_made (map_in session.now) }
 {
     session.layers().size(&layer_name()).unwrap_or(0)

@@ -7,7 +7,7 @@ ghost use Rattle.program_run.specs.Run.{script_limit, AnswersScript, IsReading};
 
 use crate::Status;
 use map_io::{Sink, Source, WriteFault};
-use map_session::{LineStart, OverPoints, OverSegments, Session, answer_begun, answer_piece};
+use map_session::{LineStart, MapSession, answer_begun, answer_piece};
 use query_laws::step_ledger::Steps;
 use std::sync::ledger::Ledger;
 
@@ -18,8 +18,8 @@ const SCRIPT_LIMIT: usize = 67_108_864;
 const PIECE: usize = 4_096;
 
 /// Answers the lines of a script, each before the read after that which gave its end.
-pub fn answer_script<P: OverPoints, G: OverSegments, S: Source, K: Sink, L: Ledger>(
-    session: &mut Session<P, G>,
+pub fn answer_script<S: Source, K: Sink, L: Ledger>(
+    session: &mut MapSession,
     source: &mut S,
     sink: &mut K,
     steps: &mut Steps<L>,
@@ -43,8 +43,8 @@ pub fn answer_script<P: OverPoints, G: OverSegments, S: Source, K: Sink, L: Ledg
 
 /// Reads once and answers the lines that end in what the read gave: how many bytes, or how the run ends. At the end of the source the
 /// line that is begun ends too.
-fn answer_read<P: OverPoints, G: OverSegments, S: Source, K: Sink, L: Ledger>(
-    session: &mut Session<P, G>,
+fn answer_read<S: Source, K: Sink, L: Ledger>(
+    session: &mut MapSession,
     begun: &mut LineStart,
     taken: usize,
     source: &mut S,
@@ -83,8 +83,8 @@ fn answer_read<P: OverPoints, G: OverSegments, S: Source, K: Sink, L: Ledger>(
 }
 
 /// Answers the line that is begun, if there is one, as the last of the script.
-fn answer_last<P: OverPoints, G: OverSegments, K: Sink, L: Ledger>(
-    session: &mut Session<P, G>,
+fn answer_last<K: Sink, L: Ledger>(
+    session: &mut MapSession,
     begun: &LineStart,
     sink: &mut K,
     steps: &mut Steps<L>,
