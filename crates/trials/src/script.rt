@@ -3,7 +3,7 @@ ghost use Rattle.map_io.specs.SinkTold.{told_by_faults};
 
 use crate::bench::Bench;
 use map_io::{Failed, Sink};
-use map_session::{LineStart, MapSession, OverPoints, OverSegments, Session};
+use map_session::{LineStart, MapSession};
 use samples::{Costs, Failure, Outcome};
 use script_lang::split_word;
 use std::fs;
@@ -31,8 +31,8 @@ impl Sink for NullSink {
 
 /// A session, the line that is begun, and for each word what its lines cost.
 #[derive(Drop)]
-struct ScriptRun<P: OverPoints, S: OverSegments> {
-    session: Session<P, S>,
+struct ScriptRun {
+    session: MapSession,
     begun: LineStart,
     table: Vec<(&'static str, Costs)>,
 }
@@ -57,7 +57,7 @@ pub fn measure_script<L: Ledger>(bench: &mut Bench<L>, path: &str) -> Outcome {
     Ok(())
 }
 
-impl<P: OverPoints, S: OverSegments> ScriptRun<P, S> {
+impl ScriptRun {
     /// Reads a script up to its end, and runs its lines.
     fn read<F: Read, L: Ledger>(&mut self, file: &mut F, bench: &mut Bench<L>) -> Outcome {
         let mut room = [0u8; PIECE];
