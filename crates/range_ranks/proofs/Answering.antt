@@ -18,7 +18,7 @@ use Rattle.map_shapes.specs.declared.rect.Rect.{Rect}
 use Rattle.map_shapes.specs.Questions.{is_in}
 use Rattle.range_ranks.specs.declared.measure.Measure.{Measure}
 use Rattle.range_ranks.specs.declared.measure.Measure.TheVariants.{Count, Weight}
-use Rattle.range_ranks.specs.declared.rows.RangeRows.{RangeRows}
+use Rattle.range_ranks.specs.declared.rows.RangeTree.{RangeTree}
 use Rattle.range_ranks.specs.declared.scanning.Places.{Places}
 use Rattle.range_ranks.specs.declared.descending.Span.{Span}
 use Rattle.range_ranks.specs.Heights.{lowest}
@@ -163,7 +163,7 @@ pub AreWhole-found : (part : Contents Point) (all whole : Places) → all.to ≤
 AreWhole-found part all whole within last some front back = record { from = front some; to = back some; within = omega arith }
 
 -- where there is one, there are rows
-pub tall : (part : Contents Point) (rows : RangeRows) (tree : IsTree part rows) (whole : Places) → AreWhole part whole → whole.from < whole.to → 9 ≤ rows.height
+pub tall : (part : Contents Point) (rows : RangeTree) (tree : IsTree part rows) (whole : Places) → AreWhole part whole → whole.from < whole.to → 9 ≤ rows.height
 tall part rows tree whole are some = by (cases_lt rows.height 9)
   where
     by : (rows.height < 9) ⊎ (9 ≤ rows.height) → 9 ≤ rows.height

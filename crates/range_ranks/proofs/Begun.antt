@@ -15,7 +15,7 @@ use Rattle.row_blocks.proofs.Partitioning.{IsInBlocks-whole}
 use Rattle.rank_rows.specs.Ranked.{Ranked, no_places}
 use Rattle.map_shapes.specs.declared.point.Point.{Point}
 use Rattle.range_ranks.specs.declared.growing.Carried.{Carried}
-use Rattle.range_ranks.specs.declared.rows.RangeRows.{RangeRows}
+use Rattle.range_ranks.specs.declared.rows.RangeTree.{RangeTree}
 use Rattle.range_ranks.specs.Heights.{rows_to, words_for}
 use Rattle.range_ranks.specs.Tree.{before}
 use Rattle.range_ranks.specs.Growing.{IsPutting, AreGrown, IsGrowing, carried_of}
@@ -55,7 +55,7 @@ IsQuota-begun n level height words few low some is =
       bounded = omega (arith, few, mul-le (rows_to height) (64 * words) (level + 1) (2 * 2 ^ level) (omega (arith, low)) wide);
     }
 
-module _ (b : Progress Point) (old : RangeRows) (putting : IsPutting b old) (underway : IsUnderway before b) (complete : length b.reordered ≡ length b.items)
+module _ (b : Progress Point) (old : RangeTree) (putting : IsPutting b old) (underway : IsUnderway before b) (complete : length b.reordered ≡ length b.items)
     (height : ℕ) (height_is : height ≡ height_of (length b.items)) where
   small : length b.items ≤ 2 ^ 31
   small = few_items b underway
@@ -122,7 +122,7 @@ module _ (b : Progress Point) (old : RangeRows) (putting : IsPutting b old) (und
     blocks : IsInBlocks (λ p. p) b.places height b.places
     blocks = IsInBlocks-whole (λ p. p) b.places height (has_each (all_live b) each) (omega (arith, many, above))
 
-    abbrev begun : RangeRows
+    abbrev begun : RangeTree
     begun = record old { ranks = ranks; height = height; at = 0; left = left }
 
     pub AreGrown-begun : AreGrown (all_live b) begun

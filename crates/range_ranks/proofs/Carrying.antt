@@ -16,7 +16,7 @@ use Rattle.row_blocks.proofs.Partitioning.{start_of-le, start_of-above, start_of
 use Rattle.rank_rows.specs.Ranked.{Ranked, place_at, how_many, rank, next_place, with_place, IsNextRow}
 use Rattle.map_shapes.specs.declared.point.Point.{Point}
 use Rattle.range_ranks.specs.declared.growing.Carried.{Carried}
-use Rattle.range_ranks.specs.declared.rows.RangeRows.{RangeRows}
+use Rattle.range_ranks.specs.declared.rows.RangeTree.{RangeTree}
 use Rattle.range_ranks.specs.Heights.{rows_to, words_for}
 use Rattle.range_ranks.specs.Tree.{IsRow, is_second, is_live_at}
 use Rattle.range_ranks.specs.Growing.{AreGrown, carried_of}
@@ -51,7 +51,7 @@ spot : (p m s lower k r : ℕ) (b : Bool) → b ≡ nat_le m p → r + lower ≡
 spot p m s lower k r true is ranked le = grind (arith, nat_tests)
 spot p m s lower k r false is ranked le = grind (arith, nat_tests)
 
-module _ (part : Contents Point) (old : RangeRows) (grown : AreGrown part old) where
+module _ (part : Contents Point) (old : RangeTree) (grown : AreGrown part old) where
   abbrev row : List ℕ
   row = grown.row grown.count
 

@@ -8,7 +8,7 @@ use Rattle.row_blocks.specs.Partitions.{is_in_block}
 use Rattle.row_blocks.proofs.Partitioning.{length-block_of, from_in_block}
 use Rattle.map_shapes.specs.declared.point.Point.{Point}
 use Rattle.range_ranks.specs.declared.entry.Entry.{Entry}
-use Rattle.range_ranks.specs.declared.rows.RangeRows.{RangeRows}
+use Rattle.range_ranks.specs.declared.rows.RangeTree.{RangeTree}
 use Rattle.range_ranks.specs.Tree.{precedes}
 use Rattle.range_ranks.specs.Marks.{IsDying, IsFalling}
 use Rattle.range_ranks.proofs.TopOrder.{no_entry, entry_at, entry_each, place_at, rises, known_ordinate, found_entry}
@@ -25,7 +25,7 @@ found_in test (x ∷ xs) some = by (test x) refl some (found_in test xs)
     by true is some rest = (0, omega arith, is)
     by false is some rest = let found = rest some in (suc found.0, omega (arith, found.1), found.2)
 
-module _ (part : Contents Point) (place : ℕ) (item : Point) (rows : RangeRows) (dying : IsDying part place item rows) where
+module _ (part : Contents Point) (place : ℕ) (item : Point) (rows : RangeTree) (dying : IsDying part place item rows) where
   inside : place < length part.items
   inside = slice_get_within part.items place item dying.there
 

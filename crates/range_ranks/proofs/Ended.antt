@@ -13,7 +13,7 @@ use Rattle.rank_rows.specs.Ranked.{Ranked}
 use Rattle.rank_rows.proofs.Reading.{eights}
 use Rattle.map_shapes.specs.declared.point.Point.{Point}
 use Rattle.range_ranks.specs.declared.growing.Carried.{Carried}
-use Rattle.range_ranks.specs.declared.rows.RangeRows.{RangeRows}
+use Rattle.range_ranks.specs.declared.rows.RangeTree.{RangeTree}
 use Rattle.range_ranks.specs.Heights.{rows_to, words_for}
 use Rattle.range_ranks.specs.Tree.{IsRow, AreRows}
 use Rattle.range_ranks.specs.Growing.{AreGrown, IsGrowing, carried_of}
@@ -28,7 +28,7 @@ carried_again points (c ∷ cs) all =
     ap₂ (λ x xs. x ∷ xs) (All-head (λ (c : Carried). c ≡ carried_of points c.place) c cs all)
     (carried_again points cs (All-tail (λ (c : Carried). c ≡ carried_of points c.place) c cs all))
 
-module _ (part : Contents Point) (rows : RangeRows) (grown : AreGrown part rows) (end : rows.at ≡ 64 * words_for (length part.items)) where
+module _ (part : Contents Point) (rows : RangeTree) (grown : AreGrown part rows) (end : rows.at ≡ 64 * words_for (length part.items)) where
   abbrev next : List ℕ
   next = map (λ c. c.place) rows.target.items
 
@@ -161,7 +161,7 @@ module _ (part : Contents Point) (rows : RangeRows) (grown : AreGrown part rows)
       by (inr from) = omega (arith, grown.below)
 
 -- what grows keeps all else
-pub IsGrowing-kept : (part : Contents Point) (old : RangeRows) → IsGrowing part old → (ranks : Ranked) (source target : Entries Carried) (at left : ℕ)
+pub IsGrowing-kept : (part : Contents Point) (old : RangeTree) → IsGrowing part old → (ranks : Ranked) (source target : Entries Carried) (at left : ℕ)
     → ranks.room ≡ old.ranks.room
     → (0 < rows_to part.at_level → 2 ^ part.at_level ≤ source.capacity) → (0 < rows_to part.at_level → 2 ^ part.at_level ≤ target.capacity)
     → (0 < left → AreGrown part (record old { ranks = ranks; source = source; target = target; at = at; left = left }))
@@ -204,7 +204,7 @@ IsGrowing-kept part old growing ranks source target at left room has_source has_
 
 -- ---- one turn
 
-module _ (part : Contents Point) (old : RangeRows) (growing : IsGrowing part old) (more : 0 < old.left) where
+module _ (part : Contents Point) (old : RangeTree) (growing : IsGrowing part old) (more : 0 < old.left) where
   level_few : part.at_level ≤ 31
   level_few = omega (arith, growing.room.small)
 
@@ -247,7 +247,7 @@ module _ (part : Contents Point) (old : RangeRows) (growing : IsGrowing part old
     pub IsGrowing-turned : old.at + 1 ≡ 64 * words_for (length part.items)
         → IsGrowing part (record old { ranks = ranks; source = target; target = old.source; at = 0; left = old.left - 1 })
     IsGrowing-turned end =
-        let rows : RangeRows = record old { ranks = ranks; target = target; at = old.at + 1; left = old.left - 1 } in
+        let rows : RangeTree = record old { ranks = ranks; target = target; at = old.at + 1; left = old.left - 1 } in
         let words : 0 < words_for (length part.items) = omega (arith, end) in
         IsGrowing-kept part old growing ranks target old.source 0 (old.left - 1) room (λ some. omega (arith, growing.room.target some, capacity)) growing.room.source
         (λ left. AreGrown-next part rows grown end (next_below part rows grown end left)) (λ left. omega (arith, words))

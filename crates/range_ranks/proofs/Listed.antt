@@ -13,7 +13,7 @@ use Rattle.row_blocks.specs.Partitions.{IsInBlocks}
 use Rattle.row_blocks.proofs.Lists.{slice_range-map}
 use Rattle.rank_rows.specs.Ranked.{Ranked, place_at, slice_of, how_many}
 use Rattle.map_shapes.specs.declared.point.Point.{Point}
-use Rattle.range_ranks.specs.declared.rows.RangeRows.{RangeRows}
+use Rattle.range_ranks.specs.declared.rows.RangeTree.{RangeTree}
 use Rattle.range_ranks.specs.declared.scanning.Places.{Places}
 use Rattle.range_ranks.specs.declared.descending.Span.{Span}
 use Rattle.range_ranks.specs.declared.descending.Cut.TheVariants.{Whole}
@@ -120,7 +120,7 @@ module _ (part : Contents Point) (each : Permuted part.places (range_with_len 0 
 
 -- ---- a row of a tree
 
-module _ (part : Contents Point) (rows : RangeRows) (each : Permuted part.places (range_with_len 0 (length part.items))) (tree : IsTree part rows) (row : ℕ)
+module _ (part : Contents Point) (rows : RangeTree) (each : Permuted part.places (range_with_len 0 (length part.items))) (tree : IsTree part rows) (row : ℕ)
     (inside : row < rows_to rows.height) (some : 0 < rows_to rows.height) where
   abbrev pub list_of : List ℕ
   list_of = (tree.ranks some).rows row
@@ -139,7 +139,7 @@ module _ (part : Contents Point) (rows : RangeRows) (each : Permuted part.places
   list_standing k within = record { each = each; rows_are = tree.ranks some; below = omega arith; within = within; at = refl }
 
 -- the points of a span are those between its positions
-module _ (part : Contents Point) (rows : RangeRows) (each : Permuted part.places (range_with_len 0 (length part.items))) (tree : IsTree part rows)
+module _ (part : Contents Point) (rows : RangeTree) (each : Permuted part.places (range_with_len 0 (length part.items))) (tree : IsTree part rows)
     (low high : ℕ) (span : Span) (is : IsSpan part rows low high span) (there : span.start < length part.items) (some : 0 < rows_to rows.height) where
   blocks : IsInBlocks (λ p. p) part.places (rows.height - span.row) ((tree.ranks some).rows span.row)
   blocks = (tree.ranks some).blocks span.row (omega (arith, is.row))

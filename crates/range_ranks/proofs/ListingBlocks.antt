@@ -11,7 +11,7 @@ use Rattle.builder_trait.specs.Parts.{Contents}
 use Rattle.row_blocks.specs.Partitions.{block_of, is_in_block}
 use Rattle.row_blocks.proofs.Blocks.{pow_next}
 use Rattle.map_shapes.specs.declared.point.Point.{Point}
-use Rattle.range_ranks.specs.declared.rows.RangeRows.{RangeRows}
+use Rattle.range_ranks.specs.declared.rows.RangeTree.{RangeTree}
 use Rattle.range_ranks.specs.declared.scanning.Places.{Places}
 use Rattle.range_ranks.specs.declared.descending.Span.{Span}
 use Rattle.range_ranks.specs.Heights.{rows_to}
@@ -42,7 +42,7 @@ block_parted k start xs =
         → cond (nat_le a p && nat_lt p (a + half)) 1 0 + cond (nat_le (a + half) p && nat_lt p (a + half + half)) 1 0 ≡ cond (nat_le a p && nat_lt p (a + long)) 1 0
     one a p half long twice = grind (arith, nat_tests)
 
-module _ (part : Contents Point) (rows : RangeRows) (low high : ℕ) (places : Places) (span first second : Span) (halves : AreHalves part rows low high span first second)
+module _ (part : Contents Point) (rows : RangeTree) (low high : ℕ) (places : Places) (span first second : Span) (halves : AreHalves part rows low high span first second)
     (below : span.row + 1 < rows_to rows.height) where
   pub list_halves : Permuted (live_in_span part rows low high places first ++ live_in_span part rows low high places second) (live_in_span part rows low high places span)
   list_halves =

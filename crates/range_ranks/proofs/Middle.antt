@@ -18,7 +18,7 @@ use Rattle.row_blocks.proofs.Partitioning.{in_block}
 use Rattle.map_shapes.specs.declared.point.Point.{Point}
 use Rattle.map_shapes.specs.declared.rect.Rect.{Rect}
 use Rattle.map_shapes.specs.Questions.{is_in}
-use Rattle.range_ranks.specs.declared.rows.RangeRows.{RangeRows}
+use Rattle.range_ranks.specs.declared.rows.RangeTree.{RangeTree}
 use Rattle.range_ranks.specs.declared.scanning.Places.{Places}
 use Rattle.range_ranks.specs.declared.descending.Span.{Span}
 use Rattle.range_ranks.specs.Tree.{before, IsTree}
@@ -223,7 +223,7 @@ module _ (part : Contents Point) (valid : IsPart before part) (rect : Rect) (low
       (λ k from to. cond-false (is_at whole k) (filter (is_in rect) (live_at part k)) [] (is_at-false whole k (inr (let le : whole.to ≤ k = omega (arith, end) in le)))))
       ∙ append-nil (live_in_places part rect whole))
 
-  module _ (rows : RangeRows) (tree : IsTree part rows) (span : Span) (row : span.row ≡ 0) (start : span.start ≡ 0) where
+  module _ (rows : RangeTree) (tree : IsTree part rows) (span : Span) (row : span.row ≡ 0) (start : span.start ≡ 0) where
     top_block : live_in_span part rows low high whole span ≡ flat_map live (slice_range part.places low high)
     top_block =
         let slice = slice_range part.places low high in

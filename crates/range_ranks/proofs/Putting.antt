@@ -13,7 +13,7 @@ use Rattle.builder_trait.proofs.Places.{length-reordered_le, length-placed}
 use Rattle.map_shapes.specs.declared.point.Point.{Point}
 use Rattle.range_ranks.specs.declared.entry.Entry.{Entry}
 use Rattle.range_ranks.specs.declared.leaves.Leaf.{Leaf}
-use Rattle.range_ranks.specs.declared.rows.RangeRows.{RangeRows}
+use Rattle.range_ranks.specs.declared.rows.RangeTree.{RangeTree}
 use Rattle.range_ranks.specs.Heights.{rows_to}
 use Rattle.range_ranks.specs.Tree.{before, AreLeaves, ordinate_at, nowhere}
 use Rattle.range_ranks.specs.Growing.{IsPutting, carried_of}
@@ -50,7 +50,7 @@ no_items [] none = refl
 no_items (x ∷ xs) none = absurd (omega arith)
 
 -- one more point in the first order, before any is put in the second
-module _ (b : Progress Point) (old : RangeRows) (item : Point) (place : ℕ) (putting : IsPutting b old) (underway : IsUnderway before b)
+module _ (b : Progress Point) (old : RangeTree) (item : Point) (place : ℕ) (putting : IsPutting b old) (underway : IsUnderway before b)
     (fits : FitsFirst (before First) b item place) where
   none_placed : b.places ≡ []
   none_placed = no_items b.places (omega (arith, length-placed b.items b.reordered b.places underway.placed, ap length fits.none_reordered))
@@ -89,7 +89,7 @@ module _ (b : Progress Point) (old : RangeRows) (item : Point) (place : ℕ) (pu
     }
 
 -- one more point in the second order
-module _ (b : Progress Point) (rows : RangeRows) (item : Point) (place : ℕ) (putting : IsPutting b rows) (underway : IsUnderway before b)
+module _ (b : Progress Point) (rows : RangeTree) (item : Point) (place : ℕ) (putting : IsPutting b rows) (underway : IsUnderway before b)
     (fits : FitsSecond (before Second) b item place) where
   pub small_place : place < 2 ^ 32
   small_place =

@@ -20,7 +20,7 @@ use Rattle.map_shapes.specs.declared.point.Point.{Point}
 use Rattle.range_ranks.specs.declared.scanning.Places.{Places}
 use Rattle.range_ranks.specs.declared.descending.Span.{Span}
 use Rattle.range_ranks.specs.declared.descending.Cut.TheVariants.{Whole}
-use Rattle.range_ranks.specs.declared.rows.RangeRows.{RangeRows}
+use Rattle.range_ranks.specs.declared.rows.RangeTree.{RangeTree}
 use Rattle.range_ranks.specs.Heights.{lowest, rows_to}
 use Rattle.range_ranks.specs.Tree.{IsTree}
 use Rattle.range_ranks.specs.Queries.{live_at, image_of, IsSpan, AreWhole, AreHalves, IsCut, is_at, is_inside, ends_inside, live_in_span}
@@ -59,7 +59,7 @@ empty_list (x ∷ xs) none = absurd (omega arith)
 
 -- ---- heights
 
-module _ (part : Contents Point) (rows : RangeRows) (tree : IsTree part rows) where
+module _ (part : Contents Point) (rows : RangeTree) (tree : IsTree part rows) where
   pub height-small : rows.height ≤ 31
   height-small = omega (arith, tree.height, (IsLeastHeight-height_of (length part.items) (omega (arith, tree.few))).least 31 (omega (arith, tree.few)))
 
@@ -90,7 +90,7 @@ not_both a start end b failed = by (cases_lt start a)
 pub both-from : (a start end b : ℕ) → (nat_le a start && nat_le end b) ≡ true → (a ≤ start) × (end ≤ b)
 both-from a start end b passed = (grind (arith, nat_tests), grind (arith, nat_tests))
 
-module _ (part : Contents Point) (rows : RangeRows) (each : Permuted part.places (range_with_len 0 (length part.items))) (low high : ℕ)
+module _ (part : Contents Point) (rows : RangeTree) (each : Permuted part.places (range_with_len 0 (length part.items))) (low high : ℕ)
     (span : Span) (is : IsSpan part rows low high span) where
   between : length (block_of (λ p. p) (rows.height - span.row) span.start (take high part.places))
       ≡ length (block_of (λ p. p) (rows.height - span.row) span.start (take low part.places))
@@ -155,7 +155,7 @@ module _ (part : Contents Point) (rows : RangeRows) (each : Permuted part.places
 
 -- ---- its halves
 
-module _ (part : Contents Point) (rows : RangeRows) (each : Permuted part.places (range_with_len 0 (length part.items))) (tree : IsTree part rows)
+module _ (part : Contents Point) (rows : RangeTree) (each : Permuted part.places (range_with_len 0 (length part.items))) (tree : IsTree part rows)
     (low high : ℕ) (span : Span) (is : IsSpan part rows low high span) (there : span.start < length part.items) where
   pub span_front : (n at : ℕ) → at ≡ image_of part.places (rows.height - span.row) span.start n → IsFront rows.ranks span.row span.start at
   span_front n at image =
@@ -215,7 +215,7 @@ module _ (part : Contents Point) (rows : RangeRows) (each : Permuted part.places
         }
 
 -- in the first row a front of the second order is its own image
-pub whole_image : (part : Contents Point) (rows : RangeRows) → Permuted part.places (range_with_len 0 (length part.items)) → IsTree part rows
+pub whole_image : (part : Contents Point) (rows : RangeTree) → Permuted part.places (range_with_len 0 (length part.items)) → IsTree part rows
     → (n : ℕ) → n ≤ length part.places → n ≡ image_of part.places (rows.height - 0) 0 n
 whole_image part rows each tree n within =
     let below = All-take (λ p. p < length part.items) n part.places (places_below part each) in

@@ -16,7 +16,7 @@ use Rattle.range_ranks.specs.declared.measure.Measure.TheVariants.{Count, Weight
 use Rattle.range_ranks.specs.declared.scanning.Places.{Places}
 use Rattle.range_ranks.specs.declared.descending.Span.{Span}
 use Rattle.range_ranks.specs.declared.descending.Cut.TheVariants.{Whole}
-use Rattle.range_ranks.specs.declared.rows.RangeRows.{RangeRows}
+use Rattle.range_ranks.specs.declared.rows.RangeTree.{RangeTree}
 use Rattle.range_ranks.specs.Heights.{rows_to}
 use Rattle.range_ranks.specs.Measures.{measure_of}
 use Rattle.range_ranks.specs.Costs.{blocks_touches}
@@ -26,7 +26,7 @@ use Rattle.range_ranks.proofs.RowSlices.{blocks_of, long, row_between, image_wit
 use Rattle.range_ranks.proofs.SpanSums.{sum_by-one, all_at, count_live, weigh_live, weight_here, counted_halves, counted_by-few, measure-few}
 use Rattle.range_ranks.proofs.SpanLemmas.{many_places, slice_below, span_ordered, inside_halves}
 
-module _ (part : Contents Point) (rows : RangeRows) (each : Permuted part.places (range_with_len 0 (length part.items))) (tree : IsTree part rows)
+module _ (part : Contents Point) (rows : RangeTree) (each : Permuted part.places (range_with_len 0 (length part.items))) (tree : IsTree part rows)
     (low high : ℕ) (span : Span) (is : IsSpan part rows low high span) (there : span.start < length part.items) where
   -- the places of a span
   abbrev pub places_of : List ℕ
@@ -87,7 +87,7 @@ module _ (part : Contents Point) (rows : RangeRows) (each : Permuted part.places
     weighed_span = ap (sum_by (measure_of Weight)) all_live ∙ weigh_live part places_of
 
 -- by halves
-module _ (part : Contents Point) (rows : RangeRows) (low high : ℕ) (places : Places) (span first second : Span) (halves : AreHalves part rows low high span first second)
+module _ (part : Contents Point) (rows : RangeTree) (low high : ℕ) (places : Places) (span first second : Span) (halves : AreHalves part rows low high span first second)
     (below : span.row + 1 < rows_to rows.height) where
   pub measure_halves : (f : Point → ℕ) → sum_by f (live_in_span part rows low high places span)
       ≡ sum_by f (live_in_span part rows low high places first) + sum_by f (live_in_span part rows low high places second)
@@ -120,7 +120,7 @@ module _ (part : Contents Point) (rows : RangeRows) (low high : ℕ) (places : P
       summed a b c d s t m n first second one two = omega arith
 
 -- what is counted for some places is little
-pub measure-small : (part : Contents Point) (rows : RangeRows) (low high : ℕ) (places : Places) (span : Span) (measure : Measure) → length (slice_range part.places low high) ≤ 2 ^ 31
+pub measure-small : (part : Contents Point) (rows : RangeTree) (low high : ℕ) (places : Places) (span : Span) (measure : Measure) → length (slice_range part.places low high) ≤ 2 ^ 31
     → sum_by (measure_of measure) (live_in_span part rows low high places span) ≤ 2 ^ 62
 measure-small part rows low high places span measure few =
     omega (
@@ -137,7 +137,7 @@ cost_cut height below ends first second some fewer =
     omega (arith, mul-le (first + second) (below * m) ends (below * m) fewer (omega arith), mul-le 1 m ends m some (omega arith))
 
 -- and of its halves
-pub cost_halves : (part : Contents Point) (rows : RangeRows) (low high : ℕ) (places : Places) (span first second : Span) → AreHalves part rows low high span first second
+pub cost_halves : (part : Contents Point) (rows : RangeTree) (low high : ℕ) (places : Places) (span first second : Span) → AreHalves part rows low high span first second
     → span.row + 1 < rows_to rows.height → 1 ≤ ends_inside rows.height places span
     → 2 + blocks_touches rows.height (rows_to rows.height - first.row) (ends_inside rows.height places first)
     + blocks_touches rows.height (rows_to rows.height - second.row) (ends_inside rows.height places second)

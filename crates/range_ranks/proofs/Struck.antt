@@ -7,7 +7,7 @@ use Rattle.builder_trait.specs.Parts.{Contents, IsPart}
 use Rattle.rank_rows.specs.Ranked.{Ranked}
 use Rattle.map_shapes.specs.declared.point.Point.{Point}
 use Rattle.range_ranks.specs.declared.leaves.Leaf.{Leaf}
-use Rattle.range_ranks.specs.declared.rows.RangeRows.{RangeRows}
+use Rattle.range_ranks.specs.declared.rows.RangeTree.{RangeTree}
 use Rattle.range_ranks.specs.Heights.{rows_to}
 use Rattle.range_ranks.specs.Tree.{before, AreLeaves, AreRows, ordinate_at, nowhere, IsTree}
 use Rattle.range_ranks.specs.Growing.{IsKept}
@@ -30,7 +30,7 @@ struck_leaves points flags place old new kept inside own others many = record {
     by k p at (inr other) = others k other ∙ kept.ordinates k p at ∙ ap (λ b. cond b p.y nowhere) (sym (get_or-set_other flags place k false false other))
 
 -- the part before a place died
-pub IsDying-before : (part : Contents Point) (flags : List Bool) (place : ℕ) (item : Point) (rows : RangeRows) → IsPart before part
+pub IsDying-before : (part : Contents Point) (flags : List Bool) (place : ℕ) (item : Point) (rows : RangeTree) → IsPart before part
     → part.flags ≡ set flags place false → slice_get flags place ≡ Some true → slice_get part.items place ≡ Some item
     → IsTree (record part { flags = flags }) rows → 0 < rows_to rows.height → IsDying (record part { flags = flags }) place item rows
 IsDying-before part flags place item rows valid died live there tree some = record {
@@ -52,7 +52,7 @@ IsDying-before part flags place item rows valid died live there tree some = reco
 }
 
 -- which doesn't speak of leaves
-pub IsDying-leaves : (part : Contents Point) (place : ℕ) (item : Point) (rows : RangeRows) (leaves : Entries Leaf) → IsDying part place item rows
+pub IsDying-leaves : (part : Contents Point) (place : ℕ) (item : Point) (rows : RangeTree) (leaves : Entries Leaf) → IsDying part place item rows
     → IsDying part place item (record rows { leaves = leaves })
 IsDying-leaves part place item rows leaves dying = record {
   valid = dying.valid;
@@ -66,7 +66,7 @@ IsDying-leaves part place item rows leaves dying = record {
 }
 
 -- with the place taken out of leaves and ranks the rows are those of the part
-pub IsKept-struck : (part : Contents Point) (flags : List Bool) (place : ℕ) (old : RangeRows) (leaves : Entries Leaf) (ranks : Ranked)
+pub IsKept-struck : (part : Contents Point) (flags : List Bool) (place : ℕ) (old : RangeTree) (leaves : Entries Leaf) (ranks : Ranked)
     → part.flags ≡ set flags place false → place < length flags → IsKept (record part { flags = flags }) old
     → leaves.capacity ≡ old.leaves.capacity → ordinate_at leaves.items place ≡ nowhere
     → ((k : ℕ) → k ≢ place → ordinate_at leaves.items k ≡ ordinate_at old.leaves.items k) → length leaves.items ≡ length old.leaves.items

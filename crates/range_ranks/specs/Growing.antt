@@ -8,12 +8,12 @@ use Rattle.map_shapes.specs.declared.point.Point.{Point}
 use Rattle.row_blocks.specs.Heights.{height_of}
 use Rattle.row_blocks.specs.Partitions.{IsInBlocks, IsMoved}
 use Rattle.range_ranks.specs.declared.growing.Carried.{Carried}
-use Rattle.range_ranks.specs.declared.rows.RangeRows.{RangeRows}
+use Rattle.range_ranks.specs.declared.rows.RangeTree.{RangeTree}
 use Rattle.range_ranks.specs.Heights.{rows_to, words_for}
 use Rattle.range_ranks.specs.Tree.{IsTop, AreLeaves, IsRow, IsTree, weight_of}
 
 -- there is room for all that a builder of this level takes
-pub record HasRoom (at_level : ℕ) (rows : RangeRows) : Type 0 where
+pub record HasRoom (at_level : ℕ) (rows : RangeTree) : Type 0 where
   pub small : at_level < 32
   pub abscissas : 2 ^ at_level ≤ rows.abscissas.capacity
   pub leaves : (2 ^ at_level + 15) / 16 ≤ rows.leaves.capacity
@@ -28,7 +28,7 @@ abbrev pub carried_of : List Point → ℕ → Carried
 carried_of points place = record { place = place; weight = weight_of points place }
 
 -- what was put so far, each point live
-pub record IsPutting (b : Progress Point) (rows : RangeRows) : Type 0 where
+pub record IsPutting (b : Progress Point) (rows : RangeTree) : Type 0 where
   pub room : HasRoom b.at_level rows
   pub none_left : rows.left ≡ 0
   pub abscissas : rows.abscissas.items ≡ map (λ p. p.x) b.items
@@ -39,7 +39,7 @@ pub record IsPutting (b : Progress Point) (rows : RangeRows) : Type 0 where
 
 -- Some rows are made, and of the next one the first `at` places: their points stand in the halves of their blocks in the row below. Behind the places
 -- of its points a row has some more, which fill its last word.
-pub record AreGrown (part : Contents Point) (rows : RangeRows) : Type 0 where
+pub record AreGrown (part : Contents Point) (rows : RangeTree) : Type 0 where
   pub count : ℕ
   pub row : ℕ → List ℕ
   pub lower : ℕ
@@ -62,7 +62,7 @@ pub record AreGrown (part : Contents Point) (rows : RangeRows) : Type 0 where
   pub left : rows.left + (64 * (count * words_for (length part.items)) + rows.at) ≡ rows_to rows.height * (64 * words_for (length part.items))
 
 -- after the seal
-pub record IsGrowing (part : Contents Point) (rows : RangeRows) : Type 0 where
+pub record IsGrowing (part : Contents Point) (rows : RangeTree) : Type 0 where
   pub room : HasRoom part.at_level rows
   pub few : length part.items ≤ 2 ^ part.at_level
   pub height : rows.height ≡ height_of (length part.items)
@@ -74,9 +74,9 @@ pub record IsGrowing (part : Contents Point) (rows : RangeRows) : Type 0 where
   pub ended : rows.left ≡ 0 → IsTree part rows
 
 -- what a part keeps: its tree, and room for all that its next builder takes
-pub record IsKept (part : Contents Point) (rows : RangeRows) : Type 0 where
+pub record IsKept (part : Contents Point) (rows : RangeTree) : Type 0 where
   pub room : HasRoom part.at_level rows
   pub tree : IsTree part rows
 
-pub IsKept-grown : (b : Progress Point) (rows : RangeRows) → IsGrowing (all_live b) rows → rows.left ≡ 0 → IsKept (all_live b) rows
+pub IsKept-grown : (b : Progress Point) (rows : RangeTree) → IsGrowing (all_live b) rows → rows.left ≡ 0 → IsKept (all_live b) rows
 IsKept-grown b rows growing none = record { room = growing.room; tree = growing.ended none }

@@ -7,12 +7,12 @@ use Rattle.builder_trait.specs.Parts.{Contents, IsPart}
 use Rattle.range_ranks.specs.declared.growing.Carried.{Carried}
 use Rattle.map_shapes.specs.declared.point.Point.{Point}
 use Rattle.rank_rows.specs.Ranked.{Ranked}
-use Rattle.range_ranks.specs.declared.rows.RangeRows.{RangeRows}
+use Rattle.range_ranks.specs.declared.rows.RangeTree.{RangeTree}
 use Rattle.range_ranks.specs.Heights.{rows_to}
 use Rattle.range_ranks.specs.Tree.{before, IsTop, AreRows, IsRow}
 
 -- the rows are those of a part that has a live point at a place
-pub record IsDying (part : Contents Point) (place : ℕ) (item : Point) (rows : RangeRows) : Type 0 where
+pub record IsDying (part : Contents Point) (place : ℕ) (item : Point) (rows : RangeTree) : Type 0 where
   pub valid : IsPart before part
   pub few : length part.items ≤ 2 ^ 31
   pub low : rows.height ≤ 31

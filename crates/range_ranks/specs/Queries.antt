@@ -15,7 +15,7 @@ use Rattle.range_ranks.specs.declared.scanning.Places.{Places}
 use Rattle.range_ranks.specs.declared.descending.Span.{Span}
 use Rattle.range_ranks.specs.declared.descending.Cut.{Cut}
 use Rattle.range_ranks.specs.declared.descending.Cut.TheVariants.{Outside, Whole, Halves}
-use Rattle.range_ranks.specs.declared.rows.RangeRows.{RangeRows}
+use Rattle.range_ranks.specs.declared.rows.RangeTree.{RangeTree}
 use Rattle.range_ranks.specs.Heights.{lowest, rows_to}
 use Rattle.range_ranks.specs.Tree.{nowhere}
 
@@ -71,7 +71,7 @@ abbrev pub image_of : List ℕ → (height start n : ℕ) → ℕ
 image_of whole height start n = start + length (block_of (λ p. p) height start (take n whole))
 
 -- the positions of a block whose entries are those of the second order from `low` on and below `high`
-pub record IsSpan (part : Contents Point) (rows : RangeRows) (low high : ℕ) (span : Span) : Type 0 where
+pub record IsSpan (part : Contents Point) (rows : RangeTree) (low high : ℕ) (span : Span) : Type 0 where
   pub ordered : low ≤ high
   pub within : high ≤ length part.places
   pub row : span.row < rows_to rows.height
@@ -89,7 +89,7 @@ abbrev pub is_at : Places → ℕ → Bool
 is_at places p = nat_le places.from p && nat_lt p places.to
 
 -- the live points of a span at some places
-abbrev pub live_in_span : Contents Point → RangeRows → (low high : ℕ) → Places → Span → List Point
+abbrev pub live_in_span : Contents Point → RangeTree → (low high : ℕ) → Places → Span → List Point
 live_in_span part rows low high places span =
     flat_map (live_at part) (filter (is_at places) (block_of (λ p. p) (rows.height - span.row) span.start (slice_range part.places low high)))
 
@@ -103,7 +103,7 @@ ends_inside height places span =
     is_inside span.start (2 ^ (height - span.row)) places.from + is_inside span.start (2 ^ (height - span.row)) places.to
 
 -- the halves of a span, in the next row
-pub record AreHalves (part : Contents Point) (rows : RangeRows) (low high : ℕ) (span first second : Span) : Type 0 where
+pub record AreHalves (part : Contents Point) (rows : RangeTree) (low high : ℕ) (span first second : Span) : Type 0 where
   pub first_row : first.row ≡ span.row + 1
   pub second_row : second.row ≡ span.row + 1
   pub first_start : first.start ≡ span.start
@@ -112,7 +112,7 @@ pub record AreHalves (part : Contents Point) (rows : RangeRows) (low high : ℕ)
   pub second_span : IsSpan part rows low high second
 
 -- how the block of a span stands to some places
-abbrev pub IsCut : Contents Point → RangeRows → (low high : ℕ) → Places → Span → Cut → Type 0
+abbrev pub IsCut : Contents Point → RangeTree → (low high : ℕ) → Places → Span → Cut → Type 0
 IsCut part rows low high places span Outside = live_in_span part rows low high places span ≡ []
 IsCut part rows low high places span Whole =
     (span.start < length part.items)

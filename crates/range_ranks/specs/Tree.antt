@@ -12,7 +12,7 @@ use Rattle.rank_rows.specs.Ranked.{Ranked, slice_of}
 use Rattle.range_ranks.specs.declared.entry.Entry.{Entry}
 use Rattle.range_ranks.specs.declared.growing.Carried.{Carried}
 use Rattle.range_ranks.specs.declared.leaves.Leaf.{Leaf}
-use Rattle.range_ranks.specs.declared.rows.RangeRows.{RangeRows}
+use Rattle.range_ranks.specs.declared.rows.RangeTree.{RangeTree}
 use Rattle.range_ranks.specs.Heights.{rows_to, words_for}
 
 -- the orders of points
@@ -71,7 +71,7 @@ pub record AreRows (part : Contents Point) (height count : ℕ) (ranks : Ranked)
   pub last : map (λ c. c.place) carried ≡ rows count
 
 -- the rows of the kind over a part
-pub record IsTree (part : Contents Point) (rows : RangeRows) : Type 0 where
+pub record IsTree (part : Contents Point) (rows : RangeTree) : Type 0 where
   pub few : length part.items ≤ 2 ^ 31
   pub height : rows.height ≡ height_of (length part.items)
   pub abscissas : rows.abscissas.items ≡ map (λ p. p.x) part.items

@@ -10,11 +10,11 @@ ghost use Rattle.range_ranks.specs.Measures.{measure_in};
 ghost use Rattle.range_ranks.specs.Tree.{IsTree};
 
 use crate::measure::Measure;
-use crate::rows::{LOWEST, RangeRows};
+use crate::rows::{LOWEST, RangeTree};
 use crate::scanning::Places;
+use builder_trait::Part;
 use builder_trait::flat::FlatPart;
-use builder_trait::{AnsweringRows, Part};
-use map_shapes::{CountIn, IdTally, ListIn, Point, Rect, SumIn};
+use map_shapes::{IdTally, Point, Rect};
 use query_laws::step_ledger::Steps;
 use query_laws::{NoMemory, Total};
 use std::sync::ledger::Ledger;
@@ -41,7 +41,7 @@ fn are_scanned(most: usize, places: Places, whole: Places) -> bool
     places.to - places.from <= most || whole.from == whole.to
 }
 
-impl RangeRows {
+impl RangeTree {
     /// Adds what the live points in a rectangle count for.
     pub(crate) fn add_measure<L: Ledger>(
         &self,
@@ -116,55 +116,5 @@ impl RangeRows {
         self.list_places(points, rect, front, tally, steps)?;
         self.list_places(points, rect, back, tally, steps)?;
         self.list_blocks(points, span, whole, tally, steps)
-    }
-}
-
-impl AnsweringRows<CountIn> for RangeRows {
-    ghost use Rattle.range_ranks.specs.Costs.{count_touches};
-
-    ghost ask_touches = { λ q part. count_touches part.items };
-
-    fn ask<L: Ledger>(
-        &self,
-        points: &FlatPart<Point>,
-        question: &CountIn,
-        tally: &mut Total,
-        steps: &mut Steps<L>,
-    ) -> Result<(), NoMemory> {
-        self.add_measure(points, &question.0, Measure::Count, tally, steps);
-        Ok(())
-    }
-}
-
-impl AnsweringRows<SumIn> for RangeRows {
-    ghost use Rattle.range_ranks.specs.Costs.{count_touches};
-
-    ghost ask_touches = { λ q part. count_touches part.items };
-
-    fn ask<L: Ledger>(
-        &self,
-        points: &FlatPart<Point>,
-        question: &SumIn,
-        tally: &mut Total,
-        steps: &mut Steps<L>,
-    ) -> Result<(), NoMemory> {
-        self.add_measure(points, &question.0, Measure::Weight, tally, steps);
-        Ok(())
-    }
-}
-
-impl AnsweringRows<ListIn> for RangeRows {
-    ghost use Rattle.range_ranks.specs.Costs.{list_touches};
-
-    ghost ask_touches = { λ q part. list_touches q.0 part };
-
-    fn ask<L: Ledger>(
-        &self,
-        points: &FlatPart<Point>,
-        question: &ListIn,
-        tally: &mut IdTally,
-        steps: &mut Steps<L>,
-    ) -> Result<(), NoMemory> {
-        self.list_points(points, &question.0, tally, steps)
     }
 }

@@ -10,7 +10,7 @@ ghost use Rattle.range_ranks.specs.Queries.{AreWithinOrdinates, AreWhole, IsSpan
 ghost use Rattle.range_ranks.specs.Costs.{blocks_touches};
 
 use crate::measure::Measure;
-use crate::rows::RangeRows;
+use crate::rows::RangeTree;
 use crate::scanning::Places;
 use crate::search::Reach;
 use builder_trait::flat::FlatPart;
@@ -36,7 +36,7 @@ pub(crate) enum Cut {
     Halves(Span, Span),
 }
 
-impl RangeRows {
+impl RangeTree {
     /// The positions of the first row whose ordinates are in the rectangle: two binary searches.
     pub(crate) fn span_in<L: Ledger>(
         &self,

@@ -6,7 +6,7 @@ ghost use Rattle.map_shapes.specs.declared.point.Point.{Point};
 ghost use Rattle.range_ranks.specs.Heights.{words_for};
 ghost use Rattle.range_ranks.specs.Growing.{AreGrown, IsGrowing};
 
-use crate::rows::RangeRows;
+use crate::rows::RangeTree;
 use query_laws::step_ledger::Steps;
 use row_blocks::block_len;
 use std::mem;
@@ -19,7 +19,7 @@ pub(crate) struct Carried {
     pub(crate) weight: u32,
 }
 
-impl RangeRows {
+impl RangeTree {
     /// Carries the next point of a row into its half of its block, or fills the last word of the row: five touches at most.
     pub(crate) fn carry_next<L: Ledger>(&mut self, steps: &mut Steps<L>)
         requires growing { (part : Contents Point) × IsGrowing part self.old }

@@ -3,7 +3,7 @@ ghost use Rattle.std.specs.Prelude.{◌≡◌, ◌≢◌, ◌+◌, ◌/◌, ◌%
 ghost use Rattle.query_laws.specs.StepLedger.{Spends};
 ghost use Rattle.range_ranks.specs.Tree.{ordinate_at, nowhere};
 
-use crate::rows::RangeRows;
+use crate::rows::RangeTree;
 use query_laws::step_ledger::Steps;
 use std::sync::ledger::Ledger;
 
@@ -31,7 +31,7 @@ impl Leaf {
     }
 }
 
-impl RangeRows {
+impl RangeTree {
     /// Puts the ordinate of the next point.
     pub(crate) fn put_leaf<L: Ledger>(&mut self, place: usize, y: u32, steps: &mut Steps<L>)
         requires next { length self.old.leaves.items ≡ (place + 15) / 16 }

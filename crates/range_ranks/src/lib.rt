@@ -7,10 +7,11 @@
 //! that a rectangle takes whole, two of each row at most. Places at both ends that no block of `2^9` places has are scanned, by
 //! ordinates that stand apart from the points.
 //!
-//! A part keeps its points by the flat kind, and these rows beside them.
+//! A part keeps its points by the flat kind, and these rows beside them, in a box.
 #![tactic(auto)]
 
 mod answers;
+mod boxed;
 mod descending;
 mod entry;
 mod growing;
@@ -23,4 +24,4 @@ mod rows;
 mod scanning;
 mod search;
 
-pub use rows::{RangeBuilder, RangePart, RangeRows};
+pub use boxed::{RangeBuilder, RangePart, RangeRows};

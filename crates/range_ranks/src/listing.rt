@@ -15,7 +15,7 @@ ghost use Rattle.range_ranks.specs.declared.scanning.Places.{Places};
 ghost use Rattle.range_ranks.specs.declared.descending.Cut.TheVariants.{Whole};
 
 use crate::descending::{Cut, Span};
-use crate::rows::{RangeRows, rows_for};
+use crate::rows::{RangeTree, rows_for};
 use crate::scanning::Places;
 use builder_trait::Part;
 use builder_trait::flat::FlatPart;
@@ -67,7 +67,7 @@ fn next_live<L: Ledger>(
     ranks.nth_live(row, start, to, rank, steps)
 }
 
-impl RangeRows {
+impl RangeTree {
     /// The place in the first order of the point at k of a row.
     fn place_of<L: Ledger>(&self, row: u32, k: usize, steps: &mut Steps<L>) -> usize
         requires low { self.now.height ≤ 31 }

@@ -9,7 +9,7 @@ ghost use Rattle.range_ranks.specs.declared.growing.Carried.{Carried};
 ghost use Rattle.range_ranks.specs.Marks.{IsDying, IsFalling};
 
 use crate::entry::Entry;
-use crate::rows::{RangeRows, rows_for};
+use crate::rows::{RangeTree, rows_for};
 use crate::search::Preceding;
 use builder_trait::partition_point;
 use map_shapes::Point;
@@ -39,7 +39,7 @@ fn mark_down<L: Ledger>(
     }
 }
 
-impl RangeRows {
+impl RangeTree {
     /// Takes a point out of each row: it is found in the first one, and then followed down.
     pub(crate) fn mark_rows<L: Ledger>(&mut self, place: usize, item: &Point, steps: &mut Steps<L>)
         requires some { 0 < rows_to self.old.height }

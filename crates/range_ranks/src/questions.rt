@@ -7,7 +7,7 @@ ghost use Rattle.map_shapes.specs.Rect.{rect_of};
 ghost use Rattle.range_ranks.specs.Costs.{question_touches, question_touches-few};
 ghost use Rattle.range_ranks.specs.QuestionLaws.{count_in-scan, weight_in-scan, ids_in-scan, count-touches, list-touches, most_touches, counting, listing};
 
-use crate::rows::RangeRows;
+use crate::boxed::RangeRows;
 use map_kinds::{MapQuestion, MapRows};
 use map_shapes::{CountIn, ListIn, SumIn};
 

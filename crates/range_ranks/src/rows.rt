@@ -1,4 +1,4 @@
-//! The rows of the kind, from when the points are put until they are read.
+//! The tree of rows, from when the points are put until they are read.
 ghost use Rattle.std.specs.Prelude.{◌≡◌, ◌≤◌};
 ghost use Rattle.range_ranks.specs.Heights.{rows_to};
 
@@ -6,7 +6,7 @@ use crate::entry::Entry;
 use crate::growing::Carried;
 use crate::leaves::{LEAF_LEN, Leaf};
 use builder_trait::flat::{FlatBuilder, FlatPart};
-use builder_trait::{Part, Rows, RowsBuilder, RowsPart};
+use builder_trait::{Part, Rows};
 use map_shapes::Point;
 use query_laws::NoMemory;
 use query_laws::step_ledger::{Row, Steps};
@@ -14,18 +14,6 @@ use rank_rows::RankRows;
 use row_blocks::height_of;
 use std::alloc::Global;
 use std::sync::ledger::Ledger;
-
-/// Points of which any rectangle can be counted, weighed and listed, and which are marked as dead (weak deletion, Overmars 1983). Only a
-/// [`RangeBuilder`] makes one.
-///
-/// Let h be the least number such that there are at most `2^h` points. A [`CountIn`](map_shapes::CountIn) and a
-/// [`SumIn`](map_shapes::SumIn) touch at most `16 * (h + 2)^2` entries, a [`ListIn`](map_shapes::ListIn) at most `8 * (h + 2)` more
-/// for each point that it lists, and a mark at most `16 * (h + 2)^2`. Nothing takes memory but the tally of a `ListIn`.
-pub type RangePart = RowsPart<RangeRows>;
-
-/// A [`RangePart`] under construction: a turn carries one point of one row into its half of its block, h - 8 turns for each of `2^h`
-/// points, and at most 63 more a row, which fill its last word. `room` takes all the memory, and the part keeps it.
-pub type RangeBuilder = RowsBuilder<RangeRows>;
 
 /// The lowest blocks that have a row have `2^9` places.
 pub(crate) const LOWEST: u32 = 9;
@@ -35,7 +23,7 @@ pub(crate) const LOWEST: u32 = 9;
 /// While it grows, the row that is made is carried from `source` into `target`, as far as `at`. In the end `source` has the points of the
 /// lowest row's halves.
 #[derive(Drop)]
-pub struct RangeRows {
+pub(crate) struct RangeTree {
     pub(crate) abscissas: Row<u32>,
     pub(crate) leaves: Row<Leaf>,
     pub(crate) top: Row<Entry>,
@@ -55,7 +43,7 @@ pub(crate) fn rows_for(height: u32) -> u32
     (height + 1).saturating_sub(LOWEST)
 }
 
-impl Rows for RangeRows {
+impl Rows for RangeTree {
     ghost use Rattle.std.specs.Prelude.{◌≡◌, ◌*◌, ◌+◌, refl};
     ghost use Rattle.std.proofs.Common.{arith};
     ghost use Rattle.range_ranks.specs.Costs.{mark_touches-rise};
@@ -81,11 +69,11 @@ impl Rows for RangeRows {
 
     ghost IsDone = { IsKept };
 
-    fn room(alloc: Global, level: u32) -> Result<RangeRows, NoMemory> {
+    fn room(alloc: Global, level: u32) -> Result<RangeTree, NoMemory> {
         let cap = 2usize.pow(level);
         let rows = rows_for(level);
         let moved = if rows > 0 { cap } else { 0 };
-        Ok(RangeRows {
+        Ok(RangeTree {
             abscissas: Row::room(alloc, cap)?,
             leaves: Row::room(alloc, cap.div_ceil(LEAF_LEN))?,
             top: Row::room(alloc, moved)?,

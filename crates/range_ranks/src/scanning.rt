@@ -11,7 +11,7 @@ ghost use Rattle.range_ranks.specs.Queries.{AreWithinAbscissas, IsLeafOf, has_or
 
 use crate::leaves::{LEAF_LEN, Leaf};
 use crate::measure::Measure;
-use crate::rows::RangeRows;
+use crate::rows::RangeTree;
 use crate::search::Reach;
 use builder_trait::flat::FlatPart;
 use builder_trait::{Part, partition_point};
@@ -203,7 +203,7 @@ fn list_leaf<L: Ledger>(
     Ok(())
 }
 
-impl RangeRows {
+impl RangeTree {
     /// The places whose points have abscissas in the rectangle: two binary searches.
     pub(crate) fn places_in<L: Ledger>(
         &self,
