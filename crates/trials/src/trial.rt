@@ -17,7 +17,7 @@ use std::{fs, mem};
 /// The most updates after the first inserts where answers are compared.
 const COMPARED_UPDATES: usize = 128;
 
-/// How often each question is asked before all updates where answers are compared; afterwards it is twice each time.
+/// How often each question is asked before all updates, and when nine tenths are deleted, where answers are compared; else it is twice each time.
 const SWEPT: usize = 17;
 
 /// How something is tried. Where the items lie densely, answers are compared with those of a plain list, and elsewhere costs are told.
@@ -179,12 +179,16 @@ impl<K: Kind, T: Tried<RowsBuilder<K>>> Trial<K, T> {
         self.tell_costs(T::UPDATES.0, bench)
     }
 
-    /// Deletes all items and asks each question, where answers are compared.
+    /// Deletes all items, where answers are compared. It asks each question once nine tenths are deleted, and at the end.
     fn empty<L: Ledger>(&mut self, bench: &mut Bench<L>) -> Outcome {
         if !self.is_compared() {
             return Ok(());
         }
-        for pick in 0..self.items.len() {
+        let all = self.items.len();
+        for pick in 0..all {
+            if pick == all - all / 10 {
+                self.ask_each(SWEPT, bench)?;
+            }
             self.change(Change::Delete(pick), bench)?;
         }
         self.ask_each(2, bench)
