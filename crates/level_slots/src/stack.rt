@@ -12,7 +12,7 @@ ghost use Rattle.level_slots.specs.Preparing.{AreKept, KeepMore, TakeMemory};
 ghost use Rattle.level_slots.specs.Height.{IsHeight, HaveAtMost, HaveFewParts, size_of};
 ghost use Rattle.stack_levels.specs.Asked.{AreThreeAtMost, HasAsked};
 ghost use Rattle.stack_levels.specs.Level.{IsOfLevel};
-ghost use Rattle.stack_levels.specs.Cost.{IsWithin, quotas};
+ghost use Rattle.stack_levels.specs.Cost.{IsWithin, IsCostOfDelete, quotas};
 ghost use Rattle.stack_levels.specs.Towers.{AreOnTime, TakeTicks};
 ghost use Rattle.level_slots.specs.Rooms.{rooms_of, kept_in, forecast_of};
 
@@ -114,14 +114,10 @@ impl<B: Builder> Stack<B> {
         ensures ticks { TakeTicks self.old.levels self.new.levels }
         ensures spare { self.old.spare ≤ self.new.spare + 1 }
 
-        // Whichever bound g there is, as for an insert; and a mark for each part that is asked.
-        ensures cost { (g : ℕ) → weight_of self.new.levels < 2 ^ (g + 1)
-            → IsWithin (quotas B.SLOPE B.BASE 1 g)
-            (2 * g + asked B.Part.Part.contents B.Item.stamp (B.Item.stamp item.now) self.old.levels)
-            (B.Part.Part.mark_touches g) steps.old steps.new }
-
-        // Each of these is asked, and none twice: the other marks, at most two a level, are of items that waited.
-        ensures all_asked { asked B.Part.Part.contents B.Item.stamp (B.Item.stamp item.now) self.old.levels ≤ steps.new.marks - steps.old.marks }
+        // Whichever bound g there is, as for an insert; and a mark for each part that is asked: no fewer marks than these, and at most two more a
+        // level.
+        ensures cost { IsCostOfDelete B.SLOPE B.BASE B.Part.Part.mark_touches
+            (asked B.Part.Part.contents B.Item.stamp (B.Item.stamp item.now) self.old.levels) self.new.levels steps.old steps.new }
 
         // At most three of each level up to g, and no part weighs more.
         ensures few_asked { (g : ℕ) → weight_of self.new.levels < 2 ^ (g + 1)

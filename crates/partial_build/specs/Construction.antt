@@ -1,5 +1,5 @@
 -- What contracts see of a construction: a new part made of two older ones, some ticks at a time, while items of these still die.
-use Rattle.std.specs.Prelude.{◌≡◌, ℕ, ◌+◌, ◌-◌, ◌*◌, ◌^◌, ◌<◌, ◌≤◌, ◌&&◌, Bool, true, false, not, if◌then◌else◌, Option, Some, None, List, [], ◌++◌, length, map, All, ◌⊎◌, slice_get, slice_index_or}
+use Rattle.std.specs.Prelude.{◌≡◌, ℕ, ◌+◌, ◌-◌, ◌*◌, ◌^◌, ◌<◌, ◌≤◌, ◌&&◌, Bool, true, false, not, if◌then◌else◌, Option, Some, None, List, [], ◌++◌, min, length, map, All, ◌⊎◌, slice_get, slice_index_or}
 use Rattle.std.specs.List.{items_where_true}
 use Rattle.std.specs.Option.{is_some}
 use Rattle.query_laws.specs.Orders.{AllStampsDiffer}
@@ -34,11 +34,18 @@ module _ {Item : Type 0} where
   turns_left kind c =
       c.merge.left + (if c.part.is_sealed then c.part.left else 2 ^ (c.level - 1) * (kind.slope * c.level + kind.base))
 
-  -- The turns that were taken: of a builder that is sealed just so many fewer are left, so that none is taken once it has ended; and before the seal
-  -- no more are taken than may be left.
+  -- The turns of a tick: at most its quota, and fewer only where the part is built after it. Of a builder that is sealed just so many fewer are left,
+  -- so that none is taken once it has ended; and before the seal no more are taken than may be left.
   pub record AreTaken (kind : PartKind Item) (turns : ℕ) (old new : Construction Item) : Type 0 where
+    pub few : turns ≤ quota kind.slope kind.base old.level
+    pub whole : turns < quota kind.slope kind.base old.level → new.part.is_built ≡ true
     pub most : turns_left kind new + turns ≤ turns_left kind old
     pub exact : old.part.is_sealed ≡ true → turns_left kind new + turns ≡ turns_left kind old
+
+  -- The marks of a tick: where the part is built after it those of two items that waited, or of all where fewer did; and just these wait no longer.
+  pub record AreDrained (marks : ℕ) (old new : Construction Item) : Type 0 where
+    pub two : marks ≡ (if new.part.is_built then min 2 (length old.waiting) else 0)
+    pub fewer : length new.waiting + marks ≡ length old.waiting
 
   -- Right after a tick, and before an item is noted: what is left can be done in the ticks to come.
   pub record IsOnTime (kind : PartKind Item) (c : Construction Item) : Type 0 where

@@ -6,7 +6,7 @@ ghost use Rattle.builder_trait.specs.Parts.{Contents, marked, live_of};
 ghost use Rattle.builder_trait.specs.Builders.{begun, all_live};
 ghost use Rattle.ordered_merge.specs.Merging.{unbegun, is_passed};
 ghost use Rattle.partial_build.specs.Quota.{quota};
-ghost use Rattle.partial_build.specs.Construction.{Builds, AreTaken, IsOnTime, IsPublished, turns_left};
+ghost use Rattle.partial_build.specs.Construction.{Builds, AreTaken, AreDrained, IsOnTime, IsPublished, turns_left};
 
 use crate::new_part::NewPart;
 use crate::room::Tables;
@@ -88,11 +88,8 @@ impl<B: Builder> Build<B> {
         ensures builds { Builds ⟦<B as Kinded>⟧.kind self.new (B.Part.Part.contents a.now) (B.Part.Part.contents b.now) }
         ensures ticked { (self.new.level ≡ self.old.level) × (self.new.ticks ≡ self.old.ticks + 1) }
         ensures on_time { IsOnTime ⟦<B as Kinded>⟧.kind self.new }
-        ensures turns { steps.new.turns - steps.old.turns ≤ quota B.SLOPE B.BASE self.old.level }
-        ensures all_turns { steps.new.turns - steps.old.turns < quota B.SLOPE B.BASE self.old.level → self.new.part.is_built ≡ true }
         ensures taken { AreTaken ⟦<B as Kinded>⟧.kind (steps.new.turns - steps.old.turns) self.old self.new }
-        ensures marks { steps.new.marks - steps.old.marks ≡ (if self.new.part.is_built then min 2 (length self.old.waiting) else 0) }
-        ensures drained { length self.new.waiting + (steps.new.marks - steps.old.marks) ≡ length self.old.waiting }
+        ensures drained { AreDrained (steps.new.marks - steps.old.marks) self.old self.new }
         ensures cost { let turns = steps.new.turns - steps.old.turns in let marks = steps.new.marks - steps.old.marks in
             Spends steps.old steps.new turns marks (16 * turns + marks * B.Part.Part.mark_touches self.old.level) }
     {

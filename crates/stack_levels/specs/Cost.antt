@@ -1,8 +1,11 @@
 -- What the ticks of a stack cost.
-use Rattle.std.specs.Prelude.{ℕ, ◌+◌, ◌-◌, ◌*◌, ◌≤◌, sum_by}
+use Rattle.std.specs.Prelude.{◌≡◌, ℕ, ◌+◌, ◌-◌, ◌*◌, ◌^◌, ◌<◌, ◌≤◌, List, length, sum_by}
 use Rattle.std.specs.List.{range_with_len}
 use Rattle.query_laws.specs.StepLedger.{Counts, Spends}
+use Rattle.builder_trait.specs.Builders.{PartKind}
 use Rattle.partial_build.specs.Quota.{quota}
+use Rattle.stack_levels.specs.Slots.{Slots, turns_to_go}
+use Rattle.stack_levels.specs.Levels.{weight_of}
 
 -- the quotas of the levels from one to another, both included
 abbrev pub quotas : ℕ → ℕ → ℕ → ℕ → ℕ
@@ -14,3 +17,15 @@ pub record IsWithin (turns marks touches : ℕ) (old new : Counts) : Type 0 wher
   pub few_marks : new.marks - old.marks ≤ marks
   pub spent : Spends old new (new.turns - old.turns) (new.marks - old.marks)
       (16 * (new.turns - old.turns) + (new.marks - old.marks) * touches)
+
+module _ {P Item : Type 0} where
+  -- what a visit of a level costs: nothing where the level below has fewer than two parts; and no more turns than the construction has to go
+  pub record IsCostOfVisit (kind : PartKind Item) (touches : ℕ → ℕ) (old lower : Slots P Item) (before after : Counts) : Type 0 where
+    pub idle : length lower.parts < 2 → after ≡ before
+    pub to_go : after.turns - before.turns ≤ turns_to_go kind old
+    pub within : IsWithin (quota kind.slope kind.base old.level) 2 (touches old.level) before after
+
+  -- what a delete costs in which so many parts are asked for the item, whichever bound g there is: a mark for each of these, beside what the tick costs
+  pub record IsCostOfDelete (slope base : ℕ) (touches : ℕ → ℕ) (asked : ℕ) (new : List (Slots P Item)) (before after : Counts) : Type 0 where
+    pub within : (g : ℕ) → weight_of new < 2 ^ (g + 1) → IsWithin (quotas slope base 1 g) (2 * g + asked) (touches g) before after
+    pub all_asked : asked ≤ after.marks - before.marks

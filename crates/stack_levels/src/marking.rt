@@ -8,7 +8,7 @@ ghost use Rattle.stack_levels.specs.Slots.{Slots, IsPartOf, ticks_of, held_in, l
 ghost use Rattle.stack_levels.specs.Levels.{weight_of, live_items, all_items, asked};
 ghost use Rattle.stack_levels.specs.Neighbours.{IsConstructionOf, IsPunctual};
 ghost use Rattle.stack_levels.specs.Towers.{IsDue, IsDueSoon, IsTower, HaveRoomsAbove, AreLevels, AreOnTime, TakeTicks};
-ghost use Rattle.stack_levels.specs.Cost.{IsWithin, quotas};
+ghost use Rattle.stack_levels.specs.Cost.{IsCostOfDelete};
 ghost use Rattle.stack_levels.specs.Marking.{IsLiveIn, AreNoted, IsMarked, IsSameBelow, AreMarked};
 
 use crate::level::Level;
@@ -124,11 +124,8 @@ pub fn take_out<B: Builder, L: Ledger>(
     ensures each { TakeTicks levels.old levels.new }
     ensures held { map held_in levels.new ≡ map held_in levels.old }
     ensures rooms { HaveRoomsAbove IsDueSoon levels.old → HaveRoomsAbove IsDue levels.new }
-    ensures cost { (g : ℕ) → weight_of levels.new < 2 ^ (g + 1)
-        → IsWithin (quotas B.SLOPE B.BASE 1 g)
-        (2 * g + asked B.Part.Part.contents B.Item.stamp (B.Item.stamp item.now) levels.old)
-        (B.Part.Part.mark_touches g) steps.old steps.new }
-    ensures all_asked { asked B.Part.Part.contents B.Item.stamp (B.Item.stamp item.now) levels.old ≤ steps.new.marks - steps.old.marks }
+    ensures cost { IsCostOfDelete B.SLOPE B.BASE B.Part.Part.mark_touches
+        (asked B.Part.Part.contents B.Item.stamp (B.Item.stamp item.now) levels.old) levels.new steps.old steps.new }
 {
     mark_in(levels, item, steps);
     take_tick(levels, steps);

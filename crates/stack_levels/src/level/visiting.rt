@@ -1,10 +1,9 @@
 //! What one tick does at a level.
-ghost use Rattle.std.specs.Prelude.{◌≡◌, ◌+◌, ◌-◌, ◌^◌, ◌<◌, ◌≤◌, true, None, length};
+ghost use Rattle.std.specs.Prelude.{◌≡◌, ◌+◌, ◌^◌, ◌<◌, ◌≤◌, true, None, length};
 ghost use Rattle.query_laws.specs.Orders.{AllStampsDiffer};
-ghost use Rattle.partial_build.specs.Quota.{quota};
-ghost use Rattle.stack_levels.specs.Slots.{ticks_of, turns_to_go, held_in, items_in};
+ghost use Rattle.stack_levels.specs.Slots.{ticks_of, held_in, items_in};
 ghost use Rattle.stack_levels.specs.Neighbours.{IsBelow, IsVisited, IsPunctual};
-ghost use Rattle.stack_levels.specs.Cost.{IsWithin};
+ghost use Rattle.stack_levels.specs.Cost.{IsCostOfVisit};
 
 use crate::level::Level;
 use builder_trait::{Builder, Kinded, Part};
@@ -30,11 +29,9 @@ impl<B: Builder> Level<B> {
         ensures same_below { lower.new ≡ record lower.old { parts = lower.new.parts; kept = lower.new.kept } }
         ensures held { held_in self.new ≡ held_in self.old }
         ensures held_below { held_in lower.new ≡ held_in lower.old }
-        ensures idle { length lower.old.parts < 2 → steps.new ≡ steps.old }
 
-        // None of a construction whose part is built.
-        ensures to_go { steps.new.turns - steps.old.turns ≤ turns_to_go ⟦<B as Kinded>⟧.kind self.old }
-        ensures cost { IsWithin (quota B.SLOPE B.BASE self.old.level) 2 (B.Part.Part.mark_touches self.old.level) steps.old steps.new }
+        // No turn of a construction whose part is built.
+        ensures cost { IsCostOfVisit ⟦<B as Kinded>⟧.kind B.Part.Part.mark_touches self.old lower.old steps.old steps.new }
     {
         let [a, b, ..] = lower.parts() else {
             return;

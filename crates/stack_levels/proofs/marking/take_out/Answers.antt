@@ -43,19 +43,19 @@ returns-clause-each g c =
     TakeTicks-from c.args.levels.now c.mark_in.new.levels c.take_tick.new.levels c.mark_in.ensures.marked.numbers c.mark_in.ensures.marked.clocks
     c.take_tick.ensures.each
 
-pub returns-clause-all_asked : goal.returns-clause-all_asked
-returns-clause-all_asked g c =
+pub returns-clause-cost : goal.returns-clause-cost
+returns-clause-cost g c =
+    let n = asked g.B.Part.Part.contents g.B.Item.Item.stamp (g.B.Item.Item.stamp c.args.item.now) c.args.levels.now in
     let old = weight_of c.args.levels.now in
     let mid = weight_of c.mark_in.new.levels in
-    omega (arith, (c.mark_in.ensures.cost old (below_power old)).marks_spent, (c.take_tick.ensures.cost mid (below_power mid)).spent.marks_spent)
-
-pub returns-clause-cost : goal.returns-clause-cost
-returns-clause-cost g c g' light =
-    let n = asked g.B.Part.Part.contents g.B.Item.Item.stamp (g.B.Item.Item.stamp c.args.item.now) c.args.levels.now in
-    let t = g.B.Part.Part.mark_touches g' in
-    let light_old : weight_of c.args.levels.now < 2 ^ (g' + 1) =
-    subst (λ w. w < 2 ^ (g' + 1)) (c.take_tick.ensures.ticked.weight ∙ c.mark_in.ensures.marked.weight) light in
-    let light_mid : weight_of c.mark_in.new.levels < 2 ^ (g' + 1) = subst (λ w. w < 2 ^ (g' + 1)) c.take_tick.ensures.ticked.weight light in
-    let first : IsWithin 0 n t c.args.steps.now c.mark_in.new.steps =
-    IsWithin-of (c.mark_in.ensures.cost g' light_old) (omega arith) (omega arith) (omega arith) in
-    IsWithin-more (IsWithin-then first (c.take_tick.ensures.cost g' light_mid)) (omega arith) (omega arith) (omega arith)
+    record {
+      within = λ g' light.
+          let t = g.B.Part.Part.mark_touches g' in
+          let light_old : weight_of c.args.levels.now < 2 ^ (g' + 1) =
+          subst (λ w. w < 2 ^ (g' + 1)) (c.take_tick.ensures.ticked.weight ∙ c.mark_in.ensures.marked.weight) light in
+          let light_mid : weight_of c.mark_in.new.levels < 2 ^ (g' + 1) = subst (λ w. w < 2 ^ (g' + 1)) c.take_tick.ensures.ticked.weight light in
+          let first : IsWithin 0 n t c.args.steps.now c.mark_in.new.steps =
+          IsWithin-of (c.mark_in.ensures.cost g' light_old) (omega arith) (omega arith) (omega arith) in
+          IsWithin-more (IsWithin-then first (c.take_tick.ensures.cost g' light_mid)) (omega arith) (omega arith) (omega arith);
+      all_asked = omega (arith, (c.mark_in.ensures.cost old (below_power old)).marks_spent, (c.take_tick.ensures.cost mid (below_power mid)).spent.marks_spent);
+    }

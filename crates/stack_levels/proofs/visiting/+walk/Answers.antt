@@ -97,10 +97,10 @@ returns-in-Some g p c =
           subst (λ n. IsWithin (quotas slope base (n + 1) g') (2 * (g' - n)) (touches g') c.visit.new.steps c.walk.new.steps)
           (ap (λ l. l.level) v.same ∙ next) (w.cost g' (lighter (weight-rest contents (kind g) v.visited above) light')) in
           ⊎_elim
-          (λ less. subst (λ s. IsWithin (quotas slope base (k + 1) g') (2 * (g' - k)) (touches g') s c.walk.new.steps) (v.idle less)
+          (λ less. subst (λ s. IsWithin (quotas slope base (k + 1) g') (2 * (g' - k)) (touches g') s c.walk.new.steps) (v.cost.idle less)
           (IsWithin-above slope base k g' rest))
           (λ two. IsWithin-level slope base touches g.met.B.Part.Part.mark_touches_rise k g'
-          (subst (λ n. IsWithin (quota slope base n) 2 (touches n) c.args.steps.now c.visit.new.steps) next v.cost)
+          (subst (λ n. IsWithin (quota slope base n) 2 (touches n) c.args.steps.now c.visit.new.steps) next v.cost.within)
           (light_below (length lower.parts) k g' (weight_of (level ∷ above)) two light') rest)
           (cases_lt (length lower.parts) 2);
     }

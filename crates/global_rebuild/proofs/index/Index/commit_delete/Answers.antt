@@ -121,7 +121,7 @@ main_delete : (g : Over) (c : After-delete g) (g' : ℕ) → 2 * live_in g.B.Par
 main_delete g c g' light =
     let lighter : weight_of c.delete.new.self.levels < 2 ^ (g' + 1) =
     omega (arith, main_few c.self.view_is c.self.invariant g' light, c.delete.ensures.weight) in
-    one_delete g' (c.delete.ensures.cost g' lighter) (c.delete.ensures.few_asked g' lighter)
+    one_delete g' (c.delete.ensures.cost.within g' lighter) (c.delete.ensures.few_asked g' lighter)
 
 pub returns-then-weight-live-clause-cost : goal.returns-then-weight-live-clause-cost
 returns-then-weight-live-clause-cost g c g' light = at_most_two (main_delete g (goal.at.returns-then-weight-live-clause-cost g c).After-delete g' light)

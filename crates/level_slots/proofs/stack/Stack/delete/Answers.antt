@@ -88,10 +88,7 @@ pub returns-clause-spare : goal.returns-clause-spare
 returns-clause-spare g c = omega (arith, c.requires.spare, ap (λ v. v.spare) c.self.view_is)
 
 pub returns-clause-cost : goal.returns-clause-cost
-returns-clause-cost g c g' light = rw (← seen g c) (c.take_out.ensures.cost g' (rw (whole g c) at light))
-
-pub returns-clause-all_asked : goal.returns-clause-all_asked
-returns-clause-all_asked g c = rw (← seen g c) c.take_out.ensures.all_asked
+returns-clause-cost g c = rw (whole g c, ← seen g c) c.take_out.ensures.cost
 
 pub returns-clause-few_asked : goal.returns-clause-few_asked
 returns-clause-few_asked g c g' light =

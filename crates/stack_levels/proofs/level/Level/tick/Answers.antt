@@ -36,7 +36,7 @@ returns-clause-cost g c =
     c.self.invariant.builds c.in-Some.construction c.in-Some.is ∙ ap (λ v. v.level) c.self.view_is in
     subst (λ k. IsWithin (quota g.B.Builder.SLOPE g.B.Builder.BASE k) 2 (g.B.Part.Part.mark_touches k) c.args.steps.now c.tick.new.steps) of_level
     (record {
-      few_turns = h.turns;
-      few_marks = subst (λ n. n ≤ 2) (sym h.marks) (at_most_two c.tick.new.self.part.is_built (length c.in-Some.construction.waiting));
+      few_turns = h.taken.few;
+      few_marks = subst (λ n. n ≤ 2) (sym h.drained.two) (at_most_two c.tick.new.self.part.is_built (length c.in-Some.construction.waiting));
       spent = h.cost;
     })

@@ -1,10 +1,11 @@
-use Rattle.std.proofs.Common.{◌≡◌, ◌+◌, ◌-◌, ◌^◌, ◌<◌, ◌≤◌, ◌⊎◌, ◌∙◌, Option, Some, None, true, List, ◌++◌, length, drop, refl, sym, ap, subst, inl, inr, ⊎_elim, arith}
+use Rattle.std.proofs.Common.{◌≡◌, ℕ, ◌+◌, ◌-◌, ◌^◌, ◌<◌, ◌≤◌, ◌⊎◌, ◌∙◌, Option, Some, None, true, List, ◌++◌, length, drop, refl, sym, ap, subst, inl, inr, ⊎_elim, arith}
 use Rattle.std.specs.Option.{is_some, option_map_or}
 use Rattle.std.proofs.lemmas.Bool.{cases_lt}
 use Rattle.builder_trait.specs.Builders.{PartKind}
 use Rattle.partial_build.specs.Construction.{turns_left}
 use Rattle.partial_build.specs.Quota.{quota}
 use Rattle.stack_levels.specs.Slots.{ticks_of, turns_to_go, items_in}
+use Rattle.stack_levels.specs.Cost.{IsWithin}
 use Rattle.stack_levels.specs.Neighbours.{IsVisited}
 use Rattle.stack_levels.proofs.Distinct.{AllStampsDiffer-part}
 use Rattle.stack_levels.proofs.Publishing.{are_oldest, oldest_items}
@@ -43,16 +44,21 @@ either : {A : Type 0} (o : Option A) → (o ≡ None) ⊎ (is_some o ≡ true)
 either None = inl refl
 either (Some x) = inr refl
 
-pub returns-clause-to_go : goal.returns-clause-to_go
-returns-clause-to_go g c =
+pub returns-clause-cost : goal.returns-clause-cost
+returns-clause-cost g c =
     let old = c.args.self.now in
     let taken = c.tick.new.steps.turns - c.args.steps.now.turns in
     let per_tick = quota g.B.Builder.SLOPE g.B.Builder.BASE in
-    let few : taken ≤ per_tick old.level = subst (λ n. taken ≤ per_tick n) (ap (λ v. v.level) c.begin.ensures.same) c.tick.ensures.cost.few_turns in
-    ⊎_elim
-    (λ none. subst (λ o. taken ≤ option_map_or (turns_left (kind g)) o (per_tick old.level)) (sym none) few)
-    (λ some. subst (λ l. taken ≤ turns_to_go (kind g) l) (c.begin.ensures.running some) c.tick.ensures.to_go)
-    (either old.construction)
+    let cost = λ (n : ℕ). IsWithin (per_tick n) 2 (g.B.Part.Part.mark_touches n) c.args.steps.now c.tick.new.steps in
+    let here : cost old.level = subst cost (ap (λ v. v.level) c.begin.ensures.same) c.tick.ensures.cost in
+    record {
+      idle = λ less. absurd (omega (arith, less, c.in-len2-up.len_at_least, ap length c.parts.ensures.value));
+      to_go = ⊎_elim
+          (λ none. subst (λ o. taken ≤ option_map_or (turns_left (kind g)) o (per_tick old.level)) (sym none) here.few_turns)
+          (λ some. subst (λ l. taken ≤ turns_to_go (kind g) l) (c.begin.ensures.running some) c.tick.ensures.to_go)
+          (either old.construction);
+      within = here;
+    }
 
 pub returns-clause-visited : goal.returns-clause-visited
 returns-clause-visited g c =
