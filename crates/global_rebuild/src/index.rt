@@ -3,7 +3,7 @@ ghost use Rattle.std.specs.Prelude.{◌≡◌, ℕ, ◌+◌, ◌-◌, ◌*◌, �
 ghost use Rattle.std.specs.Option.{is_some, option_map, option_map_or};
 ghost use Rattle.query_laws.specs.StepLedger.{Spends};
 ghost use Rattle.id_chain.specs.Chain.{Entry, HandlesDiffer, is_linked, item_at, IsCursor, before_cursor, without_handle};
-ghost use Rattle.stack_levels.specs.Levels.{live_items, all_items, weight_of, parts_of, touches_of};
+ghost use Rattle.stack_levels.specs.Levels.{live_items, all_items, waiting_of, weight_of, parts_of, touches_of};
 ghost use Rattle.level_slots.specs.Stack.{memory_of};
 ghost use Rattle.level_slots.specs.Rooms.{rooms_of};
 ghost use Rattle.level_slots.specs.Height.{HaveAtMost, AreFew, size_of};
@@ -113,6 +113,9 @@ impl<B: Builder> Index<B> {
         ensures held { HoldsAsMuch self.old self.new }
         ensures ticks { TakeTicks self.old.main.levels self.new.main.levels }
         ensures some_turns { steps.old.turns + 3 ≤ steps.new.turns }
+
+        // A mark for each item that waited and waits no longer.
+        ensures waiting { waiting_of self.new.main.levels + steps.new.marks ≡ waiting_of self.old.main.levels + steps.old.marks }
         ensures cost { (g : ℕ) → 2 * live_in B.Part.Part.contents self.old.main + 10 < 2 ^ (g + 1)
             → IsWithin (quotas B.SLOPE B.BASE 0 g) (2 * g) (B.Part.Part.mark_touches g) steps.old steps.new }
     {

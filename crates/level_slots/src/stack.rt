@@ -12,7 +12,7 @@ ghost use Rattle.level_slots.specs.Preparing.{AreKept, KeepMore, TakeMemory};
 ghost use Rattle.level_slots.specs.Height.{IsHeight, HaveAtMost, HaveFewParts, size_of};
 ghost use Rattle.stack_levels.specs.Asked.{AreThreeAtMost, HasAsked};
 ghost use Rattle.stack_levels.specs.Level.{IsOfLevel};
-ghost use Rattle.stack_levels.specs.Cost.{IsWithin, IsCostOfDelete, quotas};
+ghost use Rattle.stack_levels.specs.Cost.{IsWithin, IsCostOfInsert, IsCostOfDelete};
 ghost use Rattle.stack_levels.specs.Towers.{AreOnTime, TakeTicks};
 ghost use Rattle.level_slots.specs.Rooms.{rooms_of, kept_in, forecast_of};
 
@@ -90,9 +90,9 @@ impl<B: Builder> Stack<B> {
         // A part is made of the item.
         ensures some_turns { steps.old.turns + 3 ≤ steps.new.turns }
 
-        // Whichever bound g there is: the least is the greatest level with `2 ^ g` at most the weight.
-        ensures cost { (g : ℕ) → weight_of self.new.levels < 2 ^ (g + 1)
-            → IsWithin (quotas B.SLOPE B.BASE 0 g) (2 * g) (B.Part.Part.mark_touches g) steps.old steps.new }
+        // Whichever bound g there is: the least is the greatest level with `2 ^ g` at most the weight. The marks are one for each item that waited
+        // and waits no longer.
+        ensures cost { IsCostOfInsert B.SLOPE B.BASE 0 B.Part.Part.mark_touches self.old.levels self.new.levels steps.old steps.new }
     {
         let part = part_of(&mut self.starters, item, steps);
         take_in(&mut self.levels, part, steps);
@@ -114,10 +114,10 @@ impl<B: Builder> Stack<B> {
         ensures ticks { TakeTicks self.old.levels self.new.levels }
         ensures spare { self.old.spare ≤ self.new.spare + 1 }
 
-        // Whichever bound g there is, as for an insert; and a mark for each part that is asked: no fewer marks than these, and at most two more a
-        // level.
+        // Whichever bound g there is, as for an insert. The marks are one for each part that is asked, and one for each item that waited and waits
+        // no longer.
         ensures cost { IsCostOfDelete B.SLOPE B.BASE B.Part.Part.mark_touches
-            (asked B.Part.Part.contents B.Item.stamp (B.Item.stamp item.now) self.old.levels) self.new.levels steps.old steps.new }
+            (asked B.Part.Part.contents B.Item.stamp (B.Item.stamp item.now) self.old.levels) self.old.levels self.new.levels steps.old steps.new }
 
         // At most three of each level up to g, and no part weighs more.
         ensures few_asked { (g : ℕ) → weight_of self.new.levels < 2 ^ (g + 1)

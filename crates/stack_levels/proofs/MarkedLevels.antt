@@ -13,8 +13,8 @@ use Rattle.builder_trait.specs.Builders.{PartKind}
 use Rattle.builder_trait.specs.Parts.{Contents, OwnsStamp, has_stamp, without, live_of}
 use Rattle.ordered_merge.proofs.Fronts.{All-permuted}
 use Rattle.partial_build.proofs.Stamps.{same_place}
-use Rattle.stack_levels.specs.Slots.{Slots, IsPartOf, ticks_of, live_in, items_in, asked_in, held_in, one_if}
-use Rattle.stack_levels.specs.Levels.{live_items, all_items, asked}
+use Rattle.stack_levels.specs.Slots.{Slots, IsPartOf, ticks_of, waiting_in, live_in, items_in, asked_in, held_in, one_if}
+use Rattle.stack_levels.specs.Levels.{waiting_of, live_items, all_items, asked}
 use Rattle.stack_levels.specs.Neighbours.{stays}
 use Rattle.stack_levels.specs.Towers.{IsTower, IsDue, IsDueSoon, HaveRooms, HaveRoomsAbove, AreLevels, AreAllLevels, AreHalfway, HaveRoomsNow, HaveRoomsNext}
 use Rattle.stack_levels.specs.Marking.{AreNoted, IsSameBelow}
@@ -227,4 +227,20 @@ light_below n k g rest two light =
 
 pub AreNoted-refl : {P Item : Type 0} (levels : List (Slots P Item)) → AreNoted levels levels
 AreNoted-refl [] = refl
-AreNoted-refl (l ∷ above) = (l, refl, refl, refl, refl)
+AreNoted-refl (l ∷ above) = (l, refl, refl, refl, refl, omega arith, omega arith)
+
+-- one item more may wait, where one is noted
+pub waiting-noted : {P Item : Type 0} (above above' : List (Slots P Item)) → AreNoted above above'
+    → (waiting_of above ≤ waiting_of above') × (waiting_of above' ≤ waiting_of above + 1)
+waiting-noted [] above' noted = let same : waiting_of above' ≡ 0 = ap waiting_of noted in (omega (arith, same), omega (arith, same))
+waiting-noted (l ∷ rest) above' noted =
+    let same : waiting_of above' ≡ waiting_in noted.0 + waiting_of rest = ap waiting_of noted.1 in
+    (omega (arith, same, noted.5, noted.6), omega (arith, same, noted.5, noted.6))
+
+pub noted_if : {m n : ℕ} (found : Bool) → m ≤ n + 1 → (found ≡ false → m ≡ n) → m ≤ n + one_if found
+noted_if true few same = few
+noted_if false few same = omega (arith, same refl)
+
+pub one_at_most : (b : Bool) → one_if b ≤ 1
+one_at_most true = omega arith
+one_at_most false = omega arith

@@ -6,7 +6,7 @@ use Rattle.query_laws.proofs.Permutations.{Permuted-refl}
 use Rattle.builder_trait.specs.Builders.{PartKind}
 use Rattle.builder_trait.specs.Parts.{Contents}
 use Rattle.partial_build.specs.Construction.{Builds}
-use Rattle.stack_levels.specs.Slots.{Slots, ticks_of, clock_of, weight_in, live_in, items_in}
+use Rattle.stack_levels.specs.Slots.{Slots, ticks_of, waiting_in, clock_of, weight_in, live_in, items_in}
 use Rattle.stack_levels.specs.Neighbours.{IsBelow, IsVisited, IsConstructionOf, IsFed, stays, arrives, IsPublication, TakesTick, rests}
 use Rattle.stack_levels.proofs.Clocks.{TakesTick-more, TakesTick-last}
 use Rattle.stack_levels.proofs.Distinct.{IsPartOf-refl}
@@ -14,6 +14,9 @@ use Rattle.stack_levels.proofs.Publishing.{doubled, live-published, items-publis
 
 pub none_ticks : {P Item : Type 0} (l : Slots P Item) → l.construction ≡ None → ticks_of l ≡ 0
 none_ticks l none = ap (λ o. option_map_or (λ c. c.ticks) o 0) none
+
+pub none_waiting : {P Item : Type 0} (l : Slots P Item) → l.construction ≡ None → waiting_in l ≡ 0
+none_waiting l none = ap (λ o. option_map_or (λ c. length c.waiting) o 0) none
 
 pub not_some : {A : Type 0} (o : Option A) → is_some o ≡ false → o ≡ None
 not_some None none = refl

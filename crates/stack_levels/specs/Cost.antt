@@ -4,8 +4,8 @@ use Rattle.std.specs.List.{range_with_len}
 use Rattle.query_laws.specs.StepLedger.{Counts, Spends}
 use Rattle.builder_trait.specs.Builders.{PartKind}
 use Rattle.partial_build.specs.Quota.{quota}
-use Rattle.stack_levels.specs.Slots.{Slots, turns_to_go}
-use Rattle.stack_levels.specs.Levels.{weight_of}
+use Rattle.stack_levels.specs.Slots.{Slots, waiting_in, turns_to_go}
+use Rattle.stack_levels.specs.Levels.{waiting_of, weight_of}
 
 -- the quotas of the levels from one to another, both included
 abbrev pub quotas : ℕ → ℕ → ℕ → ℕ → ℕ
@@ -19,13 +19,23 @@ pub record IsWithin (turns marks touches : ℕ) (old new : Counts) : Type 0 wher
       (16 * (new.turns - old.turns) + (new.marks - old.marks) * touches)
 
 module _ {P Item : Type 0} where
-  -- what a visit of a level costs: nothing where the level below has fewer than two parts; and no more turns than the construction has to go
-  pub record IsCostOfVisit (kind : PartKind Item) (touches : ℕ → ℕ) (old lower : Slots P Item) (before after : Counts) : Type 0 where
+  -- What a visit of a level costs: nothing where the level below has fewer than two parts; no more turns than the construction has to go; and a mark
+  -- for each item that waited and waits no longer.
+  pub record IsCostOfVisit (kind : PartKind Item) (touches : ℕ → ℕ) (lower old new : Slots P Item) (before after : Counts) : Type 0 where
     pub idle : length lower.parts < 2 → after ≡ before
     pub to_go : after.turns - before.turns ≤ turns_to_go kind old
+    pub drained : waiting_in new + after.marks ≡ waiting_in old + before.marks
     pub within : IsWithin (quota kind.slope kind.base old.level) 2 (touches old.level) before after
 
-  -- what a delete costs in which so many parts are asked for the item, whichever bound g there is: a mark for each of these, beside what the tick costs
-  pub record IsCostOfDelete (slope base : ℕ) (touches : ℕ → ℕ) (asked : ℕ) (new : List (Slots P Item)) (before after : Counts) : Type 0 where
+  -- what an insert costs, whichever bound g there is, with the quotas from a level up: the marks are those of items that waited and wait no longer
+  pub record IsCostOfInsert (slope base from : ℕ) (touches : ℕ → ℕ) (old new : List (Slots P Item)) (before after : Counts) : Type 0 where
+    pub within : (g : ℕ) → weight_of new < 2 ^ (g + 1) → IsWithin (quotas slope base from g) (2 * g) (touches g) before after
+    pub drained : waiting_of new + after.marks ≡ waiting_of old + before.marks
+
+  -- What a delete costs in which so many parts are asked for the item, whichever bound g there is: beside one mark for each of these, the marks are
+  -- those of items that waited and wait no longer, where the item itself may have come to wait.
+  pub record IsCostOfDelete (slope base : ℕ) (touches : ℕ → ℕ) (asked : ℕ) (old new : List (Slots P Item)) (before after : Counts) : Type 0 where
     pub within : (g : ℕ) → weight_of new < 2 ^ (g + 1) → IsWithin (quotas slope base 1 g) (2 * g + asked) (touches g) before after
     pub all_asked : asked ≤ after.marks - before.marks
+    pub no_fewer : waiting_of old + asked + before.marks ≤ waiting_of new + after.marks
+    pub no_more : waiting_of new + after.marks ≤ waiting_of old + asked + 1 + before.marks

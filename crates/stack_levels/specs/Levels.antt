@@ -1,7 +1,7 @@
 -- What contracts see of levels one above the other, lowest first.
 use Rattle.std.specs.Prelude.{ℕ, ◌+◌, List, [], ◌∷◌, ◌++◌, if◌then◌else◌, length, sum_by}
 use Rattle.builder_trait.specs.Parts.{Contents, has_stamp}
-use Rattle.stack_levels.specs.Slots.{Slots, held_in, weight_in, live_in, items_in, asked_in}
+use Rattle.stack_levels.specs.Slots.{Slots, waiting_in, held_in, weight_in, live_in, items_in, asked_in}
 
 -- one more on the lowest of some levels
 abbrev pub one_more : List ℕ → List ℕ
@@ -21,6 +21,11 @@ module _ {P Item : Type 0} where
   abbrev pub weight_of : List (Slots P Item) → ℕ
   weight_of [] = 0
   weight_of (l ∷ above) = weight_in l + weight_of above
+
+  -- the items that wait to be marked in the parts under construction
+  abbrev pub waiting_of : List (Slots P Item) → ℕ
+  waiting_of [] = 0
+  waiting_of (l ∷ above) = waiting_in l + waiting_of above
 
   abbrev pub parts_of : List (Slots P Item) → ℕ
   parts_of [] = 0

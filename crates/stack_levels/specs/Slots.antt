@@ -33,6 +33,10 @@ module _ {P Item : Type 0} where
   abbrev pub clock_of : Slots P Item → Option ℕ
   clock_of l = option_map (λ c. c.ticks) l.construction
 
+  -- the items that wait to be marked in its part, 0 where none runs
+  abbrev pub waiting_in : Slots P Item → ℕ
+  waiting_in l = option_map_or (λ c. length c.waiting) l.construction 0
+
   -- the turns that a tick may take of it: those that it has left, and a quota where it begins
   abbrev pub turns_to_go : PartKind Item → Slots P Item → ℕ
   turns_to_go kind l = option_map_or (turns_left kind) l.construction (quota kind.slope kind.base l.level)

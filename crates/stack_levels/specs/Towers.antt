@@ -1,10 +1,10 @@
 -- The clocks of levels one above the other, and the rooms that they hold.
-use Rattle.std.specs.Prelude.{◌≡◌, ◌+◌, ◌^◌, ◌<◌, ◌≤◌, true, List, [], ◌∷◌, All, None, length, map}
+use Rattle.std.specs.Prelude.{◌≡◌, ◌+◌, ◌^◌, ◌<◌, ◌≤◌, true, List, [], ◌∷◌, ◌++◌, All, None, length, map}
 use Rattle.query_laws.specs.Permuted.{Permuted}
 use Rattle.builder_trait.specs.Builders.{PartKind}
-use Rattle.builder_trait.specs.Parts.{Contents}
+use Rattle.builder_trait.specs.Parts.{Contents, live_of}
 use Rattle.stack_levels.specs.Slots.{Slots, IsPartOf, ticks_of, clock_of, held_in}
-use Rattle.stack_levels.specs.Levels.{weight_of, live_items, all_items}
+use Rattle.stack_levels.specs.Levels.{one_more, waiting_of, weight_of, live_items, all_items}
 use Rattle.stack_levels.specs.Neighbours.{IsBelow, IsPunctual, TakesTick}
 
 module _ {P Item : Type 0} where
@@ -86,3 +86,11 @@ module _ {P Item : Type 0} (contents : P → Contents Item) where
     pub items : IsPartOf (all_items contents new) (all_items contents old)
     pub weight : weight_of new ≡ weight_of old
     pub held : map held_in new ≡ map held_in old
+
+  -- what the arrival of a part leaves of levels: its items are there too, the weight is one more, the lowest level holds one more, and as many items wait
+  pub record HasArrived (part : Contents Item) (old new : List (Slots P Item)) : Type 0 where
+    pub live : Permuted (live_items contents new) (live_of part ++ live_items contents old)
+    pub items : Permuted (all_items contents new) (part.items ++ all_items contents old)
+    pub weight : weight_of new ≡ weight_of old + 1
+    pub held : map held_in new ≡ one_more (map held_in old)
+    pub waiting : waiting_of new ≡ waiting_of old

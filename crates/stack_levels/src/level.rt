@@ -6,7 +6,7 @@ ghost use Rattle.query_laws.specs.Orders.{AllStampsDiffer};
 ghost use Rattle.query_laws.specs.StepLedger.{Spends};
 ghost use Rattle.builder_trait.specs.Parts.{OwnsStamp, has_stamp, marked, live_of};
 ghost use Rattle.partial_build.specs.Quota.{quota};
-ghost use Rattle.stack_levels.specs.Slots.{ticks_of, turns_to_go, held_in, live_in, items_in, asked_in, IsIdle};
+ghost use Rattle.stack_levels.specs.Slots.{ticks_of, waiting_in, turns_to_go, held_in, live_in, items_in, asked_in, IsIdle};
 ghost use Rattle.stack_levels.specs.Level.{IsOfLevel};
 ghost use Rattle.stack_levels.specs.Neighbours.{IsConstructionOf, IsFed, IsPunctual, IsPublication};
 ghost use Rattle.stack_levels.specs.Marking.{IsLiveIn, AreMarkedAt};
@@ -150,6 +150,7 @@ impl<B: Builder> Level<B> {
         ensures runs { is_some self.new.construction ≡ true }
         ensures same { self.new ≡ record self.old { construction = self.new.construction; has_room = self.new.has_room } }
         ensures ticks { ticks_of self.new ≡ ticks_of self.old }
+        ensures waiting { waiting_in self.new ≡ waiting_in self.old }
         ensures running { is_some self.old.construction ≡ true → self.new ≡ self.old }
         ensures held { held_in self.new ≡ held_in self.old }
     {
@@ -182,6 +183,9 @@ impl<B: Builder> Level<B> {
         ensures ticked { ticks_of self.new ≡ ticks_of self.old + 1 }
         ensures punctual { IsPunctual ⟦<B as Kinded>⟧.kind self.new }
         ensures to_go { steps.new.turns - steps.old.turns ≤ turns_to_go ⟦<B as Kinded>⟧.kind self.old }
+
+        // A mark for each item that waited and waits no longer.
+        ensures waiting { waiting_in self.new + steps.new.marks ≡ waiting_in self.old + steps.old.marks }
         ensures cost { IsWithin (quota B.SLOPE B.BASE self.old.level) 2 (B.Part.Part.mark_touches self.old.level) steps.old steps.new }
     {
         match &mut self.construction {
@@ -204,6 +208,7 @@ impl<B: Builder> Level<B> {
         ensures same_below { lower.new ≡ record lower.old { parts = lower.new.parts; kept = lower.new.kept } }
         ensures held { held_in self.new ≡ held_in self.old }
         ensures held_below { held_in lower.new ≡ held_in lower.old }
+        ensures waiting { waiting_in self.new ≡ waiting_in self.old }
     {
         if let Some(construction) = self.take_ended() {
             let (part, tables) = construction.publish();
@@ -271,6 +276,7 @@ impl<B: Builder> Level<B> {
         ensures same { self.new ≡ record self.old { construction = self.new.construction } }
         ensures ticks { ticks_of self.new ≡ ticks_of self.old }
         ensures runs { is_some self.new.construction ≡ is_some self.old.construction }
+        ensures waiting { (waiting_in self.old ≤ waiting_in self.new) × (waiting_in self.new ≤ waiting_in self.old + 1) }
 
         // Whichever the parts are: with the one in which it stood live and is marked now.
         ensures of_a { (a b a' : B.Part) → IsLiveIn (B.Part.Part.contents a) item.now

@@ -90,7 +90,7 @@ fn mark_in<B: Builder, L: Ledger>(
     ensures same { IsSameBelow levels.old levels.new }
     ensures rooms { HaveRoomsAbove IsDue levels.old → HaveRoomsAbove IsDue levels.new }
     ensures rooms_ahead { HaveRoomsAbove IsDueSoon levels.old → HaveRoomsAbove IsDueSoon levels.new }
-    ensures marked { AreMarked B.Part.Part.contents B.Item.stamp (B.Item.stamp item.now) levels.old levels.new }
+    ensures marked { AreMarked B.Part.Part.contents B.Item.stamp (B.Item.stamp item.now) result levels.old levels.new }
     ensures cost { (g : ℕ) → weight_of levels.old < 2 ^ (g + 1)
         → let marks = asked B.Part.Part.contents B.Item.stamp (B.Item.stamp item.now) levels.old in
         Spends steps.old steps.new 0 marks (marks * B.Part.Part.mark_touches g) }
@@ -125,7 +125,7 @@ pub fn take_out<B: Builder, L: Ledger>(
     ensures held { map held_in levels.new ≡ map held_in levels.old }
     ensures rooms { HaveRoomsAbove IsDueSoon levels.old → HaveRoomsAbove IsDue levels.new }
     ensures cost { IsCostOfDelete B.SLOPE B.BASE B.Part.Part.mark_touches
-        (asked B.Part.Part.contents B.Item.stamp (B.Item.stamp item.now) levels.old) levels.new steps.old steps.new }
+        (asked B.Part.Part.contents B.Item.stamp (B.Item.stamp item.now) levels.old) levels.old levels.new steps.old steps.new }
 {
     mark_in(levels, item, steps);
     take_tick(levels, steps);

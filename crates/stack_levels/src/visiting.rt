@@ -5,11 +5,11 @@ ghost use Rattle.query_laws.specs.Permuted.{Permuted};
 ghost use Rattle.builder_trait.specs.Parts.{live_of};
 ghost use Rattle.partial_build.specs.Quota.{quota};
 ghost use Rattle.stack_levels.specs.Slots.{Slots, IsPartOf, ticks_of, held_in, weight_in, live_in, items_in};
-ghost use Rattle.stack_levels.specs.Levels.{lowest_held, one_more, weight_of, live_items, all_items};
+ghost use Rattle.stack_levels.specs.Levels.{lowest_held, one_more, waiting_of, weight_of, live_items, all_items};
 ghost use Rattle.stack_levels.specs.Neighbours.{IsBelow, IsVisited, IsPunctual};
-ghost use Rattle.stack_levels.specs.Towers.{IsTower, IsHalfway, IsDue, IsDueSoon, HaveRooms, HaveRoomsAbove, HaveRoomsAhead, AreAllLevels, AreHalfway, AreOnTime, AreTicked, TakeTicks, HaveRoomsNow, HaveRoomsNext};
+ghost use Rattle.stack_levels.specs.Towers.{IsTower, IsHalfway, IsDue, IsDueSoon, HaveRooms, HaveRoomsAbove, HaveRoomsAhead, AreAllLevels, AreHalfway, AreOnTime, AreTicked, HasArrived, TakeTicks, HaveRoomsNow, HaveRoomsNext};
 ghost use Rattle.stack_levels.specs.Level.{IsOfLevel};
-ghost use Rattle.stack_levels.specs.Cost.{IsWithin, quotas};
+ghost use Rattle.stack_levels.specs.Cost.{IsWithin, IsCostOfInsert, quotas};
 
 use crate::level::Level;
 use builder_trait::{Builder, Kinded, Part};
@@ -28,6 +28,7 @@ fn walk<B: Builder, L: Ledger>(lower: &mut Level<B>, above: &mut [Level<B>], ste
     ensures each { TakeTicks above.old above.new }
     ensures same { lower.new ≡ record lower.old { parts = lower.new.parts; kept = lower.new.kept } }
     ensures rooms { HaveRoomsAhead lower.old above.old → HaveRooms IsDue lower.new above.new }
+    ensures waiting { waiting_of above.new + steps.new.marks ≡ waiting_of above.old + steps.old.marks }
     ensures cost { (g : ℕ) → weight_of (lower.old ∷ above.old) < 2 ^ (g + 1)
         → IsWithin (quotas B.SLOPE B.BASE (lower.old.level + 1) g) (2 * (g - lower.old.level)) (B.Part.Part.mark_touches g) steps.old steps.new }
 {
@@ -47,12 +48,7 @@ fn arrive<B: Builder>(levels: &mut [Level<B>], part: B::Part)
     ensures halfway { AreHalfway B.Part.Part.contents ⟦<B as Kinded>⟧.kind levels.new }
     ensures rooms { HaveRoomsNow levels.new }
     ensures rooms_ahead { HaveRoomsAbove IsDueSoon levels.old → HaveRoomsNext levels.new }
-    ensures live { Permuted (live_items B.Part.Part.contents levels.new)
-        (live_of (B.Part.Part.contents part) ++ live_items B.Part.Part.contents levels.old) }
-    ensures items { Permuted (all_items B.Part.Part.contents levels.new)
-        ((B.Part.Part.contents part).items ++ all_items B.Part.Part.contents levels.old) }
-    ensures weight { weight_of levels.new ≡ weight_of levels.old + 1 }
-    ensures held { map held_in levels.new ≡ one_more (map held_in levels.old) }
+    ensures arrived { HasArrived B.Part.Part.contents (B.Part.Part.contents part) levels.old levels.new }
     ensures clocks { (ls : List (Slots B.Part B.Item)) → TakeTicks levels.new ls → TakeTicks levels.old ls }
 {
     match levels.split_first_mut() {
@@ -70,6 +66,7 @@ pub(crate) fn take_tick<B: Builder, L: Ledger>(levels: &mut [Level<B>], steps: &
     ensures ticked { AreTicked B.Part.Part.contents levels.old levels.new }
     ensures each { TakeTicks levels.old levels.new }
     ensures rooms { HaveRoomsNext levels.old → HaveRoomsAbove IsDue levels.new }
+    ensures waiting { waiting_of levels.new + steps.new.marks ≡ waiting_of levels.old + steps.old.marks }
     ensures cost { (g : ℕ) → weight_of levels.old < 2 ^ (g + 1)
         → IsWithin (quotas B.SLOPE B.BASE 1 g) (2 * g) (B.Part.Part.mark_touches g) steps.old steps.new }
 {
@@ -96,8 +93,7 @@ pub fn take_in<B: Builder, L: Ledger>(levels: &mut [Level<B>], part: B::Part, st
     ensures rooms { HaveRoomsAbove IsDueSoon levels.old → HaveRoomsAbove IsDue levels.new }
     ensures each { TakeTicks levels.old levels.new }
     ensures held { map held_in levels.new ≡ one_more (map held_in levels.old) }
-    ensures cost { (g : ℕ) → weight_of levels.new < 2 ^ (g + 1)
-        → IsWithin (quotas B.SLOPE B.BASE 1 g) (2 * g) (B.Part.Part.mark_touches g) steps.old steps.new }
+    ensures cost { IsCostOfInsert B.SLOPE B.BASE 1 B.Part.Part.mark_touches levels.old levels.new steps.old steps.new }
 {
     arrive(levels, part);
     take_tick(levels, steps);

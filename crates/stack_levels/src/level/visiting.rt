@@ -30,8 +30,8 @@ impl<B: Builder> Level<B> {
         ensures held { held_in self.new ≡ held_in self.old }
         ensures held_below { held_in lower.new ≡ held_in lower.old }
 
-        // No turn of a construction whose part is built.
-        ensures cost { IsCostOfVisit ⟦<B as Kinded>⟧.kind B.Part.Part.mark_touches self.old lower.old steps.old steps.new }
+        // No turn of a construction whose part is built, and no mark where none waits.
+        ensures cost { IsCostOfVisit ⟦<B as Kinded>⟧.kind B.Part.Part.mark_touches lower.old self.old self.new steps.old steps.new }
     {
         let [a, b, ..] = lower.parts() else {
             return;

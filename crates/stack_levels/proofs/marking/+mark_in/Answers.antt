@@ -6,8 +6,8 @@ use Rattle.query_laws.specs.StepLedger.{Spends}
 use Rattle.query_laws.proofs.Counting.{Spends-nothing, Spends-within}
 use Rattle.builder_trait.specs.Builders.{PartKind}
 use Rattle.builder_trait.specs.Parts.{OwnsStamp, has_stamp, without}
-use Rattle.stack_levels.specs.Slots.{Slots, clock_of, held_in, weight_in, live_in, items_in, asked_in}
-use Rattle.stack_levels.specs.Levels.{weight_of, live_items, all_items, asked}
+use Rattle.stack_levels.specs.Slots.{Slots, one_if, clock_of, waiting_in, held_in, weight_in, live_in, items_in, asked_in}
+use Rattle.stack_levels.specs.Levels.{waiting_of, weight_of, live_items, all_items, asked}
 use Rattle.stack_levels.specs.Neighbours.{IsPunctual}
 use Rattle.stack_levels.specs.Towers.{IsDue, IsDueSoon, HaveRoomsAbove, AreLevels}
 use Rattle.stack_levels.specs.Marking.{IsSameBelow}
@@ -15,7 +15,7 @@ use Rattle.stack_levels.proofs.Clocks.{clocks-noted}
 use Rattle.stack_levels.proofs.Distinct.{AllStampsDiffer-front, AllStampsDiffer-back}
 use Rattle.stack_levels.proofs.Publishing.{none_of}
 use Rattle.stack_levels.proofs.Marks.{All-first, All-second, has_stamp-append, without-append, without-lacking, Spends-both}
-use Rattle.stack_levels.proofs.MarkedLevels.{Follows-due, Follows-soon, rooms-over, rooms-marked, same-noted, held-noted, tower-over, lacks-below, asked-above, asked-both, light_level, levels_from_tower}
+use Rattle.stack_levels.proofs.MarkedLevels.{Follows-due, Follows-soon, rooms-over, rooms-marked, same-noted, held-noted, tower-over, lacks-below, asked-above, asked-both, light_level, levels_from_tower, waiting-noted, noted_if, one_at_most}
 use Rattle.stack_levels.proofs.marking.+mark_in.Given.{Over}
 use Rattle.stack_levels.proofs.marking.+mark_in.Goals as goal
 
@@ -70,6 +70,8 @@ returns-then-mark_in g p c =
         held = ap (λ ns. held_in level ∷ ns) h.marked.held ∙ sym (ap (map held_in) split);
         numbers = ap (λ ns. level.level ∷ ns) h.marked.numbers ∙ sym (ap (map (λ l. l.level)) split);
         clocks = ap (λ os. clock_of level ∷ os) h.marked.clocks ∙ sym (ap (map clock_of) split);
+        none_lost = rw split (omega (arith, h.marked.none_lost));
+        one_noted = rw split (omega (arith, h.marked.one_noted, one_at_most c.mark_in.result));
       };
       cost = λ g' light. subst (λ n. Spends c.args.steps.now c.mark_in.new.steps 0 n (n * g.B.Part.Part.mark_touches g'))
           (sym (ap (asked contents stamp s) split ∙ asked-above contents stamp s level above on))
@@ -112,6 +114,8 @@ returns-else-mark_in g p c =
     let off : has_stamp stamp s (live_items contents above) ≡ false = sym h.found ∙ c.if-mark_in.false in
     let marks = asked_in contents stamp s level.parts in
     let held : held_in level' ≡ held_in level = omega (arith, ap held_in m.same, m.as_many) in
+    let here : waiting_in level' ≡ waiting_in level = ap waiting_in m.same in
+    let few = waiting-noted mid above' n.noted in
     record {
       levels = n.tower;
       found = n.found ∙ sym (ap (λ ls. has_stamp stamp s (live_items contents ls)) split
@@ -141,6 +145,14 @@ returns-else-mark_in g p c =
             (same-noted (map (λ v. v.level)) (λ l l' rest same _. ap (λ v. v.level ∷ map (λ u. u.level) rest) same) mid above' n.noted ∙ h.marked.numbers)
             ∙ sym (ap (map (λ l. l.level)) split);
         clocks = ap₂ (λ o os. o ∷ os) (ap clock_of m.same) (clocks-noted mid above' n.noted ∙ h.marked.clocks) ∙ sym (ap (map clock_of) split);
+        none_lost = rw split (omega (arith, here, few.0, h.marked.none_lost));
+        one_noted = rw split (omega (
+          arith,
+          here,
+          h.marked.one_noted,
+          ap one_if c.if-mark_in.false,
+          noted_if c.mark_and_note.result few.1 (λ unfound. ap waiting_of (n.unfound unfound)),
+        ));
       };
       cost = λ g' light.
           let t = g.B.Part.Part.mark_touches g' in

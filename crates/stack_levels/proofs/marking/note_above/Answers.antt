@@ -33,7 +33,7 @@ returns-in-None-clause-noted g c = AreNoted-refl c.args.above.now
 pub returns-in-Some-clause-noted : goal.returns-in-Some-clause-noted
 returns-in-Some-clause-noted g c =
     subst (λ ls. AreNoted ls (c.note.new.self ∷ c.in-Some._above.now)) (sym c.in-Some.ensures.cases.0)
-    (c.note.new.self, refl, c.note.ensures.same, c.note.ensures.ticks, c.note.ensures.runs)
+    (c.note.new.self, refl, c.note.ensures.same, c.note.ensures.ticks, c.note.ensures.runs, c.note.ensures.waiting.0, c.note.ensures.waiting.1)
 
 pub returns-in-Some-clause-of_a : goal.returns-in-Some-clause-of_a
 returns-in-Some-clause-of_a g c early l l' rest was is a b new live same =

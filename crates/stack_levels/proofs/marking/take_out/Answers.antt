@@ -1,4 +1,4 @@
-use Rattle.std.proofs.Common.{◌+◌, ◌^◌, ◌<◌, ◌∙◌, sym, subst, arith}
+use Rattle.std.proofs.Common.{◌≡◌, ◌+◌, ◌^◌, ◌<◌, ◌∙◌, sym, subst, arith}
 use Rattle.query_laws.specs.Orders.{AllStampsDiffer}
 use Rattle.builder_trait.specs.Builders.{PartKind}
 use Rattle.stack_levels.specs.Slots.{IsPartOf}
@@ -6,7 +6,7 @@ use Rattle.stack_levels.specs.Levels.{weight_of, all_items, asked}
 use Rattle.stack_levels.specs.Cost.{IsWithin}
 use Rattle.stack_levels.proofs.Clocks.{TakeTicks-from}
 use Rattle.stack_levels.proofs.Spending.{below_power, IsWithin-more, IsWithin-of, IsWithin-then}
-use Rattle.stack_levels.proofs.MarkedLevels.{owned_live, levels-from_all, halfway-marked, rooms_now, rooms_next, some_live}
+use Rattle.stack_levels.proofs.MarkedLevels.{owned_live, levels-from_all, halfway-marked, rooms_now, rooms_next, some_live, one_at_most}
 use Rattle.stack_levels.proofs.marking.take_out.Given.{Over}
 use Rattle.stack_levels.proofs.marking.take_out.Goals as goal
 
@@ -48,6 +48,7 @@ returns-clause-cost g c =
     let n = asked g.B.Part.Part.contents g.B.Item.Item.stamp (g.B.Item.Item.stamp c.args.item.now) c.args.levels.now in
     let old = weight_of c.args.levels.now in
     let mid = weight_of c.mark_in.new.levels in
+    let asking : c.mark_in.new.steps.marks ≡ c.args.steps.now.marks + n = (c.mark_in.ensures.cost old (below_power old)).marks_spent in
     record {
       within = λ g' light.
           let t = g.B.Part.Part.mark_touches g' in
@@ -57,5 +58,7 @@ returns-clause-cost g c =
           let first : IsWithin 0 n t c.args.steps.now c.mark_in.new.steps =
           IsWithin-of (c.mark_in.ensures.cost g' light_old) (omega arith) (omega arith) (omega arith) in
           IsWithin-more (IsWithin-then first (c.take_tick.ensures.cost g' light_mid)) (omega arith) (omega arith) (omega arith);
-      all_asked = omega (arith, (c.mark_in.ensures.cost old (below_power old)).marks_spent, (c.take_tick.ensures.cost mid (below_power mid)).spent.marks_spent);
+      all_asked = omega (arith, asking, (c.take_tick.ensures.cost mid (below_power mid)).spent.marks_spent);
+      no_fewer = omega (arith, asking, c.mark_in.ensures.marked.none_lost, c.take_tick.ensures.waiting);
+      no_more = omega (arith, asking, c.mark_in.ensures.marked.one_noted, one_at_most c.mark_in.result, c.take_tick.ensures.waiting);
     }

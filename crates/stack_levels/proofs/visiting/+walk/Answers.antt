@@ -6,7 +6,7 @@ use Rattle.query_laws.specs.Orders.{AllStampsDiffer}
 use Rattle.query_laws.proofs.Permutations.{Permuted-refl}
 use Rattle.builder_trait.specs.Builders.{PartKind}
 use Rattle.partial_build.specs.Quota.{quota}
-use Rattle.stack_levels.specs.Slots.{ticks_of, clock_of, held_in, items_in}
+use Rattle.stack_levels.specs.Slots.{ticks_of, clock_of, waiting_in, held_in, items_in}
 use Rattle.stack_levels.specs.Levels.{weight_of, live_items, all_items}
 use Rattle.stack_levels.specs.Neighbours.{IsPunctual, TakesTick}
 use Rattle.stack_levels.specs.Towers.{IsHalfway, IsTower, IsDue, HaveRooms, HaveRoomsAbove, HaveRoomsAhead, TakeTicks}
@@ -89,6 +89,9 @@ returns-in-Some g p c =
       each = subst (λ ls. TakeTicks ls (level' ∷ above')) (sym split)
           (subst (TakesTick level.level (clock_of level)) (ap (option_map (λ c. c.ticks)) (sym (ap (λ l. l.construction) w.same))) v.visited.ticked, w.each);
       same = v.same_below;
+      waiting =
+          let here : waiting_in level' ≡ waiting_in c.visit.new.self = ap waiting_in w.same in
+          rw split (omega (arith, here, v.cost.drained, w.waiting));
       rooms = λ ahead. rooms-walked lower lower' level c.visit.new.self level' above above' v.visited.advances (ap (λ l. l.level) v.same) v.visited.rooms
           (ap (λ l. l.level) v.same_below) (ap ticks_of v.same_below) (ap (λ l. l.has_room) w.same) w.rooms (subst (HaveRoomsAhead lower) split ahead);
       cost = λ g' light.

@@ -2,8 +2,8 @@ use Rattle.std.proofs.Common.{◌≡◌, ◌+◌, ◌<◌, ◌∙◌, ◌∷◌,
 use Rattle.std.proofs.lemmas.List.{length_push}
 use Rattle.builder_trait.specs.Builders.{PartKind}
 use Rattle.builder_trait.specs.Parts.{live_of}
-use Rattle.stack_levels.specs.Slots.{ticks_of, clock_of, held_in}
-use Rattle.stack_levels.specs.Levels.{lowest_held, one_more, weight_of, live_items, all_items}
+use Rattle.stack_levels.specs.Slots.{ticks_of, clock_of, waiting_in, held_in}
+use Rattle.stack_levels.specs.Levels.{lowest_held, one_more, waiting_of, weight_of, live_items, all_items}
 use Rattle.stack_levels.specs.Level.{IsOfLevel}
 use Rattle.stack_levels.specs.Neighbours.{arrives}
 use Rattle.stack_levels.specs.Towers.{IsDue, IsDueSoon, HaveRooms, HaveRoomsAbove, AreAllLevels}
@@ -54,10 +54,13 @@ returns g c =
       );
       rooms = rooms_above IsDue lowest above rooms;
       rooms_ahead = λ soon. ahead-from_soon lowest new above (subst (HaveRoomsAbove IsDueSoon) split soon) (omega (arith, ticks)) level;
-      live = arrived (λ p. live_of (contents p)) lowest.parts (live_items contents above) c.args.part parts (sym (ap (live_items contents) split));
-      items = arrived (λ p. (contents p).items) lowest.parts (all_items contents above) c.args.part parts (sym (ap (all_items contents) split));
-      weight = weight-pushed contents (kind g) lowest above h new c.args.part parts level ∙ ap (λ ls. weight_of ls + 1) (sym split);
+      arrived = record {
+        live = arrived (λ p. live_of (contents p)) lowest.parts (live_items contents above) c.args.part parts (sym (ap (live_items contents) split));
+        items = arrived (λ p. (contents p).items) lowest.parts (all_items contents above) c.args.part parts (sym (ap (all_items contents) split));
+        weight = weight-pushed contents (kind g) lowest above h new c.args.part parts level ∙ ap (λ ls. weight_of ls + 1) (sym split);
+        held = ap (λ n. n ∷ map held_in above) more ∙ sym (ap (λ ls. one_more (map held_in ls)) split);
+        waiting = ap (λ n. n + waiting_of above) (ap waiting_in c.arrive.ensures) ∙ sym (ap waiting_of split);
+      };
       clocks = λ ls ticks. TakeTicks-from c.args.levels.now (new ∷ above) ls (ap (λ k. k ∷ map (λ v. v.level) above) level ∙ sym (ap (map (λ v. v.level)) split))
           (ap (λ o. o ∷ map clock_of above) (ap clock_of c.arrive.ensures) ∙ sym (ap (map clock_of) split)) ticks;
-      held = ap (λ n. n ∷ map held_in above) more ∙ sym (ap (λ ls. one_more (map held_in ls)) split);
     }

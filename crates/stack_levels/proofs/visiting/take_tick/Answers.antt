@@ -3,6 +3,7 @@ use Rattle.std.specs.Option.{option_map}
 use Rattle.std.proofs.lemmas.List.Elements.{All-cons}
 use Rattle.query_laws.specs.Orders.{AllStampsDiffer}
 use Rattle.builder_trait.specs.Builders.{PartKind}
+use Rattle.stack_levels.specs.Slots.{waiting_in}
 use Rattle.stack_levels.specs.Levels.{weight_of, all_items}
 use Rattle.stack_levels.specs.Neighbours.{IsPunctual, rests}
 use Rattle.stack_levels.specs.Cost.{IsWithin, quotas}
@@ -39,6 +40,9 @@ returns g c =
       ticked = rw split w.ticked;
       each = subst (λ ls. TakeTicks ls (c.walk.new.lower ∷ c.walk.new.above)) (sym split)
           (rests (ap (option_map (λ o. o.ticks)) h.1) (ap (option_map (λ o. o.ticks)) none), w.each);
+      waiting =
+          let here : waiting_in c.walk.new.lower ≡ waiting_in c.in-Some.lowest.now = ap waiting_in w.same in
+          rw split (omega (arith, here, w.waiting));
       rooms = λ next. w.rooms (subst HaveRoomsNext split next);
       cost = λ g' light.
           let cost = λ (k : ℕ). IsWithin (quotas g.B.Builder.SLOPE g.B.Builder.BASE (k + 1) g') (2 * (g' - k)) (g.B.Part.Part.mark_touches g')

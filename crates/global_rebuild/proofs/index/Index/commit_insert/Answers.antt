@@ -1,6 +1,7 @@
 use Rattle.std.proofs.Common.{◌≡◌, ◌+◌, ◌^◌, ◌<◌, ◌∙◌, true, [], ◌∷◌, ◌++◌, Some, length, ap, sym, subst, arith}
 use Rattle.id_chain.specs.Chain.{Entry, HandlesDiffer, is_linked}
 use Rattle.id_chain.proofs.Cursors.{linked-append}
+use Rattle.stack_levels.specs.Levels.{waiting_of}
 use Rattle.global_rebuild.proofs.Appending.{appended, last_item}
 use Rattle.global_rebuild.proofs.Weights.{IsSoundOf, main_few, main_light}
 use Rattle.global_rebuild.proofs.index.Index.commit_insert.Given.{Over}
@@ -56,4 +57,7 @@ returns-clause-chain g c item at =
 
 pub returns-clause-cost : goal.returns-clause-cost
 returns-clause-cost g c g' light =
-    c.insert.ensures.cost g' (omega (arith, main_few c.self.view_is c.self.invariant g' light, c.insert.ensures.weight))
+    c.insert.ensures.cost.within g' (omega (arith, main_few c.self.view_is c.self.invariant g' light, c.insert.ensures.weight))
+
+pub returns-clause-waiting : goal.returns-clause-waiting
+returns-clause-waiting g c = omega (arith, c.insert.ensures.cost.drained, ap (λ i. waiting_of i.main.levels) c.self.view_is)

@@ -31,3 +31,6 @@ returns-clause-shadow g c stamps rise h =
     (c.next-self-inside.ensures.before ∙ c.item.ensures.up_to)
     (subst (λ l. Permuted (live_items contents c.insert.new.self.levels) (c.item.result ∷ l)) (c.in_ok-prepare.ensures.same.live ∙ ap (λ r. live_items contents r.stack.levels) c.self.view_is) c.insert.ensures.live)
     (subst (λ l. IsPartOf (all_items contents c.insert.new.self.levels) (c.item.result ∷ l)) (c.in_ok-prepare.ensures.same.items ∙ ap (λ r. all_items contents r.stack.levels) c.self.view_is) c.insert.ensures.items)
+
+pub returns-clause-cost : goal.returns-clause-cost
+returns-clause-cost g c g' light = c.insert.ensures.cost.within g' light

@@ -107,14 +107,19 @@ pub returns-clause-spare : goal.returns-clause-spare
 returns-clause-spare g c = omega (arith, c.requires.spare, ap (λ v. v.spare) c.self.view_is)
 
 pub returns-clause-cost : goal.returns-clause-cost
-returns-clause-cost g c g' light =
-    IsWithin-first g.B.Builder.SLOPE g.B.Builder.BASE g' (c.part_of-part.ensures.cost (g.B.Part.Part.mark_touches g'))
-    (c.take_in.ensures.cost g' (rw (whole g c) at light))
+returns-clause-cost g c =
+    let none = c.part_of-part.ensures.cost 0 in
+    record {
+      within = λ g' light.
+          IsWithin-first g.B.Builder.SLOPE g.B.Builder.BASE g' (c.part_of-part.ensures.cost (g.B.Part.Part.mark_touches g'))
+          (c.take_in.ensures.cost.within g' (rw (whole g c) at light));
+      drained = rw (whole g c, ← seen g c) (omega (arith, c.take_in.ensures.cost.drained, none.few_marks, none.spent.marks_spent));
+    }
 
 pub returns-clause-some_turns : goal.returns-clause-some_turns
 returns-clause-some_turns g c =
     let light : weight_of c.take_in.new.levels < 2 ^ (31 + 1) = omega (arith, c.take_in.ensures.weight, ap weight_of (seen g c), c.requires.light) in
-    omega (arith, c.part_of-part.ensures.some_turns, (c.take_in.ensures.cost 31 light).spent.turns_spent)
+    omega (arith, c.part_of-part.ensures.some_turns, (c.take_in.ensures.cost.within 31 light).spent.turns_spent)
 
 pub returns-clause-ticks : goal.returns-clause-ticks
 returns-clause-ticks g c = rw (whole g c, ← seen g c) c.take_in.ensures.each

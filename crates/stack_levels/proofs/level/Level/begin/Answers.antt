@@ -1,8 +1,8 @@
-use Rattle.std.proofs.Common.{◌≡◌, ℕ, ◌∙◌, Option, None, ap, sym, arith}
+use Rattle.std.proofs.Common.{◌≡◌, ℕ, ◌∙◌, Option, None, length, ap, sym, arith}
 use Rattle.std.specs.Option.{is_some}
-use Rattle.stack_levels.specs.Slots.{ticks_of, one_if}
+use Rattle.stack_levels.specs.Slots.{ticks_of, waiting_in, one_if}
 use Rattle.stack_levels.proofs.Held.{counted}
-use Rattle.stack_levels.proofs.Neighbouring.{none_ticks, not_some}
+use Rattle.stack_levels.proofs.Neighbouring.{none_ticks, none_waiting, not_some}
 use Rattle.stack_levels.proofs.Distinct.{AllStampsDiffer-front, AllStampsDiffer-back, StampsDiffer-parts}
 use Rattle.stack_levels.proofs.level.Level.begin.Goals as goal
 
@@ -31,3 +31,9 @@ returns-clause-ticks g c =
     let none : c.args.self.now.construction ≡ None =
     not_some c.args.self.now.construction (ap (λ v. is_some v.construction) (sym c.self.view_is) ∙ sym c.is_some.ensures ∙ c.if-is_some.false) in
     ap ticks_of c.start.ensures ∙ c.begin.ensures.none.0 ∙ sym (none_ticks c.args.self.now none)
+
+pub returns-clause-waiting : goal.returns-clause-waiting
+returns-clause-waiting g c =
+    let none : c.args.self.now.construction ≡ None =
+    not_some c.args.self.now.construction (ap (λ v. is_some v.construction) (sym c.self.view_is) ∙ sym c.is_some.ensures ∙ c.if-is_some.false) in
+    ap waiting_in c.start.ensures ∙ ap length c.begin.ensures.none.1 ∙ sym (none_waiting c.args.self.now none)

@@ -1,8 +1,9 @@
-use Rattle.std.proofs.Common.{◌≡◌, ◌^◌, ◌∙◌, [], ◌∷◌, ◌++◌, Option, drop, ap, sym, subst, arith}
+use Rattle.std.proofs.Common.{◌≡◌, ◌^◌, ◌∙◌, [], ◌∷◌, ◌++◌, Option, None, length, drop, ap, sym, subst, arith}
 use Rattle.std.specs.Option.{option_map_or}
 use Rattle.partial_build.specs.Construction.{Construction, skipped_of}
-use Rattle.stack_levels.specs.Slots.{ticks_of}
+use Rattle.stack_levels.specs.Slots.{ticks_of, waiting_in}
 use Rattle.stack_levels.specs.Level.{IsOfLevel}
+use Rattle.stack_levels.proofs.Neighbouring.{none_waiting}
 use Rattle.stack_levels.proofs.Publishing.{two_oldest, none_of}
 use Rattle.stack_levels.proofs.level.Level.publish.Goals as goal
 
@@ -51,3 +52,12 @@ returns-in-Some-clause-ends g c late =
         p.items,
       );
     }
+
+pub returns-in-Some-clause-waiting : goal.returns-in-Some-clause-waiting
+returns-in-Some-clause-waiting g c =
+    let h = c.in-Some.ensures.ended in
+    let none : c.keep_tables.new.self.construction ≡ None =
+    ap (λ v. v.construction) c.keep_tables.ensures ∙ ap (λ v. v.construction) c.arrive.ensures ∙ ap (λ v. v.construction) c.in-Some.ensures.taken in
+    let before : waiting_in c.args.self.now ≡ length c.in-Some.construction.waiting =
+    ap (λ (o : Option (Construction g.row.B-Item.Denot)). option_map_or (λ v. length v.waiting) o 0) h.0 in
+    omega (arith, none_waiting c.keep_tables.new.self none, before, h.2, (c.requires.punctual c.in-Some.construction h.0).few_to_come)

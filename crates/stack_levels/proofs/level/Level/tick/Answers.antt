@@ -1,8 +1,9 @@
-use Rattle.std.proofs.Common.{◌≡◌, ℕ, ◌-◌, ◌≤◌, ◌∙◌, Some, ap, sym, subst, arith, Bool, true, false, if◌then◌else◌, min, length}
+use Rattle.std.proofs.Common.{◌≡◌, ℕ, ◌-◌, ◌≤◌, ◌∙◌, Option, Some, ap, sym, subst, arith, Bool, true, false, if◌then◌else◌, min, length}
 use Rattle.std.specs.Option.{option_map_or}
 use Rattle.builder_trait.specs.Builders.{PartKind}
-use Rattle.partial_build.specs.Construction.{turns_left}
+use Rattle.partial_build.specs.Construction.{Construction, turns_left}
 use Rattle.partial_build.specs.Quota.{quota}
+use Rattle.stack_levels.specs.Slots.{waiting_in}
 use Rattle.stack_levels.specs.Cost.{IsWithin}
 use Rattle.stack_levels.proofs.Held.{IsLevel-building, counted}
 use Rattle.stack_levels.proofs.level.Level.tick.Given.{Over}
@@ -40,3 +41,9 @@ returns-clause-cost g c =
       few_marks = subst (λ n. n ≤ 2) (sym h.drained.two) (at_most_two c.tick.new.self.part.is_built (length c.in-Some.construction.waiting));
       spent = h.cost;
     })
+
+pub returns-clause-waiting : goal.returns-clause-waiting
+returns-clause-waiting g c =
+    let runs : c.args.self.now.construction ≡ Some c.in-Some.construction = sym (ap (λ v. v.construction) c.self.view_is) ∙ c.in-Some.is in
+    let before : waiting_in c.args.self.now ≡ length c.in-Some.construction.waiting = ap (λ (o : Option (Construction g.row.B-Item.Denot)). option_map_or (λ v. length v.waiting) o 0) runs in
+    omega (arith, before, c.tick.ensures.drained.fewer, c.tick.ensures.cost.marks_spent)

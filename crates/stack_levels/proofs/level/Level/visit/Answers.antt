@@ -57,6 +57,7 @@ returns-clause-cost g c =
           (λ none. subst (λ o. taken ≤ option_map_or (turns_left (kind g)) o (per_tick old.level)) (sym none) here.few_turns)
           (λ some. subst (λ l. taken ≤ turns_to_go (kind g) l) (c.begin.ensures.running some) c.tick.ensures.to_go)
           (either old.construction);
+      drained = omega (arith, c.begin.ensures.waiting, c.tick.ensures.waiting, c.publish.ensures.waiting);
       within = here;
     }
 
