@@ -5,3 +5,4 @@ pub mod Marking
 pub mod SearchLemmas
 pub mod FlatLemmas
 pub mod RowsLemmas
+pub mod StampLemmas

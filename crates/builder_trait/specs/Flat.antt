@@ -1,7 +1,7 @@
 -- What the flat kind keeps.
 use Rattle.std.specs.List.{flat_map}
 use Rattle.std.specs.Option.{option_to_list}
-use Rattle.std.specs.Prelude.{◌≡◌, ℕ, ◌+◌, ◌<◌, ◌≤◌, ◌^◌, Bool, true, false, List, length, map, replicate, Some, slice_get}
+use Rattle.std.specs.Prelude.{◌≡◌, ℕ, ◌+◌, ◌-◌, ◌<◌, ◌≤◌, ◌^◌, Bool, true, false, List, length, map, replicate, All, Some, slice_get}
 use Rattle.query_laws.specs.StepLedger.{Entries}
 use Rattle.query_laws.specs.declared.item.Order.{Order}
 use Rattle.query_laws.specs.declared.item.Order.TheVariants.{First, Second}
@@ -51,3 +51,11 @@ module _ {Item : Type 0} where
     pub wide : HasRoom items places flags at_level
     pub valid : IsPart before (contents_of items.items flags.items places.items at_level)
     pub live_counted : live ≡ length (live_of (contents_of items.items flags.items places.items at_level))
+
+  -- the least and the greatest stamp of some items; of none, the greatest u64 and zero
+  pub record AreStamps (stamp : Item → ℕ) (items : List Item) (least greatest : ℕ) : Type 0 where
+    pub from_least : All (λ x. least ≤ stamp x) items
+    pub to_greatest : All (λ x. stamp x ≤ greatest) items
+    pub tight_least : (s : ℕ) → s < 2 ^ 64 - 1 → All (λ x. s < stamp x) items → s < least
+    pub tight_greatest : (s : ℕ) → 0 < s → All (λ x. stamp x < s) items → greatest < s
+    pub small : greatest < 2 ^ 64

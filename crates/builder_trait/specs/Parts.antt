@@ -1,5 +1,5 @@
 -- What contracts see of a part: a static structure whose items are only ever marked as dead (weak deletion, Overmars 1983).
-use Rattle.std.specs.Prelude.{◌≡◌, ℕ, ◌==◌, Bool, not, ◌&&◌, IsTrue, List, length, map, filter, zip, AllPairs, All, Some, slice_get, slice_index}
+use Rattle.std.specs.Prelude.{◌≡◌, ℕ, ◌==◌, Bool, not, ◌&&◌, IsTrue, List, length, map, filter, zip, AllPairs, All, ◌⊎◌, ◌<◌, Some, slice_get, slice_index}
 use Rattle.std.specs.List.{range_with_len, list_any, items_where_true}
 use Rattle.query_laws.specs.Permuted.{Permuted}
 use Rattle.query_laws.specs.declared.item.Order.{Order}
@@ -58,3 +58,7 @@ module _ {Item : Type 0} where
   -- no other item of the list has the stamp of this one
   abbrev pub OwnsStamp : (Item → ℕ) → Item → List Item → Type 0
   OwnsStamp stamp item xs = All (λ x. stamp x ≡ stamp item → x ≡ item) xs
+
+  -- the stamp of this item is less than those of all items of the list, or greater than all: it is older than all, or younger
+  abbrev pub IsOutside : (Item → ℕ) → Item → List Item → Type 0
+  IsOutside stamp item xs = All (λ x. stamp item < stamp x) xs ⊎ All (λ x. stamp x < stamp item) xs

@@ -4,14 +4,15 @@
 //! the contract of parts and builders matters.
 ghost use Rattle.std.specs.Prelude.{◌≡◌, ◌+◌, ◌-◌, ◌*◌, ◌<◌, ◌≤◌, ◌^◌, ℕ, IfSome, IsNone, IsTrue, ◌↔◌, All, ◌≢◌, length, Some, slice_get, slice_set, refl, true, false};
 ghost use Rattle.std.specs.Option.{is_some};
-ghost use Rattle.query_laws.specs.StepLedger.{Spends, one_touch};
+ghost use Rattle.query_laws.specs.StepLedger.{Spends, one_mark, one_touch};
 ghost use Rattle.query_laws.specs.declared.item.Order.TheVariants.{First, Second};
-ghost use Rattle.builder_trait.specs.Parts.{IsRising, OwnsStamp, live_of, has_stamp, without, marked};
+ghost use Rattle.builder_trait.specs.Parts.{IsRising, OwnsStamp, IsOutside, live_of, has_stamp, without, marked};
 ghost use Rattle.builder_trait.specs.Builders.{IsUnderway, IsQuota, FitsFirst, FitsSecond, with_put, sealed_with};
 
 use crate::builder::Builder;
 use crate::part::Part;
 use crate::search::{EntryTest, partition_point};
+use crate::stamps::Stamps;
 use query_laws::step_ledger::{Row, Steps};
 use query_laws::{Item, NoMemory, Order};
 use std::alloc::Global;
@@ -26,17 +27,19 @@ pub struct FlatPart<I: Item> {
     flags: Row<bool>,
     level: u32,
     live: usize,
+    stamps: Stamps,
 }
 
 impl<I: Item> Model for FlatPart<I> {
     ghost use Rattle.builder_trait.specs.Parts.{Contents};
-    ghost use Rattle.builder_trait.specs.Flat.{contents_of, IsFlatPart};
+    ghost use Rattle.builder_trait.specs.Flat.{contents_of, IsFlatPart, AreStamps};
 
     ghost Value = { Contents I };
 
     ghost view = { λ p. contents_of p.items.items p.flags.items p.places.items p.level };
 
-    ghost invariant = { λ p. IsFlatPart I.before p.items p.places p.flags p.level p.live };
+    ghost invariant = { λ p. IsFlatPart I.before p.items p.places p.flags p.level p.live
+        × AreStamps I.stamp p.items.items p.stamps.least p.stamps.greatest };
 }
 
 /// Whether an item stands before another in the first order.
@@ -84,19 +87,22 @@ impl<I: Item> FlatPart<I> {
     }
 
     /// Marks an item as dead, and gives its place where it was there and live: one mark, and `h + 4` touches at most at a part
-    /// of up to `2^h` items.
+    /// of up to `2^h` items. None is taken for an item that is older than all items, or younger.
     pub fn mark_placed<L: Ledger>(&mut self, item: &I, steps: &mut Steps<L>) -> Option<usize>
         requires { OwnsStamp I.stamp item.now self.old.items }
         ensures found { is_some result ≡ has_stamp I.stamp (I.stamp item.now) (live_of self.old) }
         ensures marked { self.new ≡ marked I.stamp (I.stamp item.now) self.old }
         ensures live { live_of self.new ≡ without I.stamp (I.stamp item.now) (live_of self.old) }
-        ensures place { IfSome result (λ k. slice_get self.old.items k ≡ Some item.now) }
-        ensures was_live { IfSome result (λ k. slice_get self.old.flags k ≡ Some true) }
+        ensures place { IfSome result (λ k. (slice_get self.old.items k ≡ Some item.now) × (slice_get self.old.flags k ≡ Some true)) }
         ensures written { IfSome result (λ k. self.new ≡ record self.old { flags = slice_set self.old.flags k false }) }
         ensures kept { IsNone result → self.new ≡ self.old }
         ensures cost { (h : ℕ) → length self.old.items ≤ 2 ^ h → Spends steps.old steps.new 0 1 (h + 4) }
+        ensures outside { IsOutside I.stamp item.now self.old.items → steps.new ≡ one_mark steps.old }
     {
         steps.mark();
+        if !self.stamps.spans(item.stamp()) {
+            return None;
+        }
         let place = place_of_item(&self.items, item, steps)?;
         if !self.flags.at(place, steps) {
             return None;
@@ -162,11 +168,12 @@ pub struct FlatBuilder<I: Item> {
     level: u32,
     sealed: bool,
     left: u64,
+    stamps: Stamps,
 }
 
 impl<I: Item> Model for FlatBuilder<I> {
     ghost use Rattle.builder_trait.specs.Builders.{Progress};
-    ghost use Rattle.builder_trait.specs.Flat.{items_at, IsFlatBuilding, IsFlagging};
+    ghost use Rattle.builder_trait.specs.Flat.{items_at, IsFlatBuilding, IsFlagging, AreStamps};
 
     ghost Value = { Progress I };
 
@@ -180,7 +187,8 @@ impl<I: Item> Model for FlatBuilder<I> {
     } };
 
     ghost invariant = { λ b. IsFlatBuilding I.before b.items b.places b.flags b.level
-        × IsFlagging b.items.items (items_at b.items.items b.places.items) b.flags.items b.sealed b.left };
+        × IsFlagging b.items.items (items_at b.items.items b.places.items) b.flags.items b.sealed b.left
+        × AreStamps I.stamp b.items.items b.stamps.least b.stamps.greatest };
 }
 
 impl<I: Item> FlatBuilder<I> {
@@ -236,6 +244,7 @@ impl<I: Item> Builder for FlatBuilder<I> {
             level,
             sealed: false,
             left: 0,
+            stamps: Stamps::of_none(),
         })
     }
 
@@ -249,7 +258,10 @@ impl<I: Item> Builder for FlatBuilder<I> {
     {
         steps.turn();
         match order {
-            Order::First => self.items.push(item, steps),
+            Order::First => {
+                self.stamps.widen(item.stamp());
+                self.items.push(item, steps);
+            }
             Order::Second => self.places.push(place as u32, steps),
         }
     }
@@ -284,6 +296,7 @@ impl<I: Item> Builder for FlatBuilder<I> {
             flags: self.flags,
             level: self.level,
             live,
+            stamps: self.stamps,
         }
     }
 
@@ -294,6 +307,7 @@ impl<I: Item> Builder for FlatBuilder<I> {
             mut flags,
             level,
             live: _,
+            stamps: _,
         } = part;
         items.clear();
         places.clear();
@@ -305,6 +319,7 @@ impl<I: Item> Builder for FlatBuilder<I> {
             level,
             sealed: false,
             left: 0,
+            stamps: Stamps::of_none(),
         }
     }
 

@@ -17,6 +17,7 @@ mod kinded;
 mod part;
 mod rows;
 mod search;
+mod stamps;
 
 pub use asking::{Asking, Given};
 pub use at_once::part_of_one;

@@ -1,7 +1,7 @@
 //! Parts, and the questions that they answer.
 ghost use Rattle.std.specs.Prelude.{◌≡◌, ◌<◌, ◌≤◌, ◌^◌, ◌↔◌, ℕ, List, IsTrue, IfOk, IsErr, length, Some, slice_get};
-ghost use Rattle.query_laws.specs.StepLedger.{Spends};
-ghost use Rattle.builder_trait.specs.Parts.{Contents, IsPart, live_of, in_order, place_of, has_stamp, without, marked, OwnsStamp};
+ghost use Rattle.query_laws.specs.StepLedger.{Spends, one_mark};
+ghost use Rattle.builder_trait.specs.Parts.{Contents, IsPart, live_of, in_order, place_of, has_stamp, without, marked, OwnsStamp, IsOutside};
 
 use query_laws::step_ledger::Steps;
 use query_laws::{Item, NoMemory, Order, Question, Tally};
@@ -52,7 +52,8 @@ pub trait Part: Drop {
         ensures value { slice_get (contents self.now).flags k ≡ Some result }
         ensures cost { Spends steps.old steps.new 0 0 2 };
 
-    /// Marks an item as dead, where it is there and live, and says whether it was. One mark either way.
+    /// Marks an item as dead, where it is there and live, and says whether it was. One mark either way, and no touch for an item
+    /// that is older than all items, or younger.
     fn mark<L: Ledger>(&mut self, item: &Self::Item, steps: &mut Steps<L>) -> bool
         requires { OwnsStamp Self.Item.stamp item.now (contents self.old).items }
         ensures found { result ≡ has_stamp Self.Item.stamp (Self.Item.stamp item.now) (live_of (contents self.old)) }
@@ -60,7 +61,8 @@ pub trait Part: Drop {
         // Where it isn't there and live, this is the part as it was.
         ensures marked { contents self.new ≡ marked Self.Item.stamp (Self.Item.stamp item.now) (contents self.old) }
         ensures live { live_of (contents self.new) ≡ without Self.Item.stamp (Self.Item.stamp item.now) (live_of (contents self.old)) }
-        ensures cost { (h : ℕ) → length (contents self.old).items ≤ 2 ^ h → Spends steps.old steps.new 0 1 (mark_touches h) };
+        ensures cost { (h : ℕ) → length (contents self.old).items ≤ 2 ^ h → Spends steps.old steps.new 0 1 (mark_touches h) }
+        ensures outside { IsOutside Self.Item.stamp item.now (contents self.old).items → steps.new ≡ one_mark steps.old };
 
     /// The bound doesn't fall where there may be more items.
     ghost mark_touches_rise: { (g h : ℕ) → g ≤ h → mark_touches g ≤ mark_touches h };

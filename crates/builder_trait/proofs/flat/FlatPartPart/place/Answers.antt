@@ -5,7 +5,7 @@ use Rattle.builder_trait.proofs.RebuildingLemmas.{length-places}
 use Rattle.builder_trait.proofs.flat.FlatPartPart.place.Goals as goal
 
 pub at-requires : goal.at-requires
-at-requires g c = omega (arith, ap (λ p. length p.items) c.self.view_is, length-places c.self.invariant.valid)
+at-requires g c = omega (arith, ap (λ p. length p.items) c.self.view_is, length-places c.self.invariant.0.valid)
 
 pub returns-in-Second-clause-value : goal.returns-in-Second-clause-value
 returns-in-Second-clause-value g c =
