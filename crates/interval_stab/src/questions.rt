@@ -1,7 +1,6 @@
 //! The numbers of the kind, and the questions of the map that it answers.
 ghost use Rattle.std.specs.Prelude.{false, length};
 ghost use Rattle.std.proofs.Common.{refl, arith};
-ghost use Rattle.map_model.specs.Answer as answers;
 ghost use Rattle.map_questions.specs.Scans.{stab-scan, stab_count-scan};
 ghost use Rattle.interval_stab.specs.Queries.{is_over};
 ghost use Rattle.interval_stab.specs.Costs.{walk_touches-few, question_touches, question_touches-few};
@@ -18,10 +17,6 @@ impl MapRows for StabRows {
 }
 
 impl MapQuestion<StabRows> for Stab {
-    ghost asks = { λ q. answers.Stab q.x };
-
-    ghost tells = { answers.Stabbed };
-
     ghost hits = { λ q. is_over q.x };
 
     ghost touches = { question_touches };
@@ -42,10 +37,6 @@ impl MapQuestion<StabRows> for Stab {
 }
 
 impl MapQuestion<StabRows> for StabCount {
-    ghost asks = { λ q. answers.StabCount q.x };
-
-    ghost tells = { answers.StabCounted };
-
     ghost hits = { λ q s. false };
 
     ghost touches = { question_touches };

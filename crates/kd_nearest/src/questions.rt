@@ -1,9 +1,6 @@
 //! The numbers of the kind, and the questions of the map that it answers.
-ghost use Rattle.std.specs.Prelude.{false, map};
-ghost use Rattle.std.specs.Option.{option_map};
+ghost use Rattle.std.specs.Prelude.{false};
 ghost use Rattle.std.proofs.Common.{refl, arith};
-ghost use Rattle.map_model.specs.Answer as answers;
-ghost use Rattle.map_shapes.specs.Found.{found_of};
 ghost use Rattle.map_questions.specs.Scans.{near-scan, near_k-scan};
 ghost use Rattle.kd_nearest.specs.Costs.{question_touches, question_touches-few, most_touches, asked, asked_all};
 
@@ -62,10 +59,6 @@ impl AnsweringRows<NearK> for KdRows {
 }
 
 impl MapQuestion<KdRows> for Near {
-    ghost asks = { λ q. answers.Near q.x q.y };
-
-    ghost tells = { λ o. answers.NearestOne (option_map found_of o) };
-
     ghost hits = { λ q p. false };
 
     ghost touches = { question_touches };
@@ -86,10 +79,6 @@ impl MapQuestion<KdRows> for Near {
 }
 
 impl MapQuestion<KdRows> for NearK {
-    ghost asks = { λ q. answers.Nearest q.k q.x q.y };
-
-    ghost tells = { λ found. answers.NearestOnes (map found_of found) };
-
     ghost hits = { λ q p. false };
 
     ghost touches = { question_touches };

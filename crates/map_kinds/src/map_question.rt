@@ -7,21 +7,16 @@ ghost use Rattle.map_kinds.specs.Touches.{PartTouches, AreFew};
 
 use crate::MapRows;
 use builder_trait::AnsweringRows;
+use map_questions::OneQuestion;
 use map_shapes::Shaped;
 use query_laws::Question;
 
 /// A question of the definitions, which a kind answers as a scan of all items does.
-pub trait MapQuestion<R: MapRows>: Question<Item = R::Item>
+pub trait MapQuestion<R: MapRows>: Question<Item = R::Item> + OneQuestion
 where
     R: AnsweringRows<Self>,
     R::Item: Shaped,
 {
-    /// What it asks, as the definitions have it.
-    ghost asks: { Self → answers.Question };
-
-    /// What an answer tells, as the definitions have it.
-    ghost tells: { Self.Answer → answers.Answer };
-
     /// The items each of which takes more touches.
     ghost hits: { Self → R.Item → Bool };
 
@@ -32,14 +27,14 @@ where
     ghost most_touches: { (g parts n : ℕ) → Self.Answer → ℕ };
 
     /// It asks a layer of its items.
-    ghost asks_kind: { (q : Self) → answers.kind_asked (asks q) ≡ R.Item.kind };
+    ghost asks_kind: { (q : Self) → answers.kind_asked (Self.asks q) ≡ R.Item.kind };
 
     /// Memory may be refused to it exactly where its answer lists identifiers.
-    ghost refuses: { (q : Self) → Self.refusable ≡ lists_ids (asks q) };
+    ghost refuses: { (q : Self) → Self.refusable ≡ lists_ids (Self.asks q) };
 
     /// The answer is that of a scan.
     ghost scans: { (q : Self) (xs : List R.Item) → length xs ≤ 2 ^ 16
-        → tells (Self.value q xs) ≡ answers.answer_over (map R.Item.item_of xs) (asks q) };
+        → Self.tells (Self.value q xs) ≡ answers.answer_over (map R.Item.item_of xs) (Self.asks q) };
 
     /// A part is touched so often at most.
     ghost part_touches: { (q : Self) (g : ℕ) (p : Contents R.Item) → g < 64 → length p.items ≤ 2 ^ g

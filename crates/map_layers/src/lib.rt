@@ -2,17 +2,17 @@
 //! answer.
 #![tactic(auto)]
 
+mod answered;
 mod faults;
 mod indexes;
 mod layer;
 mod layers;
 mod named;
-mod questions;
 
+pub use answered::Answered;
 pub use faults::CreateFault;
 pub use indexes::{MapLayers, PointIndexes, SegmentIndexes};
 pub use layer::Layer;
 pub use layer_kinds::{AskFault, UpdateFault};
 pub use layers::Layers;
 pub use named::{AnsweringIndexes, NamedIndexes, OverPoints, OverSegments};
-pub use questions::{Answered, OneQuestion};

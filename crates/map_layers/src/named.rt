@@ -13,10 +13,10 @@ ghost use Rattle.map_layers.specs.Layer.{Held, held_by, parts_held, seen, set_of
 ghost use Rattle.map_questions.specs.Any.{question_of};
 ghost use Rattle.map_layers.specs.Questions.{touches_for, most_for, Asks};
 
-use crate::{Answered, OneQuestion};
+use crate::Answered;
 use builder_trait::{AnsweringRows, Rows};
 use layer_kinds::{AskFault, Has, Indexes, KindLayer, ask_layer};
-use map_kinds::MapRows;
+use map_kinds::{MapQuestion, MapRows};
 use map_questions::AnyQuestion;
 use map_shapes::{Asked, IndexSet, Shape, Shaped};
 use query_laws::step_ledger::Steps;
@@ -72,7 +72,7 @@ pub trait AnsweringIndexes: NamedIndexes {
 }
 
 /// Puts a question to the items of a layer, by the index at a place.
-pub fn ask_of<R: MapRows, At, X: NamedIndexes + Has<R, At>, Q: OneQuestion<R>, L: Ledger>(
+pub fn ask_of<R: MapRows, At, X: NamedIndexes + Has<R, At>, Q: MapQuestion<R>, L: Ledger>(
     layer: &KindLayer<X>,
     alloc: Global,
     question: &Q,
@@ -88,5 +88,5 @@ where
     ensures { Asks (seen R.Item.kind R.Item.item_of X.held layer.now) (Q.asks question.now) result steps.old steps.new }
 {
     let (given, asked) = ask_layer::<R, At, X, Q, L>(layer, alloc, question, steps)?;
-    Ok((Answered::new::<R, Q>(given), asked))
+    Ok((Answered::new(given), asked))
 }

@@ -1,10 +1,7 @@
 //! The numbers of the kind, and the questions of the map that it answers.
 ghost use Rattle.std.specs.Prelude.{false, length};
-ghost use Rattle.std.specs.Option.{option_map};
 ghost use Rattle.std.proofs.Common.{refl, arith};
-ghost use Rattle.map_model.specs.Answer as answers;
 ghost use Rattle.map_model.specs.Shape.{is_above};
-ghost use Rattle.map_shapes.specs.Found.{peak_of};
 ghost use Rattle.map_shapes.specs.Point.{shape_of};
 ghost use Rattle.map_questions.specs.Scans.{above-scan, top-scan};
 ghost use Rattle.priority_search.specs.Costs.{question_touches, question_touches-few};
@@ -21,10 +18,6 @@ impl MapRows for TopRows {
 }
 
 impl MapQuestion<TopRows> for Top {
-    ghost asks = { λ q. answers.Top q.x1 q.x2 };
-
-    ghost tells = { λ peak. answers.Highest (option_map peak_of peak) };
-
     ghost hits = { λ q p. false };
 
     ghost touches = { question_touches };
@@ -45,10 +38,6 @@ impl MapQuestion<TopRows> for Top {
 }
 
 impl MapQuestion<TopRows> for Above {
-    ghost asks = { λ q. answers.Above q.x1 q.x2 q.y };
-
-    ghost tells = { answers.ListedAbove };
-
     ghost hits = { λ q p. is_above q.x1 q.x2 q.y (shape_of p) };
 
     ghost touches = { question_touches };

@@ -3,7 +3,6 @@ ghost use Rattle.std.specs.Prelude.{false, length};
 ghost use Rattle.std.proofs.Common.{refl, ap, arith};
 ghost use Rattle.map_model.specs.Answer as answers;
 ghost use Rattle.map_shapes.specs.Questions.{is_in};
-ghost use Rattle.map_shapes.specs.Rect.{rect_of};
 ghost use Rattle.range_ranks.specs.Costs.{question_touches, question_touches-few};
 ghost use Rattle.range_ranks.specs.QuestionLaws.{count_in-scan, weight_in-scan, ids_in-scan, count-touches, list-touches, most_touches, counting, listing};
 
@@ -18,10 +17,6 @@ impl MapRows for RangeRows {
 }
 
 impl MapQuestion<RangeRows> for CountIn {
-    ghost asks = { λ q. answers.CountIn (rect_of q.0) };
-
-    ghost tells = { answers.Counted };
-
     ghost hits = { λ q p. false };
 
     ghost touches = { question_touches };
@@ -42,10 +37,6 @@ impl MapQuestion<RangeRows> for CountIn {
 }
 
 impl MapQuestion<RangeRows> for SumIn {
-    ghost asks = { λ q. answers.SumIn (rect_of q.0) };
-
-    ghost tells = { answers.Summed };
-
     ghost hits = { λ q p. false };
 
     ghost touches = { question_touches };
@@ -66,10 +57,6 @@ impl MapQuestion<RangeRows> for SumIn {
 }
 
 impl MapQuestion<RangeRows> for ListIn {
-    ghost asks = { λ q. answers.ListIn (rect_of q.0) };
-
-    ghost tells = { answers.Listed };
-
     ghost hits = { λ q. is_in q.0 };
 
     ghost touches = { question_touches };

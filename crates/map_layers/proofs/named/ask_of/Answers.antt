@@ -13,7 +13,7 @@ returns g c =
     let e = c.in_ok-given.ensures in
     let l = c.args.layer.now in
     let asked = c.in_ok-given.asked in
-    let question = g.Q.MapQuestion.asks c.args.question.now in
+    let question = g.Q.OneQuestion.asks c.args.question.now in
     let index = g.X.Has.index l.indexes in
     let kind = of_kind g.R.Item.Shaped.kind (kind_asked question) (g.met.Q.MapQuestion.asks_kind c.args.question.now) in
     let many = as_many_items g.R.Item.Shaped.item_of l.entries in
@@ -23,7 +23,7 @@ returns g c =
     let new = c.ask_layer.new.steps in
     record {
       refused = (kind, is_there (g.X.NamedIndexes.held l.indexes) (index_of question) index c.requires.there ∙ e.refused);
-      answer = (ap (λ a. a.question) c.new.ensures ∙ ap g.Q.MapQuestion.asks e.question, ap (λ a. a.answer) c.new.ensures ∙ e.answer);
+      answer = (ap (λ a. a.question) c.new.ensures ∙ ap g.Q.OneQuestion.asks e.question, ap (λ a. a.answer) c.new.ensures ∙ e.answer);
       every_part = (
         subst (λ h. IsEveryPart h asked.parts) (sym c.requires.there) (IsEveryPart-of index asked.parts e.every_part.0),
         e.every_part.1 ∙ sym (ap (λ a. a.parts) c.new.ensures),
