@@ -53,6 +53,7 @@ module _ {P Item : Type 0} (contents : P → Contents Item) (stamp : Item → �
                 main_light = omega (arith, t.main_light, more, weight, some);
                 shadow_light = omega (arith, t.shadow_light, more, some);
               };
+          left = v.left;
         },
         record {
           live = Permuted-appended front e live h.live;

@@ -82,6 +82,7 @@ module _ {P Item : Type 0} {contents : P → Contents Item} {stamp : Item → �
     record {
       quiet = quiet;
       in_time = λ r there. (some r there).0;
+      left = f.valid.left;
     },
     record {
       live = others_left;

@@ -4,3 +4,5 @@ pub mod Weights
 pub mod Appending
 pub mod Dropping
 pub mod Swapping
+pub mod Retiring
+pub mod Freeing

@@ -1,12 +1,14 @@
 -- A preparation: a walk, a swap where all items are handed over, and memory.
-use Rattle.std.proofs.Common.{◌≡◌, ◌≢◌, ℕ, ◌+◌, ◌-◌, ◌≤◌, ◌∙◌, ◌⊎◌, true, false, ⊎_elim, length, nat_le, Option, Some, None, List, refl, ap, sym, subst, arith}
-use Rattle.std.specs.Option.{is_some, option_map_or}
+use Rattle.std.proofs.Common.{◌≡◌, ◌≢◌, ℕ, ◌+◌, ◌-◌, ◌≤◌, ◌∙◌, ◌⊎◌, true, false, ⊎_elim, length, nat_le, Option, Some, None, List, sum_by, refl, ap, sym, subst, arith}
+use Rattle.std.specs.Option.{is_some}
 use Rattle.std.proofs.lemmas.Bool.Decides.{nat_tests}
 use Rattle.builder_trait.specs.Parts.{Contents}
 use Rattle.id_chain.specs.Chain.{Entry}
 use Rattle.stack_levels.specs.Levels.{live_items, weight_of}
 use Rattle.level_slots.specs.Stack.{Stacked, memory_of}
 use Rattle.global_rebuild.specs.Index.{Shadow, Indexed, IsKept, IsIndexOf, IsInTime, live_in, retired_parts, IsWalkedOn, HasPaused}
+use Rattle.global_rebuild.specs.Retiring.{with_retired}
+use Rattle.global_rebuild.proofs.Retiring.{with-memory}
 use Rattle.global_rebuild.proofs.Weights.{walked_few, ended_all}
 
 none_before : {A : Type 0} (a b : Option A) → is_some a ≡ is_some b → a ≡ None → b ≡ None
@@ -18,14 +20,14 @@ some_before {x = x} a None same some = let wrong : true ≡ false = sym (ap is_s
 some_before a (Some y) same some = (y, refl)
 
 -- what a swap makes of an index: a shadow that has all items takes the place of the main stack, and nothing else changes anything
-pub data IsSwapped {P Item : Type 0} (i : Indexed P Item) (main : Stacked P Item) (shadow : Option (Shadow P Item)) (retired : Option ℕ) : Type 0 where
+pub data IsSwapped {P Item : Type 0} (i : Indexed P Item) (main : Stacked P Item) (shadow : Option (Shadow P Item)) (retired : List (Stacked P Item)) : Type 0 where
   quiet : i.shadow ≡ None → main ≡ i.main → shadow ≡ None → retired ≡ i.retired → IsSwapped i main shadow retired
   going : (r : Shadow P Item) → i.shadow ≡ Some r → r.cursor ≢ None → main ≡ i.main → shadow ≡ Some r → retired ≡ i.retired → IsSwapped i main shadow retired
-  ended : (r : Shadow P Item) → i.shadow ≡ Some r → r.cursor ≡ None → main ≡ r.stack → shadow ≡ None → retired ≡ Some (memory_of i.main)
+  ended : (r : Shadow P Item) → i.shadow ≡ Some r → r.cursor ≡ None → main ≡ r.stack → shadow ≡ None → retired ≡ with_retired i.retired i.main
       → IsSwapped i main shadow retired
 
 -- where nothing was swapped
-pub not_swapped : {P Item : Type 0} (i : Indexed P Item) {main : Stacked P Item} {shadow : Option (Shadow P Item)} {retired : Option ℕ}
+pub not_swapped : {P Item : Type 0} (i : Indexed P Item) {main : Stacked P Item} {shadow : Option (Shadow P Item)} {retired : List (Stacked P Item)}
     → ((r : Shadow P Item) → i.shadow ≡ Some r → r.cursor ≢ None) → main ≡ i.main → shadow ≡ i.shadow → retired ≡ i.retired → IsSwapped i main shadow retired
 not_swapped {P} {Item} i {main} {shadow} {retired} some main_is shadow_is put = cases i.shadow refl
   where
@@ -40,7 +42,7 @@ pub record IsMade {P Item : Type 0} (contents : P → Contents Item) (old new : 
 
 -- the walk makes `i` of the index, the swap puts three fields in it, and then a retired part is given up and memory is taken
 module _ {P Item : Type 0} {contents : P → Contents Item} {stamp : Item → ℕ} {i : Indexed P Item} {es : List (Entry Item)} {stamps : ℕ}
-    {main : Stacked P Item} {shadow : Option (Shadow P Item)} {retired : Option ℕ} (old new : Indexed P Item) (h : IsIndexOf contents stamp i es stamps) (s : IsSwapped i main shadow retired)
+    {main : Stacked P Item} {shadow : Option (Shadow P Item)} {retired : List (Stacked P Item)} (old new : Indexed P Item) (h : IsIndexOf contents stamp i es stamps) (s : IsSwapped i main shadow retired)
     (main_is : i.main ≡ old.main) (retired_is : i.retired ≡ old.retired) (runs : is_some i.shadow ≡ is_some old.shadow)
     (taken : (x r : Shadow P Item) → old.shadow ≡ Some x → i.shadow ≡ Some r → (r.cursor ≡ None) ⊎ (live_in contents r.stack ≡ live_in contents x.stack + 4))
     (at_most : (x r : Shadow P Item) → old.shadow ≡ Some x → i.shadow ≡ Some r → live_in contents r.stack ≤ live_in contents x.stack + 4)
@@ -48,7 +50,7 @@ module _ {P Item : Type 0} {contents : P → Contents Item} {stamp : Item → �
     (dead : (x r : Shadow P Item) → old.shadow ≡ Some x → i.shadow ≡ Some r
     → weight_of r.stack.levels + live_in contents x.stack ≡ weight_of x.stack.levels + live_in contents r.stack)
     (in_time : (r : Shadow P Item) → i.shadow ≡ Some r → r.cursor ≢ None → IsInTime contents 4 i.main r)
-    (one : retired_parts new ≡ option_map_or (λ n. n) retired 0 - 1)
+    (one : retired_parts new ≡ sum_by memory_of retired - 1)
     (live : live_items contents new.main.levels ≡ live_items contents main.levels) (weight : weight_of new.main.levels ≡ weight_of main.levels)
     (none : shadow ≡ None → new.shadow ≡ None)
     (some : (r : Shadow P Item) → shadow ≡ Some r → (r' : Shadow P Item) × (new.shadow ≡ Some r') × IsKept contents r r') where
@@ -59,7 +61,7 @@ module _ {P Item : Type 0} {contents : P → Contents Item} {stamp : Item → �
   same_weight same = weight ∙ ap (λ m. weight_of m.levels) (same ∙ main_is)
 
   one_fewer : retired ≡ i.retired → retired_parts new ≡ retired_parts old - 1
-  one_fewer put = one ∙ ap (λ o. option_map_or (λ n. n) o 0 - 1) (put ∙ retired_is)
+  one_fewer put = one ∙ ap (λ rs. sum_by memory_of rs - 1) (put ∙ retired_is)
 
   pub made : IsMade contents old new
   made = elim s [
@@ -113,7 +115,7 @@ module _ {P Item : Type 0} {contents : P → Contents Item} {stamp : Item → �
             weight = rw (x.1, few)
                 (omega (arith, weight, ap (λ m. weight_of m.levels) same, dead x.0 r x.1 is, no_fewer x.0 r x.1 is, all, total));
             shadow_weight = rw (none over, x.1, few);
-            retired = rw (x.1, few) (one ∙ ap (λ o. option_map_or (λ n. n) o 0 - 1) put ∙ ap (λ m. memory_of m - 1) main_is);
+            retired = rw (x.1, few) (omega (arith, one, ap (sum_by memory_of) put, with-memory i.retired i.main, ap memory_of main_is, ap (sum_by memory_of) retired_is));
           };
           ahead = gone over;
         }

@@ -9,7 +9,7 @@ use Rattle.query_laws.proofs.Permutations.{Permuted-length}
 use Rattle.builder_trait.specs.Parts.{Contents}
 use Rattle.id_chain.specs.Chain.{Entry, is_linked, before, IsCursor, before_cursor}
 use Rattle.stack_levels.specs.Levels.{weight_of}
-use Rattle.level_slots.specs.Stack.{Stacked}
+use Rattle.level_slots.specs.Stack.{Stacked, memory_of}
 use Rattle.global_rebuild.specs.Index.{Shadow, Indexed, IsShadowOf, IsIndexOf, IsIndex, IsInTime, live_in}
 use Rattle.global_rebuild.proofs.Walking.{item_of}
 
@@ -25,10 +25,11 @@ module _ {Item : Type 0} where
   few_before (Some handle) es linked = inr ((λ none. absurd cc), length-before handle es linked)
 
 module _ {P Item : Type 0} (contents : P → Contents Item) where
-  pub IsIndex-empty : IsIndex contents (record { main = record { levels = []; spare = 0; starters = 0 }; shadow = None; retired = None })
+  pub IsIndex-empty : IsIndex contents (record { main = record { levels = []; spare = 0; starters = 0 }; shadow = None; retired = [] })
   IsIndex-empty = record {
     quiet = λ none. omega arith;
     in_time = λ r is. absurd cc;
+    left = All-nil (λ s. 0 < memory_of s);
   }
 
   -- only the shadow is another
@@ -36,6 +37,7 @@ module _ {P Item : Type 0} (contents : P → Contents Item) where
   IsIndex-shadow i r v t = record {
     quiet = λ none. absurd cc;
     in_time = λ r' is. let one : r ≡ r' = cc in subst (IsInTime contents 0 i.main) one t;
+    left = v.left;
   }
 
 module _ {P Item : Type 0} (contents : P → Contents Item) (stamp : Item → ℕ) where
@@ -43,7 +45,7 @@ module _ {P Item : Type 0} (contents : P → Contents Item) (stamp : Item → �
   abbrev pub IsSoundOf : Indexed P Item → List (Entry Item) → ℕ → Type 0
   IsSoundOf i es stamps = IsIndex contents i × IsIndexOf contents stamp i es stamps
 
-  pub IsIndexOf-empty : IsIndexOf contents stamp (record { main = record { levels = []; spare = 0; starters = 0 }; shadow = None; retired = None }) [] 0
+  pub IsIndexOf-empty : IsIndexOf contents stamp (record { main = record { levels = []; spare = 0; starters = 0 }; shadow = None; retired = [] }) [] 0
   IsIndexOf-empty = record {
     live = nothing;
     below = All-nil (λ x. stamp x < 0);

@@ -1,24 +1,26 @@
 -- What contracts see of an index, beside the chain of its items (Overmars 1983).
-use Rattle.std.specs.Prelude.{◌≡◌, ℕ, ◌+◌, ◌-◌, ◌*◌, ◌^◌, ◌<◌, ◌≤◌, Bool, List, Option, Some, None, All, if◌then◌else◌, nat_le, nat_lt, length, map}
-use Rattle.std.specs.Option.{option_map, option_map_or}
+use Rattle.std.specs.Prelude.{◌≡◌, ℕ, ◌+◌, ◌-◌, ◌*◌, ◌^◌, ◌<◌, ◌≤◌, ◌==◌, Bool, true, false, List, [], ◌∷◌, Option, Some, None, All, Contains, if◌then◌else◌, nat_le, nat_lt, length, map, sum_by}
+use Rattle.std.specs.Option.{is_some, option_map, option_map_or}
 use Rattle.query_laws.specs.Permuted.{Permuted}
 use Rattle.builder_trait.specs.Parts.{Contents}
 use Rattle.id_chain.specs.Chain.{Entry, HandlesDiffer, item_at, IsCursor, before_cursor}
 use Rattle.id_chain.specs.StampsRise.{StampsRise}
+use Rattle.stack_levels.specs.Slots.{Slots, one_if}
 use Rattle.stack_levels.specs.Levels.{live_items, all_items, weight_of}
 use Rattle.level_slots.specs.Stack.{Stacked, held_by_level, memory_of}
 use Rattle.level_slots.specs.Rooms.{rooms_of, forecast_of}
+use Rattle.level_slots.specs.Retired.{parts_at, top_of, complete_at}
 
 -- the stack that is being made, and the cursor of the walk along the chain: the handle of the item that comes next
 pub record Shadow (P Item : Type 0) : Type 0 where
   pub stack : Stacked P Item
   pub cursor : Option ℕ
 
--- the stack that answers; the shadow, while a rebuild runs; and how many parts of a retired stack are still in memory
+-- the stack that answers; the shadow, while a rebuild runs; and what is left of the stacks that earlier rebuilds put out of use, oldest first
 pub record Indexed (P Item : Type 0) : Type 0 where
   pub main : Stacked P Item
   pub shadow : Option (Shadow P Item)
-  pub retired : Option ℕ
+  pub retired : List (Stacked P Item)
 
 -- how many items are left after a walk by four, which ends the rebuild where none is
 abbrev pub walked_on : Option ℕ → Option ℕ
@@ -31,9 +33,13 @@ module _ {Item : Type 0} (stamp : Item → ℕ) where
   stamp_at None es stamps = stamps
   stamp_at (Some handle) es stamps = option_map_or stamp (item_at handle es) stamps
 
--- how many parts of a retired stack are still in memory
+-- how many parts of retired stacks are still in memory
 abbrev pub retired_parts : {P Item : Type 0} → Indexed P Item → ℕ
-retired_parts i = option_map_or (λ n. n) i.retired 0
+retired_parts i = sum_by memory_of i.retired
+
+-- how many parts of level k are in memory, of whichever stack
+abbrev pub parts_in : {P Item : Type 0} → ℕ → Indexed P Item → ℕ
+parts_in k i = parts_at k i.main + option_map_or (λ r. parts_at k r.stack) i.shadow 0 + sum_by (parts_at k) i.retired
 
 -- the weight of the shadow, 0 where none is being made
 abbrev pub shadow_weight : {P Item : Type 0} → Indexed P Item → ℕ
@@ -43,12 +49,12 @@ shadow_weight i = option_map_or (λ r. weight_of r.stack.levels) i.shadow 0
 abbrev pub shadow_rooms : {P Item : Type 0} → Indexed P Item → ℕ
 shadow_rooms i = option_map_or (λ r. rooms_of r.stack) i.shadow 0
 
--- no memory was taken and none was freed: each stack holds what it held on each level, a shadow that is new holds none, and of a retired
--- stack as many parts are left
+-- no memory was taken and none was freed: each stack holds what it held on each level, a shadow that is new holds none, and the
+-- retired stacks are as they were
 pub record HoldsAsMuch {P Item : Type 0} (old new : Indexed P Item) : Type 0 where
   pub main : held_by_level new.main ≡ held_by_level old.main
   pub shadow : (r r' : Shadow P Item) → old.shadow ≡ Some r → new.shadow ≡ Some r' → held_by_level r'.stack ≡ held_by_level r.stack
-  pub fresh : old.shadow ≡ None → (r' : Shadow P Item) → new.shadow ≡ Some r' → memory_of r'.stack ≡ 0
+  pub fresh : old.shadow ≡ None → (r' : Shadow P Item) → new.shadow ≡ Some r' → held_by_level r'.stack ≡ record { parts = 0; tables = 0 } ∷ []
   pub retired : new.retired ≡ old.retired
 
 -- a stack holds no more rooms than may be wanted within two ticks
@@ -82,9 +88,10 @@ module _ {P Item : Type 0} (contents : P → Contents Item) where
   abbrev pub shadow_weight_on : Indexed P Item → ℕ
   shadow_weight_on i = option_map_or (λ w. if nat_le w 4 then 0 else shadow_weight i + 4) (unwalked i) 0
 
-  -- how many parts of a retired stack are in memory then, of which one is given up
+  -- how many parts of retired stacks are in memory then, of which one is given up
   abbrev pub retired_parts_on : Indexed P Item → ℕ
-  retired_parts_on i = option_map_or (λ w. if nat_le w 4 then memory_of i.main else retired_parts i) (unwalked i) (retired_parts i) - 1
+  retired_parts_on i =
+      option_map_or (λ w. if nat_le w 4 then memory_of i.main + retired_parts i else retired_parts i) (unwalked i) (retired_parts i) - 1
 
   -- what a preparation makes of a walk and of the weights: the walk goes on by four, and ends the rebuild where it comes by all
   pub record IsWalkedOn (old new : Indexed P Item) : Type 0 where
@@ -100,6 +107,17 @@ module _ {P Item : Type 0} (contents : P → Contents Item) where
     pub none : old.shadow ≡ None → new.shadow ≡ None
     pub going : (r : Shadow P Item) → old.shadow ≡ Some r → (r' : Shadow P Item) × (new.shadow ≡ Some r')
         × (live_in r.stack ≤ live_in r'.stack) × (live_in r'.stack ≤ live_in r.stack + 4)
+
+  -- one part was freed at most, of the highest level t of these levels, and none of another level. None that was complete there had more than 2 ^ t items.
+  pub record FreesOneOf (levels : List (Slots P Item)) (old new : Indexed P Item) : Type 0 where
+    pub at : (k : ℕ) → parts_in k old ≤ parts_in k new + one_if (k == top_of levels)
+    pub sizes : All (λ p. length (contents p).items ≤ 2 ^ top_of levels) (complete_at (top_of levels) levels)
+
+  -- of each level no less is in memory; or one part was freed, of the main stack, whose rebuild ends, or of a stack that is out of use
+  pub data FreesOne (old new : Indexed P Item) : Type 0 where
+    none : ((k : ℕ) → parts_in k old ≤ parts_in k new) → FreesOne old new
+    of_main : is_some old.shadow ≡ true → is_some new.shadow ≡ false → FreesOneOf old.main.levels old new → FreesOne old new
+    of_retired : (s : Stacked P Item) → Contains old.retired s → FreesOneOf s.levels old new → FreesOne old new
 
   -- more of the weight is dead than half of what is live, and eight
   abbrev pub is_heavy : Stacked P Item → Bool
@@ -125,6 +143,7 @@ module _ {P Item : Type 0} (contents : P → Contents Item) where
   pub record IsIndex (i : Indexed P Item) : Type 0 where
     pub quiet : i.shadow ≡ None → IsQuiet i.main
     pub in_time : (r : Shadow P Item) → i.shadow ≡ Some r → IsInTime 0 i.main r
+    pub left : All (λ s. 0 < memory_of s) i.retired
 
   module _ (stamp : Item → ℕ) where
     -- a shadow has the items of a chain before the cursor; those that are dead in it were before the cursor too

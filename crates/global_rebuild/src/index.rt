@@ -1,15 +1,17 @@
 //! The index.
-ghost use Rattle.std.specs.Prelude.{◌≡◌, ℕ, ◌+◌, ◌-◌, ◌*◌, ◌^◌, ◌<◌, ◌≤◌, ◌⊎◌, ◌++◌, ◌∷◌, [], All, List, None, Some, true, false, if◌then◌else◌, IfOk, IsTrue, IsErr, OnErr, length, map};
+ghost use Rattle.std.specs.Prelude.{◌≡◌, ℕ, ◌+◌, ◌-◌, ◌*◌, ◌^◌, ◌<◌, ◌≤◌, ◌⊎◌, ◌++◌, ◌∷◌, [], All, List, None, Some, true, false, if◌then◌else◌, IfOk, IsTrue, IsErr, OnErr, length, vec_capacity, map};
 ghost use Rattle.std.specs.Option.{is_some, option_map, option_map_or};
 ghost use Rattle.query_laws.specs.StepLedger.{Spends};
 ghost use Rattle.id_chain.specs.Chain.{Entry, HandlesDiffer, is_linked, item_at, IsCursor, before_cursor, without_handle};
 ghost use Rattle.stack_levels.specs.Levels.{live_items, all_items, waiting_of, weight_of, parts_of, touches_of};
 ghost use Rattle.level_slots.specs.Stack.{memory_of};
 ghost use Rattle.level_slots.specs.Rooms.{rooms_of};
+ghost use Rattle.level_slots.specs.Retired.{parts_at};
 ghost use Rattle.level_slots.specs.Height.{HaveAtMost, AreFew, size_of};
 ghost use Rattle.stack_levels.specs.Cost.{IsWithin, quotas};
 ghost use Rattle.stack_levels.specs.Towers.{AreOnTime, TakeTicks};
-ghost use Rattle.global_rebuild.specs.Index.{Shadow as Walked, live_in, unwalked, shadow_weight, shadow_rooms, retired_parts, is_heavy, IsForecast, IsKept, IsInTime, IsIndex, IsIndexOf, IsPrepared, HoldsAsMuch, IsWalkedOn, HasPaused};
+ghost use Rattle.global_rebuild.specs.Index.{Shadow as Walked, live_in, unwalked, shadow_weight, shadow_rooms, parts_in, is_heavy, IsForecast, IsKept, IsInTime, IsIndex, IsIndexOf, IsPrepared, HoldsAsMuch, IsWalkedOn, HasPaused, FreesOne};
+ghost use Rattle.global_rebuild.specs.Retiring.{with_retired, IsGivenUp};
 
 use crate::shadow::Shadow;
 use builder_trait::{Answers, Asking, Builder, Kinded, Part};
@@ -25,7 +27,7 @@ use std::sync::ledger::Ledger;
 /// A stack of the items of a chain, which is made anew while it answers, before too much of it is dead (Overmars 1983).
 ///
 /// Beside the stack there may be a shadow: a second stack that gets the items of the chain four an update, from the first one on. When it has
-/// all of them it takes the place of the first, whose memory is then given up a part an update.
+/// all of them it takes the place of the first, whose memory is then given up a part an update, those of the highest level first.
 ///
 /// An update is a [`prepare`](Index::prepare), which may be refused memory, and then a commit, which can't fail: an insert after the item was
 /// appended to the chain, a delete before it is unlinked.
@@ -34,7 +36,7 @@ pub struct Index<B: Builder> {
     alloc: Global,
     main: Stack<B>,
     shadow: Option<Shadow<B>>,
-    retired: Option<Retired<B>>,
+    retired: Vec<Retired<B>>,
 }
 
 impl<B: Builder> Model for Index<B> {
@@ -42,30 +44,31 @@ impl<B: Builder> Model for Index<B> {
 
     ghost Value = { Indexed B.Part B.Item };
 
-    ghost view = { λ i. record { main = i.main; shadow = i.shadow; retired = i.retired } };
+    ghost view = { λ i. record { main = i.main; shadow = i.shadow; retired = i.retired.items } };
 
-    ghost invariant = { λ i. IsIndex B.Part.Part.contents (record { main = i.main; shadow = i.shadow; retired = i.retired }) };
+    ghost invariant = { λ i. IsIndex B.Part.Part.contents (record { main = i.main; shadow = i.shadow; retired = i.retired.items }) };
 }
 
 impl<B: Builder> Index<B> {
     /// An index of no items. It takes no memory; [`Index::prepare`] takes its from `alloc`.
     pub fn new(alloc: Global) -> Index<B>
-        ensures empty { result ≡ record { main = record { levels = []; spare = 0; starters = 0 }; shadow = None; retired = None } }
+        ensures empty { result ≡ record { main = record { levels = []; spare = 0; starters = 0 }; shadow = None; retired = [] } }
         ensures chain { IsIndexOf B.Part.Part.contents B.Item.stamp result [] 0 }
     {
         Index {
             alloc,
             main: Stack::new(alloc),
             shadow: None,
-            retired: None,
+            retired: Vec::new(alloc),
         }
     }
 
     /// Readies the next update. While a rebuild runs, it hands four items over to the shadow, or all that are left, each an insert, and puts
-    /// it in the place of the main stack when it has all. Then it gives up a part of a stack that was put out of use, and takes the memory of
-    /// two ticks of each stack, of which an update is one.
+    /// it in the place of the main stack when it has all. Then it gives up a part of the stack that was put out of use last, and takes the
+    /// memory of two ticks of each stack, of which an update is one.
     ///
-    /// `NoMemory` where it isn't given. The items are as before; some may be handed over, and the rebuild may have ended.
+    /// `NoMemory` where it isn't given. The items are as before; some may be handed over, and the rebuild may have ended. Refused or not, no
+    /// more than one part is freed.
     pub fn prepare<L: Ledger>(
         &mut self,
         chain: &Chain<B::Item>,
@@ -75,12 +78,13 @@ impl<B: Builder> Index<B> {
         ensures chain { (stamps : ℕ) → IsIndexOf B.Part.Part.contents B.Item.stamp self.old chain.now.entries stamps
             → IsIndexOf B.Part.Part.contents B.Item.stamp self.new chain.now.entries stamps }
         ensures prepared { IfOk result (λ _. IsPrepared B.Part.Part.contents self.new) }
-        ensures ready { IfOk result (λ _. (2 ≤ self.new.main.spare) × IsForecast self.new.main) }
-        ensures shadow_ready { IfOk result (λ _. (r : Walked B.Part B.Item) → self.new.shadow ≡ Some r → (2 ≤ r.stack.spare) × IsForecast r.stack) }
+        ensures ready { IfOk result (λ _. (2 ≤ self.new.main.spare) × IsForecast self.new.main
+            × ((r : Walked B.Part B.Item) → self.new.shadow ≡ Some r → (2 ≤ r.stack.spare) × IsForecast r.stack)) }
         ensures walked { IfOk result (λ _. IsWalkedOn B.Part.Part.contents self.old self.new) }
 
         // No rebuild begins, and none that runs is given up.
         ensures refused { OnErr result (IsWalkedOn B.Part.Part.contents self.old self.new ⊎ HasPaused B.Part.Part.contents self.old self.new) }
+        ensures frees { FreesOne B.Part.Part.contents self.old self.new }
         ensures quiet { self.old.shadow ≡ None → steps.new ≡ steps.old }
         ensures cost { (g : ℕ) → 2 * live_in B.Part.Part.contents self.old.main + 10 < 2 ^ (g + 1)
             → IsWithin (4 * quotas B.SLOPE B.BASE 0 g) (4 * (2 * g)) (B.Part.Part.mark_touches g) steps.old steps.new }
@@ -88,6 +92,7 @@ impl<B: Builder> Index<B> {
         self.walk(chain, 4, steps)?;
         let has_walked = self.has_walked();
         if has_walked {
+            self.retired.reserve(1)?;
             swap(&mut self.main, &mut self.shadow, &mut self.retired);
         }
         give_up(&mut self.main, &mut self.retired);
@@ -244,14 +249,13 @@ impl<B: Builder> Index<B> {
         self.main.parts()
     }
 
-    /// The number of parts that are still in memory of the stack that a rebuild put out of use. Each preparation gives up one.
-    pub fn retired(&self) -> usize
-        ensures { result ≡ retired_parts self.now }
+    /// The stacks that rebuilds put out of use, as far as they are still in memory, oldest first. Each preparation gives up one part of the
+    /// last.
+    pub fn retired(&self) -> &[Retired<B>]
+        ensures value { result.now ≡ self.now.retired }
+        ensures left { All (λ s. 0 < memory_of s) self.now.retired }
     {
-        match &self.retired {
-            Some(stack) => stack.len(),
-            None => 0,
-        }
+        &self.retired
     }
 
     /// The weight of the rooms that are held and not begun, in both stacks: a room of level i weighs `2^i`, and a builder for a single
@@ -283,6 +287,7 @@ impl<B: Builder> Index<B> {
         ensures handed { (r r' : Walked B.Part B.Item) → self.old.shadow ≡ Some r → self.new.shadow ≡ Some r'
             → (live_in B.Part.Part.contents r.stack ≤ live_in B.Part.Part.contents r'.stack)
             × (live_in B.Part.Part.contents r'.stack ≤ live_in B.Part.Part.contents r.stack + most) }
+        ensures no_less { (k : ℕ) → parts_in k self.old ≤ parts_in k self.new }
         ensures quiet { self.old.shadow ≡ None → steps.new ≡ steps.old }
         ensures dead { (r r' : Walked B.Part B.Item) → self.old.shadow ≡ Some r → self.new.shadow ≡ Some r'
             → weight_of r'.stack.levels + live_in B.Part.Part.contents r.stack ≡ weight_of r.stack.levels + live_in B.Part.Part.contents r'.stack }
@@ -313,31 +318,37 @@ impl<B: Builder> Index<B> {
 fn swap<B: Builder>(
     main: &mut Stack<B>,
     shadow: &mut Option<Shadow<B>>,
-    retired: &mut Option<Retired<B>>,
+    retired: &mut Vec<Retired<B>>,
 )
-    ensures swapped { (r : Walked B.Part B.Item) → shadow.old ≡ Some r → (main.new ≡ r.stack) × (retired.new ≡ Some (memory_of main.old)) }
-    ensures kept { shadow.old ≡ None → (main.new ≡ main.old) × (retired.new ≡ retired.old) }
+    requires room { length retired.old.items < vec_capacity retired.old }
+    ensures swapped { (r : Walked B.Part B.Item) → shadow.old ≡ Some r → (main.new ≡ r.stack)
+        × (retired.new.items ≡ with_retired retired.old.items main.old) }
+    ensures kept { shadow.old ≡ None → (main.new ≡ main.old) × (retired.new.items ≡ retired.old.items) }
     ensures ended { shadow.new ≡ None }
 {
     if let Some(fresh) = shadow.take() {
-        let old = mem::replace(main, fresh.into_stack());
-        *retired = Some(old.retire());
+        let old = mem::replace(main, fresh.into_stack()).retire();
+        if !old.is_empty() {
+            retired.push_reserved(old);
+        }
     }
 }
 
-/// Gives up a part of a retired stack, if one is left, to those that another keeps, where that has a place for it.
-fn give_up<B: Builder>(main: &mut Stack<B>, retired: &mut Option<Retired<B>>)
-    ensures one { option_map_or (λ n. n) retired.new 0 ≡ option_map_or (λ n. n) retired.old 0 - 1 }
+/// Gives up a part of the stack that was retired last, if one is left, to those that another keeps, where that has a place for it.
+fn give_up<B: Builder>(main: &mut Stack<B>, retired: &mut Vec<Retired<B>>)
+    requires left { All (λ s. 0 < memory_of s) retired.old.items }
+    ensures left { All (λ s. 0 < memory_of s) retired.new.items }
+    ensures given { IsGivenUp B.Part.Part.contents main.old retired.old.items main.new retired.new.items }
     ensures live { live_items B.Part.Part.contents main.new.levels ≡ live_items B.Part.Part.contents main.old.levels }
     ensures items { all_items B.Part.Part.contents main.new.levels ≡ all_items B.Part.Part.contents main.old.levels }
     ensures weight { weight_of main.new.levels ≡ weight_of main.old.levels }
 {
-    let Some(stack) = retired else {
+    let Some(mut last) = retired.pop() else {
         return;
     };
-    main.take_over(stack);
-    if stack.is_empty() {
-        *retired = None;
+    main.take_over(&mut last);
+    if !last.is_empty() {
+        retired.push_reserved(last);
     }
 }
 
@@ -349,6 +360,8 @@ fn take_memory<B: Builder>(
     ensures live { live_items B.Part.Part.contents main.new.levels ≡ live_items B.Part.Part.contents main.old.levels }
     ensures items { all_items B.Part.Part.contents main.new.levels ≡ all_items B.Part.Part.contents main.old.levels }
     ensures weight { weight_of main.new.levels ≡ weight_of main.old.levels }
+    ensures no_less { (k : ℕ) → parts_at k main.old + option_map_or (λ r. parts_at k r.stack) shadow.old 0
+        ≤ parts_at k main.new + option_map_or (λ r. parts_at k r.stack) shadow.new 0 }
     ensures none { shadow.old ≡ None → shadow.new ≡ None }
     ensures some { (r : Walked B.Part B.Item) → shadow.old ≡ Some r
         → (r' : Walked B.Part B.Item) × (shadow.new ≡ Some r') × IsKept B.Part.Part.contents r r' }

@@ -9,6 +9,7 @@ ghost use Rattle.stack_levels.specs.Levels.{weight_of, live_items, all_items};
 ghost use Rattle.stack_levels.specs.Cost.{IsWithin, quotas};
 ghost use Rattle.level_slots.specs.Stack.{held_by_level};
 ghost use Rattle.level_slots.specs.Rooms.{rooms_of};
+ghost use Rattle.level_slots.specs.Retired.{parts_at};
 ghost use Rattle.global_rebuild.specs.Index.{live_in, IsForecast, IsShadowOf};
 
 use builder_trait::{Builder, Part};
@@ -66,6 +67,7 @@ impl<B: Builder> Shadow<B> {
         ensures at_most { live_in B.Part.Part.contents self.new.stack ≤ live_in B.Part.Part.contents self.old.stack + 1 }
         ensures weight { weight_of self.new.stack.levels ≤ weight_of self.old.stack.levels + 1 }
         ensures no_lighter { weight_of self.old.stack.levels ≤ weight_of self.new.stack.levels }
+        ensures no_less { (k : ℕ) → parts_at k self.old.stack ≤ parts_at k self.new.stack }
         ensures dead { weight_of self.new.stack.levels + live_in B.Part.Part.contents self.old.stack
             ≡ weight_of self.old.stack.levels + live_in B.Part.Part.contents self.new.stack }
         ensures cost { (g : ℕ) → weight_of self.new.stack.levels < 2 ^ (g + 1)
@@ -101,6 +103,7 @@ impl<B: Builder> Shadow<B> {
         ensures dead { weight_of self.new.stack.levels + live_in B.Part.Part.contents self.old.stack
             ≡ weight_of self.old.stack.levels + live_in B.Part.Part.contents self.new.stack }
         ensures no_lighter { weight_of self.old.stack.levels ≤ weight_of self.new.stack.levels }
+        ensures no_less { (k : ℕ) → parts_at k self.old.stack ≤ parts_at k self.new.stack }
         ensures cost { (g : ℕ) → weight_of self.new.stack.levels < 2 ^ (g + 1)
             → IsWithin (most * quotas B.SLOPE B.BASE 0 g) (most * (2 * g)) (B.Part.Part.mark_touches g) steps.old steps.new }
     {
@@ -149,6 +152,7 @@ impl<B: Builder> Shadow<B> {
         ensures live { live_items B.Part.Part.contents self.new.stack.levels ≡ live_items B.Part.Part.contents self.old.stack.levels }
         ensures items { all_items B.Part.Part.contents self.new.stack.levels ≡ all_items B.Part.Part.contents self.old.stack.levels }
         ensures weight { weight_of self.new.stack.levels ≡ weight_of self.old.stack.levels }
+        ensures no_less { (k : ℕ) → parts_at k self.old.stack ≤ parts_at k self.new.stack }
         ensures cursor { self.new.cursor ≡ self.old.cursor }
         ensures rooms { IfOk result (λ _. IsForecast self.new.stack) }
     {

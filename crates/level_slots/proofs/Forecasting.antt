@@ -19,13 +19,13 @@ use Rattle.stack_levels.proofs.Publishing.{doubled}
 use Rattle.stack_levels.proofs.Neighbouring.{none_ticks}
 
 module _ {P Item : Type 0} where
-  -- a level is as it was, but for its room and kept builders
+  -- a level is as it was, but for its room, kept builders and tables
   abbrev pub IsSame : Slots P Item → Slots P Item → Type 0
-  IsSame l l' = l' ≡ record l { has_room = l'.has_room; kept = l'.kept }
+  IsSame l l' = l' ≡ record l { has_room = l'.has_room; kept = l'.kept; tables = l'.tables }
 
   -- a level without parts
   abbrev pub unused : ℕ → Slots P Item
-  unused n = record { level = n; parts = []; construction = None; has_room = false; kept = 0 }
+  unused n = record { level = n; parts = []; construction = None; has_room = false; kept = 0; tables = 0 }
 
   pub KeepRooms-refl : (lower : Slots P Item) (above : List (Slots P Item)) → KeepRooms lower above above
   KeepRooms-refl lower [] = refl
@@ -63,7 +63,7 @@ module _ {P Item : Type 0} where
   AreKept-then (l ∷ a) [] c h k = absurd h
   AreKept-then (l ∷ a) (m ∷ b) [] h k = absurd k
   AreKept-then (l ∷ a) (m ∷ b) (n ∷ c) h k =
-      (k.0 ∙ ap (λ (v : Slots P Item). record v { has_room = n.has_room; kept = n.kept }) h.0, AreKept-then a b c h.1 k.1)
+      (k.0 ∙ ap (λ (v : Slots P Item). record v { has_room = n.has_room; kept = n.kept; tables = n.tables }) h.0, AreKept-then a b c h.1 k.1)
 
   pub numbered-from : (l l' : Slots P Item) (above : List (Slots P Item)) → l'.level ≡ l.level → AreNumbered l above → AreNumbered l' above
   numbered-from l l' [] same h = tt
@@ -89,7 +89,7 @@ module _ {P Item : Type 0} where
 
   -- where only kept builders changed
   pub IsSame-kept : (l l' : Slots P Item) (n : ℕ) → l' ≡ record l { kept = n } → IsSame l l'
-  IsSame-kept l l' n same = subst (λ (v : Slots P Item). v ≡ record l { has_room = v.has_room; kept = v.kept }) (sym same) refl
+  IsSame-kept l l' n same = subst (λ (v : Slots P Item). v ≡ record l { has_room = v.has_room; kept = v.kept; tables = v.tables }) (sym same) refl
 
   pub rooms-forecast : (lower : Slots P Item) (above : List (Slots P Item)) → AreNumbered lower above → AreForecast lower above
       → rooms_in above ≤ forecast_of (lower ∷ above)

@@ -1,10 +1,11 @@
--- How many parts of each level are in memory.
+-- What is in memory of each level.
 use Rattle.std.proofs.Common.{◌≡◌, ℕ, ◌+◌, List, ◌∷◌, map, drop, ap₂}
-use Rattle.stack_levels.specs.Slots.{Slots, held_in}
-use Rattle.stack_levels.specs.Levels.{lowest_held}
+use Rattle.stack_levels.specs.Slots.{Slots, in_memory}
+use Rattle.stack_levels.specs.Levels.{lowest_held, lowest_tables}
 
--- as many of each level, with n and m for single items
+-- as much of each level, with n and m builders for single items
 pub same_held : {P Item : Type 0} (new old : List (Slots P Item)) (n m : ℕ) → n + lowest_held new ≡ m + lowest_held old
-    → drop 1 (map held_in new) ≡ drop 1 (map held_in old)
-    → (n + lowest_held new) ∷ drop 1 (map held_in new) ≡ (m + lowest_held old) ∷ drop 1 (map held_in old)
-same_held new old n m lowest above = ap₂ (λ k ks. k ∷ ks) lowest above
+    → lowest_tables new ≡ lowest_tables old → drop 1 (map in_memory new) ≡ drop 1 (map in_memory old)
+    → record { parts = n + lowest_held new; tables = lowest_tables new } ∷ drop 1 (map in_memory new)
+    ≡ record { parts = m + lowest_held old; tables = lowest_tables old } ∷ drop 1 (map in_memory old)
+same_held new old n m parts tables above = ap₂ (λ k ks. k ∷ ks) (ap₂ (λ p t. record { parts = p; tables = t }) parts tables) above

@@ -4,3 +4,4 @@ pub mod FewParts
 pub mod Forecasting
 pub mod TakingOver
 pub mod TakingMemory
+pub mod GivingUp

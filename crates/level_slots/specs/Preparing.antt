@@ -2,7 +2,7 @@
 use Rattle.std.specs.Prelude.{◌≡◌, ℕ, ◌+◌, ◌-◌, ◌*◌, ◌^◌, ◌<◌, ◌≤◌, true, List, [], ◌∷◌, All, length, nat_le}
 use Rattle.builder_trait.specs.Builders.{PartKind, Progress, begun}
 use Rattle.builder_trait.specs.Parts.{Contents}
-use Rattle.stack_levels.specs.Slots.{Slots, IsIdle, one_if, ticks_of, held_in, held_by_forecast}
+use Rattle.stack_levels.specs.Slots.{Slots, IsIdle, one_if, ticks_of, held_in, tables_in, in_memory, memory_by_forecast}
 use Rattle.stack_levels.specs.Levels.{weight_of}
 use Rattle.stack_levels.specs.Neighbours.{IsPunctual}
 use Rattle.stack_levels.specs.Towers.{IsDue, IsDueSoon, HaveRoomsAbove, AreAllLevels}
@@ -20,18 +20,18 @@ module _ {P Item : Type 0} where
   AreRising [] = Unit {0}
   AreRising (lower ∷ above) = AreNumbered lower above
 
-  -- the levels above one are as they were, but for rooms and kept builders, and a room above a level that is due soon is still held
+  -- the levels above one are as they were, but for rooms, kept builders and tables, and a room above a level that is due soon is still held
   abbrev pub KeepRooms : Slots P Item → List (Slots P Item) → List (Slots P Item) → Type 0
   KeepRooms lower [] new = new ≡ []
   KeepRooms lower (l ∷ old) [] = ⊥
-  KeepRooms lower (l ∷ old) (l' ∷ new) = (l' ≡ record l { has_room = l'.has_room; kept = l'.kept })
+  KeepRooms lower (l ∷ old) (l' ∷ new) = (l' ≡ record l { has_room = l'.has_room; kept = l'.kept; tables = l'.tables })
       × (IsDueSoon lower → l.has_room ≡ true → l'.has_room ≡ true) × KeepRooms l old new
 
   -- the same from the lowest of these levels on
   abbrev pub KeepRoomsAbove : List (Slots P Item) → List (Slots P Item) → Type 0
   KeepRoomsAbove [] new = new ≡ []
   KeepRoomsAbove (l ∷ old) [] = ⊥
-  KeepRoomsAbove (l ∷ old) (l' ∷ new) = (l' ≡ record l { has_room = l'.has_room; kept = l'.kept }) × KeepRooms l old new
+  KeepRoomsAbove (l ∷ old) (l' ∷ new) = (l' ≡ record l { has_room = l'.has_room; kept = l'.kept; tables = l'.tables }) × KeepRooms l old new
 
   -- levels are as they were, but that more builders may be kept
   abbrev pub KeepMore : List (Slots P Item) → List (Slots P Item) → Type 0
@@ -39,31 +39,32 @@ module _ {P Item : Type 0} where
   KeepMore (l ∷ old) [] = ⊥
   KeepMore (l ∷ old) (l' ∷ new) = (l' ≡ record l { kept = l'.kept }) × (l.kept ≤ l'.kept) × KeepMore old new
 
-  -- levels are as they were, constructions with their clocks too, but for rooms and kept builders; and above them there are idle ones
+  -- levels are as they were, constructions with their clocks too, but for rooms, kept builders and tables; and above them there are idle ones
   abbrev pub AreKept : List (Slots P Item) → List (Slots P Item) → Type 0
   AreKept [] new = All IsIdle new
   AreKept (l ∷ old) [] = ⊥
-  AreKept (l ∷ old) (l' ∷ new) = (l' ≡ record l { has_room = l'.has_room; kept = l'.kept }) × AreKept old new
+  AreKept (l ∷ old) (l' ∷ new) = (l' ≡ record l { has_room = l'.has_room; kept = l'.kept; tables = l'.tables }) × AreKept old new
 
   -- levels are as they were, and above them there are some that hold nothing
   abbrev pub AreAdded : List (Slots P Item) → List (Slots P Item) → Type 0
-  AreAdded [] new = All (λ l. held_in l ≡ 0) new
+  AreAdded [] new = All (λ l. in_memory l ≡ record { parts = 0; tables = 0 }) new
   AreAdded (l ∷ old) [] = ⊥
   AreAdded (l ∷ old) (l' ∷ new) = (l' ≡ l) × AreAdded old new
 
   -- of each level as much is in memory as a forecast leaves there, and of a level that is new its room alone
   abbrev pub TakeRooms : List (Slots P Item) → List (Slots P Item) → Type 0
-  TakeRooms [] new = All (λ l. held_in l ≡ one_if l.has_room) new
+  TakeRooms [] new = All (λ l. in_memory l ≡ record { parts = one_if l.has_room; tables = one_if l.has_room }) new
   TakeRooms (l ∷ old) [] = ⊥
-  TakeRooms (l ∷ old) (l' ∷ new) = (held_in l' ≡ held_by_forecast l l'.has_room) × TakeRooms old new
+  TakeRooms (l ∷ old) (l' ∷ new) = (in_memory l' ≡ memory_by_forecast l l'.has_room) × TakeRooms old new
 
-  -- Level by level no memory is freed, and just what is wanted beyond what is kept is taken: rooms, and at the lowest level builders for single items,
-  -- of which n stood ready and m do now.
+  -- Level by level no memory is freed, and just what is wanted beyond what is kept is taken: rooms, each of a part and tables, and at the lowest level
+  -- builders for single items, of which n stood ready and m do now.
   abbrev pub TakeMemory : ℕ → List (Slots P Item) → ℕ → List (Slots P Item) → Type 0
   TakeMemory n [] m [] = m ≡ n
-  TakeMemory n [] m (l' ∷ new) = (m + held_in l' ≡ n + (m - n)) × TakeRooms [] new
+  TakeMemory n [] m (l' ∷ new) = (m + held_in l' ≡ n + (m - n)) × (tables_in l' ≡ 0) × TakeRooms [] new
   TakeMemory n (l ∷ old) m [] = ⊥
-  TakeMemory n (l ∷ old) m (l' ∷ new) = (m + held_in l' ≡ n + held_in l + (m - (n + l.kept))) × TakeRooms old new
+  TakeMemory n (l ∷ old) m (l' ∷ new) = (m + held_in l' ≡ n + held_in l + (m - (n + l.kept))) × (tables_in l' ≡ tables_in l)
+      × TakeRooms old new
 
   -- above each level that is due soon, and there alone, a room is held, but for the highest level
   abbrev pub AreForecast : Slots P Item → List (Slots P Item) → Type 0

@@ -3,8 +3,8 @@ use Rattle.std.specs.Prelude.{◌≡◌, ℕ, ◌+◌, ◌^◌, ◌<◌, ◌≤�
 use Rattle.query_laws.specs.Orders.{AllStampsDiffer}
 use Rattle.builder_trait.specs.Builders.{PartKind}
 use Rattle.builder_trait.specs.Parts.{Contents}
-use Rattle.stack_levels.specs.Slots.{Slots, held_in}
-use Rattle.stack_levels.specs.Levels.{weight_of, live_items, all_items, parts_of, lowest_held, held_of}
+use Rattle.stack_levels.specs.Slots.{Slots, InMemory, in_memory}
+use Rattle.stack_levels.specs.Levels.{weight_of, live_items, all_items, parts_of, lowest_held, lowest_tables, held_of}
 use Rattle.stack_levels.specs.Neighbours.{IsPunctual}
 use Rattle.stack_levels.specs.Towers.{AreAllLevels, IsDue, IsDueSoon, HaveRoomsAbove}
 
@@ -19,9 +19,9 @@ module _ {P Item : Type 0} where
   abbrev pub memory_of : Stacked P Item → ℕ
   memory_of s = s.starters + held_of s.levels
 
-  -- how many parts of each level are in memory, lowest first; the builders for single items are of level 0
-  abbrev pub held_by_level : Stacked P Item → List ℕ
-  held_by_level s = (s.starters + lowest_held s.levels) ∷ drop 1 (map held_in s.levels)
+  -- what is in memory of each level, lowest first: parts, to which the builders for single items count at level 0, and tables
+  abbrev pub held_by_level : Stacked P Item → List InMemory
+  held_by_level s = record { parts = s.starters + lowest_held s.levels; tables = lowest_tables s.levels } ∷ drop 1 (map in_memory s.levels)
 
   -- levels have the same items, live and dead, in as many parts of the same weight
   pub record HaveSameItems (contents : P → Contents Item) (old new : List (Slots P Item)) : Type 0 where

@@ -7,8 +7,9 @@ ghost use Rattle.builder_trait.specs.Builders.{begun};
 ghost use Rattle.partial_build.specs.Quota.{quota};
 ghost use Rattle.stack_levels.specs.Slots.{IsPartOf, held_in};
 ghost use Rattle.stack_levels.specs.Levels.{live_items, all_items, weight_of, parts_of, asked, touches_of};
-ghost use Rattle.level_slots.specs.Stack.{Stacked, HaveSameItems, held_by_level, memory_of};
+ghost use Rattle.level_slots.specs.Stack.{Stacked, HaveSameItems, held_by_level};
 ghost use Rattle.level_slots.specs.Preparing.{AreKept, KeepMore, TakeMemory};
+ghost use Rattle.level_slots.specs.Retired.{IsTakenOver};
 ghost use Rattle.level_slots.specs.Height.{IsHeight, HaveAtMost, HaveFewParts, size_of};
 ghost use Rattle.stack_levels.specs.Asked.{AreThreeAtMost, HasAsked};
 ghost use Rattle.stack_levels.specs.Level.{IsOfLevel};
@@ -250,9 +251,9 @@ impl<B: Builder> Stack<B> {
         builders_kept(&self.levels)
     }
 
-    /// Gives up the items: what is left is the memory, to be taken over part by part.
+    /// Gives up the items: what is left is the memory, to be taken over part by part, those of the highest level first.
     pub fn retire(self) -> Retired<B>
-        ensures { result ≡ memory_of self }
+        ensures { result ≡ record self { spare = 0 } }
     {
         let Stack {
             alloc: _,
@@ -265,12 +266,10 @@ impl<B: Builder> Stack<B> {
         Retired::new(levels, starters)
     }
 
-    /// Takes one part out of a retired stack, if one is left there. It is kept at its level for the next construction where there is a
-    /// place for it, and freed else.
+    /// Takes one part out of a retired stack, if one is left there: one of its highest level. It is kept at that level for the next
+    /// construction where there is a place for it, and freed else; one that is under construction is freed whole.
     pub fn take_over(&mut self, retired: &mut Retired<B>)
-        ensures one { retired.new ≡ retired.old - 1 }
-        ensures no_less { memory_of self.old ≤ memory_of self.new }
-        ensures no_more { memory_of self.new + retired.new ≤ memory_of self.old + retired.old }
+        ensures taken { IsTakenOver B.Part.Part.contents retired.old retired.new self.old self.new }
         ensures same { HaveSameItems B.Part.Part.contents self.old.levels self.new.levels }
         ensures each { KeepMore self.old.levels self.new.levels }
         ensures starters { self.new.starters ≡ self.old.starters }

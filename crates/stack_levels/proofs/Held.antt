@@ -1,13 +1,13 @@
 -- The lists of a level.
-use Rattle.std.proofs.Common.{◌≡◌, ℕ, ◌+◌, ◌<◌, ◌≤◌, Option, Some, None, List, [], ◌∷◌, ◌++◌, ◌∙◌, length, map, take, drop, remove, option_to_list, All, arith, refl, ap, sym, subst}
+use Rattle.std.proofs.Common.{◌≡◌, ℕ, ◌+◌, ◌<◌, ◌≤◌, Option, Some, None, List, [], ◌∷◌, ◌++◌, ◌∙◌, length, map, take, drop, remove, option_to_list, All, arith, refl, ap, ap₂, sym, subst}
 use Rattle.std.specs.Option.{is_some}
 use Rattle.std.proofs.lemmas.List.{length-append, length-map, length_push, drop-drop, take_at}
 use Rattle.std.proofs.lemmas.List.Elements.{All-pop, All-push, All-tail}
 use Rattle.builder_trait.specs.Parts.{Contents}
 use Rattle.builder_trait.specs.Builders.{Progress, begun}
 use Rattle.partial_build.specs.Construction.{Construction}
-use Rattle.stack_levels.specs.Slots.{Slots, one_if, held_in}
-use Rattle.stack_levels.specs.Levels.{lowest_held, one_more}
+use Rattle.stack_levels.specs.Slots.{Slots, InMemory, one_if, held_in, tables_in, in_memory}
+use Rattle.stack_levels.specs.Levels.{lowest_held, lowest_tables, one_more}
 use Rattle.stack_levels.specs.Level.{AreHeld, IsLevel, IsOfLevel}
 
 pub counted : {X : Type 0} {o : Option X} {x : X} → o ≡ Some x → one_if (is_some o) ≡ 1
@@ -51,8 +51,9 @@ module _ {P B Item : Type 0} {contents : P → Contents Item} {progress : B → 
       {tables' : List ℕ} {tables_room' : ℕ} → ((c : Construction Item) → construction' ≡ Some c → c.level ≡ level)
       → AreHeld (λ p. IsOfLevel level (contents p)) 3 parts' parts_room' → AreHeld (λ b. progress b ≡ begun level) 5 builders' builders_room'
       → AreHeld (λ t. t ≡ level) 2 tables' tables_room' → length parts' + one_if (is_some construction') + one_if (is_some room) + length builders' ≤ 5
+      → length tables' + one_if (is_some construction') + one_if (is_some room) ≤ 2
       → IsLevel contents progress level parts' parts_room' construction' room builders' builders_room' tables' tables_room'
-  IsLevel-of builds parts_held builders_held tables_held few = record {
+  IsLevel-of builds parts_held builders_held tables_held few few_tables = record {
     most = h.most;
     parts_held = parts_held;
     builds = builds;
@@ -61,19 +62,20 @@ module _ {P B Item : Type 0} {contents : P → Contents Item} {progress : B → 
     tables_held = tables_held;
     no_room_at_zero = h.no_room_at_zero;
     few = few;
+    few_tables = few_tables;
   }
 
   pub IsLevel-building : (c : Construction Item) → c.level ≡ level
-      → length parts + 1 + one_if (is_some room) + length builders ≤ 5
+      → length parts + 1 + one_if (is_some room) + length builders ≤ 5 → length tables + 1 + one_if (is_some room) ≤ 2
       → IsLevel contents progress level parts parts_room (Some c) room builders builders_room tables tables_room
-  IsLevel-building c same few =
-      IsLevel-of (λ c' is. let e : c ≡ c' = cc in ap (λ v. v.level) (sym e) ∙ same) h.parts_held h.builders_held h.tables_held few
+  IsLevel-building c same few few_tables =
+      IsLevel-of (λ c' is. let e : c ≡ c' = cc in ap (λ v. v.level) (sym e) ∙ same) h.parts_held h.builders_held h.tables_held few few_tables
 
   pub IsLevel-built : {construction' : Option (Construction Item)} → construction' ≡ None
       → IsLevel contents progress level parts parts_room construction' room builders builders_room tables tables_room
   IsLevel-built none =
       IsLevel-of (λ c is. let wrong : None ≡ Some c = sym none ∙ is in absurd cc) h.parts_held h.builders_held h.tables_held
-      (omega (arith, h.few, ap (λ o. one_if (is_some o)) none))
+      (omega (arith, h.few, ap (λ o. one_if (is_some o)) none)) (omega (arith, h.few_tables, ap (λ o. one_if (is_some o)) none))
 
 -- a slice of a whole list was written
 pub written : {A : Type 0} (n : ℕ) (old new : List A) → n ≡ length old → length new ≡ length old → take n (new ++ drop (length new) old) ≡ new
@@ -83,29 +85,52 @@ written n old new same as_long = take_at new (drop (length new) old) n (as_long 
 pub drop_more : {A : Type 0} (n : ℕ) (xs : List A) → drop 1 (drop n xs) ≡ drop (n + 1) xs
 drop_more n xs = drop-drop 1 n xs
 
+-- of the first of some levels
+abbrev first_parts : List InMemory → ℕ
+first_parts [] = 0
+first_parts (m ∷ above) = m.parts
+
+abbrev first_tables : List InMemory → ℕ
+first_tables [] = 0
+first_tables (m ∷ above) = m.tables
+
 -- levels that hold as much each
 module _ {P Item : Type 0} where
-  pub as_many-held : (old new : List (Slots P Item)) → map held_in new ≡ map held_in old → length new ≡ length old
-  as_many-held old new same = sym (length-map new held_in) ∙ ap length same ∙ length-map old held_in
+  pub memory-same : (l l' : Slots P Item) → held_in l' ≡ held_in l → tables_in l' ≡ tables_in l → in_memory l' ≡ in_memory l
+  memory-same l l' parts tables = ap₂ (λ n m. record { parts = n; tables = m }) parts tables
 
-  pub lowest-held : (old new : List (Slots P Item)) → map held_in new ≡ map held_in old → lowest_held new ≡ lowest_held old
-  lowest-held [] [] same = refl
-  lowest-held [] (l' ∷ new) same = absurd cc
-  lowest-held (l ∷ old) [] same = absurd cc
-  lowest-held (l ∷ old) (l' ∷ new) same = cc
+  pub as_many-held : (old new : List (Slots P Item)) → map in_memory new ≡ map in_memory old → length new ≡ length old
+  as_many-held old new same = sym (length-map new in_memory) ∙ ap length same ∙ length-map old in_memory
 
-  -- and one more on the lowest
-  pub as_many-more : (old new : List (Slots P Item)) → map held_in new ≡ one_more (map held_in old) → length new ≡ length old
-  as_many-more [] new more = sym (length-map new held_in) ∙ ap length more
+  parts-lowest : (levels : List (Slots P Item)) → first_parts (map in_memory levels) ≡ lowest_held levels
+  parts-lowest [] = refl
+  parts-lowest (l ∷ levels) = refl
+
+  tables-lowest : (levels : List (Slots P Item)) → first_tables (map in_memory levels) ≡ lowest_tables levels
+  tables-lowest [] = refl
+  tables-lowest (l ∷ levels) = refl
+
+  pub lowest-held : (old new : List (Slots P Item)) → map in_memory new ≡ map in_memory old → lowest_held new ≡ lowest_held old
+  lowest-held old new same = sym (parts-lowest new) ∙ ap first_parts same ∙ parts-lowest old
+
+  pub tables-held : (old new : List (Slots P Item)) → map in_memory new ≡ map in_memory old → lowest_tables new ≡ lowest_tables old
+  tables-held old new same = sym (tables-lowest new) ∙ ap first_tables same ∙ tables-lowest old
+
+  -- and a part more on the lowest
+  pub as_many-more : (old new : List (Slots P Item)) → map in_memory new ≡ one_more (map in_memory old) → length new ≡ length old
+  as_many-more [] new more = sym (length-map new in_memory) ∙ ap length more
   as_many-more (l ∷ old) new more =
-      let n : length (map held_in old) ≡ length old = length-map old held_in in omega (arith, length-map new held_in, ap length more, n)
+      let n : length (map in_memory old) ≡ length old = length-map old in_memory in omega (arith, length-map new in_memory, ap length more, n)
 
-  pub lowest-more : (old new : List (Slots P Item)) → 0 < length old → map held_in new ≡ one_more (map held_in old)
+  pub lowest-more : (old new : List (Slots P Item)) → 0 < length old → map in_memory new ≡ one_more (map in_memory old)
       → lowest_held new ≡ lowest_held old + 1
   lowest-more [] new some more = absurd (omega (arith, some))
-  lowest-more (l ∷ old) [] some more = absurd cc
-  lowest-more (l ∷ old) (l' ∷ new) some more = cc
+  lowest-more (l ∷ old) new some more = sym (parts-lowest new) ∙ ap first_parts more
 
-  pub above-more : (old new : List (Slots P Item)) → map held_in new ≡ one_more (map held_in old) → drop 1 (map held_in new) ≡ drop 1 (map held_in old)
+  pub tables-more : (old new : List (Slots P Item)) → map in_memory new ≡ one_more (map in_memory old) → lowest_tables new ≡ lowest_tables old
+  tables-more [] new more = sym (tables-lowest new) ∙ ap first_tables more
+  tables-more (l ∷ old) new more = sym (tables-lowest new) ∙ ap first_tables more
+
+  pub above-more : (old new : List (Slots P Item)) → map in_memory new ≡ one_more (map in_memory old) → drop 1 (map in_memory new) ≡ drop 1 (map in_memory old)
   above-more [] new more = ap (drop 1) more
   above-more (l ∷ old) new more = ap (drop 1) more

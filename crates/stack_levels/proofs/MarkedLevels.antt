@@ -13,11 +13,12 @@ use Rattle.builder_trait.specs.Builders.{PartKind}
 use Rattle.builder_trait.specs.Parts.{Contents, OwnsStamp, has_stamp, without, live_of}
 use Rattle.ordered_merge.proofs.Fronts.{All-permuted}
 use Rattle.partial_build.proofs.Stamps.{same_place}
-use Rattle.stack_levels.specs.Slots.{Slots, IsPartOf, ticks_of, waiting_in, live_in, items_in, asked_in, held_in, one_if}
+use Rattle.stack_levels.specs.Slots.{Slots, IsPartOf, ticks_of, waiting_in, live_in, items_in, asked_in, held_in, tables_in, in_memory, one_if}
 use Rattle.stack_levels.specs.Levels.{waiting_of, live_items, all_items, asked}
 use Rattle.stack_levels.specs.Neighbours.{stays}
 use Rattle.stack_levels.specs.Towers.{IsTower, IsDue, IsDueSoon, HaveRooms, HaveRoomsAbove, AreLevels, AreAllLevels, AreHalfway, HaveRoomsNow, HaveRoomsNext}
 use Rattle.stack_levels.specs.Marking.{AreNoted, IsSameBelow}
+use Rattle.stack_levels.proofs.Held.{memory-same}
 use Rattle.stack_levels.proofs.Distinct.{AllStampsDiffer-part, IsPartOf-append, IsPartOf-permuted, none_same}
 use Rattle.stack_levels.proofs.Publishing.{doubled, higher}
 use Rattle.stack_levels.proofs.Marks.{stands, without-lacking}
@@ -70,9 +71,10 @@ module _ {P Item : Type 0} where
   same-noted f sees (l ∷ rest) above' noted = ap f noted.1 ∙ sees l noted.0 rest noted.2 noted.4
 
   pub held-noted : (l l' : Slots P Item) (rest : List (Slots P Item)) → l' ≡ record l { construction = l'.construction }
-      → is_some l'.construction ≡ is_some l.construction → map held_in (l' ∷ rest) ≡ map held_in (l ∷ rest)
+      → is_some l'.construction ≡ is_some l.construction → map in_memory (l' ∷ rest) ≡ map in_memory (l ∷ rest)
   held-noted l l' rest same runs =
-      let held : held_in l' ≡ held_in l = omega (arith, ap held_in same, ap one_if runs) in ap (λ n. n ∷ map held_in rest) held
+      ap (λ n. n ∷ map in_memory rest)
+      (memory-same l l' (omega (arith, ap held_in same, ap one_if runs)) (omega (arith, ap tables_in same, ap one_if runs)))
 
   module _ (contents : P → Contents Item) (kind : PartKind Item) where
     pub tower-over : (l : Slots P Item) (above above' : List (Slots P Item)) → IsTower contents kind l above

@@ -18,7 +18,7 @@ pub record IsOfLevel {Item : Type 0} (level : ℕ) (part : Contents Item) : Type
   pub fits : length part.items ≤ 2 ^ level
 
 -- parts, construction, room, builders and tables are all of the level, and there are not too many of them: of parts and builders, in
--- whatever use, five in all
+-- whatever use, five in all, and of tables two
 pub record IsLevel {P B Item : Type 0} (contents : P → Contents Item) (progress : B → Progress Item) (level : ℕ)
     (parts : List P) (parts_room : ℕ) (construction : Option (Construction Item)) (room : Option ℕ)
     (builders : List B) (builders_room : ℕ) (tables : List ℕ) (tables_room : ℕ) : Type 0 where
@@ -30,3 +30,4 @@ pub record IsLevel {P B Item : Type 0} (contents : P → Contents Item) (progres
   pub tables_held : AreHeld (λ t. t ≡ level) 2 tables tables_room
   pub no_room_at_zero : level ≡ 0 → room ≡ None
   pub few : length parts + one_if (is_some construction) + one_if (is_some room) + length builders ≤ 5
+  pub few_tables : length tables + one_if (is_some construction) + one_if (is_some room) ≤ 2

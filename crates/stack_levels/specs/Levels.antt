@@ -1,12 +1,12 @@
 -- What contracts see of levels one above the other, lowest first.
 use Rattle.std.specs.Prelude.{ℕ, ◌+◌, List, [], ◌∷◌, ◌++◌, if◌then◌else◌, length, sum_by}
 use Rattle.builder_trait.specs.Parts.{Contents, has_stamp}
-use Rattle.stack_levels.specs.Slots.{Slots, waiting_in, held_in, weight_in, live_in, items_in, asked_in}
+use Rattle.stack_levels.specs.Slots.{Slots, InMemory, waiting_in, held_in, tables_in, weight_in, live_in, items_in, asked_in}
 
--- one more on the lowest of some levels
-abbrev pub one_more : List ℕ → List ℕ
+-- a part more on the lowest of some levels
+abbrev pub one_more : List InMemory → List InMemory
 one_more [] = []
-one_more (n ∷ above) = (n + 1) ∷ above
+one_more (m ∷ above) = record m { parts = m.parts + 1 } ∷ above
 
 module _ {P Item : Type 0} where
   -- the parts in memory of the lowest level, and of all
@@ -17,6 +17,11 @@ module _ {P Item : Type 0} where
   abbrev pub held_of : List (Slots P Item) → ℕ
   held_of [] = 0
   held_of (l ∷ above) = held_in l + held_of above
+
+  -- the tables in memory of the lowest level
+  abbrev pub lowest_tables : List (Slots P Item) → ℕ
+  lowest_tables [] = 0
+  lowest_tables (l ∷ above) = tables_in l
 
   abbrev pub weight_of : List (Slots P Item) → ℕ
   weight_of [] = 0

@@ -2,7 +2,7 @@
 use Rattle.std.specs.Prelude.{◌≡◌, ℕ, ◌+◌, ◌≤◌, Bool, Option, Some, None, List, [], ◌∷◌, true, false, All, length, map, slice_get}
 use Rattle.std.specs.Option.{option_map, is_some}
 use Rattle.builder_trait.specs.Parts.{Contents, has_stamp, without, marked, live_of}
-use Rattle.stack_levels.specs.Slots.{Slots, one_if, ticks_of, clock_of, waiting_in, held_in, live_in, items_in}
+use Rattle.stack_levels.specs.Slots.{Slots, one_if, ticks_of, clock_of, waiting_in, in_memory, live_in, items_in}
 use Rattle.stack_levels.specs.Levels.{waiting_of, weight_of, live_items, all_items}
 
 module _ {Item : Type 0} where
@@ -50,7 +50,7 @@ module _ {P Item : Type 0} where
       pub live : live_items contents new ≡ without stamp dead (live_items contents old)
       pub items : all_items contents new ≡ all_items contents old
       pub weight : weight_of new ≡ weight_of old
-      pub held : map held_in new ≡ map held_in old
+      pub held : map in_memory new ≡ map in_memory old
       pub numbers : map (λ l. l.level) new ≡ map (λ l. l.level) old
       pub clocks : map clock_of new ≡ map clock_of old
       pub none_lost : waiting_of old ≤ waiting_of new

@@ -9,13 +9,20 @@ use Rattle.partial_build.specs.Construction.{Construction, turns_left}
 use Rattle.partial_build.specs.Quota.{quota}
 
 -- the complete parts of a level, oldest first; the construction of its next part, which is made of the two oldest parts of the level
--- below; whether there is room for the one after that; and how many builders are kept, each made of a part that was retired
+-- below; whether there is room for the one after that; how many builders are kept, each made of a part that was retired; and the tables
+-- of how many constructions that ended
 pub record Slots (P Item : Type 0) : Type 0 where
   pub level : ℕ
   pub parts : List P
   pub construction : Option (Construction Item)
   pub has_room : Bool
   pub kept : ℕ
+  pub tables : ℕ
+
+-- what is in memory: so many parts, in whatever use, and the tables of so many constructions
+pub record InMemory : Type 0 where
+  pub parts : ℕ
+  pub tables : ℕ
 
 abbrev pub one_if : Bool → ℕ
 one_if b = if b then 1 else 0
@@ -46,9 +53,20 @@ module _ {P Item : Type 0} where
   abbrev pub held_in : Slots P Item → ℕ
   held_in l = length l.parts + one_if (is_some l.construction) + one_if l.has_room + l.kept
 
-  -- what is in memory of a level after a forecast: what was, and where a room is held now that neither was nor had a builder kept for it, one more
-  abbrev pub held_by_forecast : Slots P Item → Bool → ℕ
-  held_by_forecast l has_room = held_in l + (one_if has_room - (l.kept + one_if l.has_room))
+  -- the tables of a level that are in memory: those of the construction, those in the room, and those that are kept
+  abbrev pub tables_in : Slots P Item → ℕ
+  tables_in l = l.tables + one_if (is_some l.construction) + one_if l.has_room
+
+  abbrev pub in_memory : Slots P Item → InMemory
+  in_memory l = record { parts = held_in l; tables = tables_in l }
+
+  -- what is in memory of a level after a forecast: what was, and where a room is held now that wasn't, a part more if no builder was kept for it, and
+  -- tables more if none were
+  abbrev pub memory_by_forecast : Slots P Item → Bool → InMemory
+  memory_by_forecast l has_room = record {
+    parts = held_in l + (one_if has_room - (l.kept + one_if l.has_room));
+    tables = tables_in l + (one_if has_room - (l.tables + one_if l.has_room));
+  }
 
   -- a part of level i weighs 2^i
   abbrev pub weight_in : Slots P Item → ℕ

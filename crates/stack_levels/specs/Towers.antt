@@ -3,7 +3,7 @@ use Rattle.std.specs.Prelude.{◌≡◌, ◌+◌, ◌^◌, ◌<◌, ◌≤◌, t
 use Rattle.query_laws.specs.Permuted.{Permuted}
 use Rattle.builder_trait.specs.Builders.{PartKind}
 use Rattle.builder_trait.specs.Parts.{Contents, live_of}
-use Rattle.stack_levels.specs.Slots.{Slots, IsPartOf, ticks_of, clock_of, held_in}
+use Rattle.stack_levels.specs.Slots.{Slots, IsPartOf, ticks_of, clock_of, in_memory}
 use Rattle.stack_levels.specs.Levels.{one_more, waiting_of, weight_of, live_items, all_items}
 use Rattle.stack_levels.specs.Neighbours.{IsBelow, IsPunctual, TakesTick}
 
@@ -85,12 +85,12 @@ module _ {P Item : Type 0} (contents : P → Contents Item) where
     pub live : Permuted (live_items contents new) (live_items contents old)
     pub items : IsPartOf (all_items contents new) (all_items contents old)
     pub weight : weight_of new ≡ weight_of old
-    pub held : map held_in new ≡ map held_in old
+    pub held : map in_memory new ≡ map in_memory old
 
-  -- what the arrival of a part leaves of levels: its items are there too, the weight is one more, the lowest level holds one more, and as many items wait
+  -- what the arrival of a part leaves of levels: its items are there too, the weight is one more, the lowest level holds a part more, and as many items wait
   pub record HasArrived (part : Contents Item) (old new : List (Slots P Item)) : Type 0 where
     pub live : Permuted (live_items contents new) (live_of part ++ live_items contents old)
     pub items : Permuted (all_items contents new) (part.items ++ all_items contents old)
     pub weight : weight_of new ≡ weight_of old + 1
-    pub held : map held_in new ≡ one_more (map held_in old)
+    pub held : map in_memory new ≡ one_more (map in_memory old)
     pub waiting : waiting_of new ≡ waiting_of old

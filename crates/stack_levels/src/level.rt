@@ -6,7 +6,7 @@ ghost use Rattle.query_laws.specs.Orders.{AllStampsDiffer};
 ghost use Rattle.query_laws.specs.StepLedger.{Spends};
 ghost use Rattle.builder_trait.specs.Parts.{OwnsStamp, has_stamp, marked, live_of};
 ghost use Rattle.partial_build.specs.Quota.{quota};
-ghost use Rattle.stack_levels.specs.Slots.{ticks_of, waiting_in, turns_to_go, held_in, live_in, items_in, asked_in, IsIdle};
+ghost use Rattle.stack_levels.specs.Slots.{ticks_of, waiting_in, turns_to_go, held_in, tables_in, in_memory, live_in, items_in, asked_in, IsIdle};
 ghost use Rattle.stack_levels.specs.Level.{IsOfLevel};
 ghost use Rattle.stack_levels.specs.Neighbours.{IsConstructionOf, IsFed, IsPunctual, IsPublication};
 ghost use Rattle.stack_levels.specs.Marking.{IsLiveIn, AreMarkedAt};
@@ -31,7 +31,8 @@ const PARTS: usize = 3;
 /// construction, and the room for the next one.
 const BUILDERS: usize = 5;
 
-/// The most tables that are kept for a level: those of its construction, and those of the room for the next one.
+/// The most tables that are kept for a level: as many as there are in memory at most, those of its construction and those of the room for
+/// the next one.
 const TABLES: usize = 2;
 
 /// A level: at most three complete parts of up to `2^level` items, oldest first, and the construction of the next one.
@@ -61,6 +62,7 @@ impl<B: Builder> Model for Level<B> {
       construction = l.construction;
       has_room = is_some l.room;
       kept = length l.builders.items;
+      tables = length l.tables.items;
     } };
 
     ghost invariant = { λ l. IsLevel B.Part.Part.contents B.progress l.level l.parts.items (vec_capacity l.parts) l.construction l.room
@@ -73,7 +75,7 @@ impl<B: Builder> Level<B> {
     /// `NoMemory` where memory for its lists isn't given.
     pub fn new(alloc: Global, level: u32) -> Result<Level<B>, NoMemory>
         requires { level < 32 }
-        ensures { IfOk result (λ made. made ≡ record { level = level; parts = []; construction = None; has_room = false; kept = 0 }) }
+        ensures { IfOk result (λ made. made ≡ record { level = level; parts = []; construction = None; has_room = false; kept = 0; tables = 0 }) }
     {
         let parts = Vec::with_capacity(alloc, PARTS)?;
         let builders = Vec::with_capacity(alloc, BUILDERS)?;
@@ -121,7 +123,7 @@ impl<B: Builder> Level<B> {
         requires { count ≤ length self.old.parts }
         ensures retired { self.new.parts ≡ drop count self.old.parts }
         ensures same { self.new ≡ record self.old { parts = self.new.parts; kept = self.old.kept + count } }
-        ensures held { held_in self.new ≡ held_in self.old }
+        ensures held { in_memory self.new ≡ in_memory self.old }
     {
         for _done in 0..count {
             self.retire_oldest();
@@ -133,7 +135,7 @@ impl<B: Builder> Level<B> {
         requires { 0 < length self.old.parts }
         ensures retired { self.new.parts ≡ drop 1 self.old.parts }
         ensures same { self.new ≡ record self.old { parts = self.new.parts; kept = self.old.kept + 1 } }
-        ensures held { held_in self.new ≡ held_in self.old }
+        ensures held { in_memory self.new ≡ in_memory self.old }
     {
         let builder = B::recycle(self.parts.remove(0));
         self.builders.push_reserved(builder);
@@ -152,7 +154,7 @@ impl<B: Builder> Level<B> {
         ensures ticks { ticks_of self.new ≡ ticks_of self.old }
         ensures waiting { waiting_in self.new ≡ waiting_in self.old }
         ensures running { is_some self.old.construction ≡ true → self.new ≡ self.old }
-        ensures held { held_in self.new ≡ held_in self.old }
+        ensures held { in_memory self.new ≡ in_memory self.old }
     {
         if self.construction.is_some() {
             return;
@@ -167,6 +169,7 @@ impl<B: Builder> Level<B> {
     fn start(&mut self, construction: Build<B>)
         requires of_level { construction.level ≡ self.old.level }
         requires room { held_in self.old < 5 }
+        requires room_for_tables { tables_in self.old < 2 }
         ensures { self.new ≡ record self.old { construction = Some construction } }
     {
         self.construction = Some(construction);
@@ -204,10 +207,10 @@ impl<B: Builder> Level<B> {
         requires fed { IsFed B.Part.Part.contents ⟦<B as Kinded>⟧.kind lower.old self.old }
         ensures waits { ticks_of self.old < 2 ^ self.old.level → (self.new ≡ self.old) × (lower.new ≡ lower.old) }
         ensures ends { ticks_of self.old ≡ 2 ^ self.old.level → IsPublication B.Part.Part.contents self.old lower.old self.new lower.new }
-        ensures same { self.new ≡ record self.old { parts = self.new.parts; construction = self.new.construction } }
+        ensures same { self.new ≡ record self.old { parts = self.new.parts; construction = self.new.construction; tables = self.new.tables } }
         ensures same_below { lower.new ≡ record lower.old { parts = lower.new.parts; kept = lower.new.kept } }
-        ensures held { held_in self.new ≡ held_in self.old }
-        ensures held_below { held_in lower.new ≡ held_in lower.old }
+        ensures held { in_memory self.new ≡ in_memory self.old }
+        ensures held_below { in_memory lower.new ≡ in_memory lower.old }
         ensures waiting { waiting_in self.new ≡ waiting_in self.old }
     {
         if let Some(construction) = self.take_ended() {
@@ -223,6 +226,7 @@ impl<B: Builder> Level<B> {
         ensures ended { IfSome result (λ c. (self.old.construction ≡ Some c) × (c.level ≡ self.old.level) × (2 ^ c.level ≤ c.ticks)) }
         ensures taken { IfSome result (λ _. self.new ≡ record self.old { construction = None }) }
         ensures few { IfSome result (λ _. held_in self.new < 5) }
+        ensures few_tables { IfSome result (λ _. tables_in self.new < 2) }
         ensures waits { IsNone result → self.new ≡ self.old }
         ensures unended { IsNone result → is_some self.old.construction ≡ true → ticks_of self.old < 2 ^ self.old.level }
     {
@@ -244,14 +248,13 @@ impl<B: Builder> Level<B> {
         }
     }
 
-    /// Keeps the tables of a construction that has ended, where fewer than two are kept, and frees them else.
+    /// Keeps tables.
     fn keep_tables(&mut self, tables: Tables<B>)
-        requires { tables ≡ self.old.level }
-        ensures { self.new ≡ self.old }
+        requires of_level { tables ≡ self.old.level }
+        requires place { tables_in self.old < 2 }
+        ensures { self.new ≡ record self.old { tables = self.old.tables + 1 } }
     {
-        if self.tables.len() < TABLES {
-            self.tables.push_reserved(tables);
-        }
+        self.tables.push_reserved(tables);
     }
 
     /// Marks an item as dead in the part that has it, and gives the place of that part: each part is asked, the oldest first, up to

@@ -4,7 +4,7 @@ ghost use Rattle.query_laws.specs.Orders.{AllStampsDiffer};
 ghost use Rattle.query_laws.specs.Permuted.{Permuted};
 ghost use Rattle.query_laws.specs.StepLedger.{Spends};
 ghost use Rattle.builder_trait.specs.Parts.{OwnsStamp, has_stamp, without, marked};
-ghost use Rattle.stack_levels.specs.Slots.{Slots, IsPartOf, ticks_of, held_in, live_in, items_in, asked_in};
+ghost use Rattle.stack_levels.specs.Slots.{Slots, IsPartOf, ticks_of, in_memory, live_in, items_in, asked_in};
 ghost use Rattle.stack_levels.specs.Levels.{weight_of, live_items, all_items, asked};
 ghost use Rattle.stack_levels.specs.Neighbours.{IsConstructionOf, IsPunctual};
 ghost use Rattle.stack_levels.specs.Towers.{IsDue, IsDueSoon, IsTower, HaveRoomsAbove, AreLevels, AreOnTime, TakeTicks};
@@ -122,7 +122,7 @@ pub fn take_out<B: Builder, L: Ledger>(
     ensures items { IsPartOf (all_items B.Part.Part.contents levels.new) (all_items B.Part.Part.contents levels.old) }
     ensures weight { weight_of levels.new ≡ weight_of levels.old }
     ensures each { TakeTicks levels.old levels.new }
-    ensures held { map held_in levels.new ≡ map held_in levels.old }
+    ensures held { map in_memory levels.new ≡ map in_memory levels.old }
     ensures rooms { HaveRoomsAbove IsDueSoon levels.old → HaveRoomsAbove IsDue levels.new }
     ensures cost { IsCostOfDelete B.SLOPE B.BASE B.Part.Part.mark_touches
         (asked B.Part.Part.contents B.Item.stamp (B.Item.stamp item.now) levels.old) levels.old levels.new steps.old steps.new }

@@ -4,7 +4,7 @@ ghost use Rattle.query_laws.specs.Orders.{AllStampsDiffer};
 ghost use Rattle.query_laws.specs.Permuted.{Permuted};
 ghost use Rattle.builder_trait.specs.Parts.{live_of};
 ghost use Rattle.partial_build.specs.Quota.{quota};
-ghost use Rattle.stack_levels.specs.Slots.{Slots, IsPartOf, ticks_of, held_in, weight_in, live_in, items_in};
+ghost use Rattle.stack_levels.specs.Slots.{Slots, IsPartOf, ticks_of, in_memory, weight_in, live_in, items_in};
 ghost use Rattle.stack_levels.specs.Levels.{lowest_held, one_more, waiting_of, weight_of, live_items, all_items};
 ghost use Rattle.stack_levels.specs.Neighbours.{IsBelow, IsVisited, IsPunctual};
 ghost use Rattle.stack_levels.specs.Towers.{IsTower, IsHalfway, IsDue, IsDueSoon, HaveRooms, HaveRoomsAbove, HaveRoomsAhead, AreAllLevels, AreHalfway, AreOnTime, AreTicked, HasArrived, TakeTicks, HaveRoomsNow, HaveRoomsNext};
@@ -92,7 +92,7 @@ pub fn take_in<B: Builder, L: Ledger>(levels: &mut [Level<B>], part: B::Part, st
     ensures weight { weight_of levels.new ≡ weight_of levels.old + 1 }
     ensures rooms { HaveRoomsAbove IsDueSoon levels.old → HaveRoomsAbove IsDue levels.new }
     ensures each { TakeTicks levels.old levels.new }
-    ensures held { map held_in levels.new ≡ one_more (map held_in levels.old) }
+    ensures held { map in_memory levels.new ≡ one_more (map in_memory levels.old) }
     ensures cost { IsCostOfInsert B.SLOPE B.BASE 1 B.Part.Part.mark_touches levels.old levels.new steps.old steps.new }
 {
     arrive(levels, part);

@@ -1,11 +1,12 @@
 //! A level that isn't needed any more gives up its parts, and another one of the same number takes them over.
-ghost use Rattle.std.specs.Prelude.{◌≡◌, ◌+◌, ◌<◌, ◌≤◌, None, IfSome, length};
+ghost use Rattle.std.specs.Prelude.{◌≡◌, ◌+◌, ◌<◌, ◌≤◌, None, IfSome, All, not, length};
 ghost use Rattle.std.specs.Option.{is_some};
 ghost use Rattle.builder_trait.specs.Builders.{begun};
-ghost use Rattle.stack_levels.specs.Slots.{held_in};
+ghost use Rattle.stack_levels.specs.Slots.{held_in, in_memory};
+ghost use Rattle.stack_levels.specs.Level.{IsOfLevel};
 
 use crate::level::{BUILDERS, Level};
-use builder_trait::Builder;
+use builder_trait::{Builder, Part};
 
 impl<B: Builder> Level<B> {
     /// The number of the level.
@@ -25,12 +26,15 @@ impl<B: Builder> Level<B> {
         self.parts.len() + under_way + ready + self.builders.len()
     }
 
-    /// Gives up a part that is in memory: the number of the level, and a builder on its memory. A construction is freed whole, and gives
-    /// none.
+    /// Gives up a part that is in memory: the number of the level, and a builder on its memory. A construction comes first: it is freed
+    /// whole, and gives none, since a builder that is under way can't begin again.
     pub fn give_up(&mut self) -> Option<(u32, B)>
         requires { 0 < held_in self.old }
-        ensures begun { IfSome result (λ given. B.progress given.1 ≡ begun given.0) }
+        ensures given { is_some result ≡ not (is_some self.old.construction) }
+        ensures begun { IfSome result (λ given. (given.0 ≡ self.old.level) × (B.progress given.1 ≡ begun given.0)) }
         ensures one { held_in self.new + 1 ≡ held_in self.old }
+        ensures level { self.new.level ≡ self.old.level }
+        ensures of_level { All (λ p. IsOfLevel self.old.level (B.Part.Part.contents p)) self.old.parts }
     {
         if self.free_construction() {
             return None;
@@ -45,6 +49,7 @@ impl<B: Builder> Level<B> {
     fn free_construction(&mut self) -> bool
         ensures freed { self.new ≡ record self.old { construction = None } }
         ensures ran { result ≡ is_some self.old.construction }
+        ensures of_level { All (λ p. IsOfLevel self.old.level (B.Part.Part.contents p)) self.old.parts }
     {
         self.construction.take().is_some()
     }
@@ -52,7 +57,7 @@ impl<B: Builder> Level<B> {
     /// Retires the oldest part, where there is one.
     fn retire_next(&mut self)
         ensures same { self.new ≡ record self.old { parts = self.new.parts; kept = self.new.kept } }
-        ensures held { held_in self.new ≡ held_in self.old }
+        ensures held { in_memory self.new ≡ in_memory self.old }
         ensures kept { 0 < length self.old.parts + self.old.kept → 0 < self.new.kept }
     {
         if !self.parts.is_empty() {

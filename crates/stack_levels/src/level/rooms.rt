@@ -2,7 +2,7 @@
 ghost use Rattle.std.specs.Prelude.{◌≡◌, ◌+◌, ◌-◌, ◌*◌, ◌^◌, ◌<◌, ◌≤◌, true, false, None, IfOk, IfSome, IsNone, OnErr, nat_le, if◌then◌else◌};
 ghost use Rattle.std.specs.Option.{is_some};
 ghost use Rattle.builder_trait.specs.Builders.{begun};
-ghost use Rattle.stack_levels.specs.Slots.{ticks_of, held_in, held_by_forecast};
+ghost use Rattle.stack_levels.specs.Slots.{ticks_of, held_in, tables_in, in_memory, memory_by_forecast};
 
 use crate::level::Level;
 use builder_trait::Builder;
@@ -34,10 +34,10 @@ impl<B: Builder> Level<B> {
     /// `NoMemory` where memory for a room that is due isn't given; nothing has changed then.
     pub fn forecast(&mut self, alloc: Global, is_due: bool) -> Result<(), NoMemory>
         requires { is_due ≡ true → 1 ≤ self.old.level }
-        ensures same { self.new ≡ record self.old { has_room = self.new.has_room; kept = self.new.kept } }
+        ensures same { self.new ≡ record self.old { has_room = self.new.has_room; kept = self.new.kept; tables = self.new.tables } }
         ensures made { IfOk result (λ _. self.new.has_room ≡ is_due) }
         ensures refused { OnErr result ((is_due ≡ true) × (self.new ≡ self.old)) }
-        ensures memory { held_in self.new ≡ held_by_forecast self.old self.new.has_room }
+        ensures memory { in_memory self.new ≡ memory_by_forecast self.old self.new.has_room }
     {
         if is_due {
             return self.make_room(alloc);
@@ -46,17 +46,18 @@ impl<B: Builder> Level<B> {
         Ok(())
     }
 
-    /// Makes a room, where none is held.
+    /// Makes a room, where none is held. New tables are freed again where a builder isn't given.
     fn make_room(&mut self, alloc: Global) -> Result<(), NoMemory>
         requires { 1 ≤ self.old.level }
-        ensures same { self.new ≡ record self.old { has_room = self.new.has_room; kept = self.new.kept } }
+        ensures same { self.new ≡ record self.old { has_room = self.new.has_room; kept = self.new.kept; tables = self.new.tables } }
         ensures made { IfOk result (λ _. self.new.has_room ≡ true) }
         ensures refused { OnErr result (self.new ≡ self.old) }
-        ensures memory { held_in self.new ≡ held_by_forecast self.old self.new.has_room }
+        ensures memory { in_memory self.new ≡ memory_by_forecast self.old self.new.has_room }
     {
         if self.room.is_some() {
             return Ok(());
         }
+        let were_kept = !self.tables.is_empty();
         let tables = self.take_tables(alloc)?;
         match self.take_builder(alloc) {
             Ok(builder) => {
@@ -64,7 +65,9 @@ impl<B: Builder> Level<B> {
                 Ok(())
             }
             Err(refused) => {
-                self.keep_tables(tables);
+                if were_kept {
+                    self.keep_tables(tables);
+                }
                 Err(refused)
             }
         }
@@ -75,6 +78,7 @@ impl<B: Builder> Level<B> {
         requires of_level { room ≡ self.old.level }
         requires above { 1 ≤ self.old.level }
         requires place { held_in self.old < 5 }
+        requires place_for_tables { tables_in self.old < 2 }
         ensures { self.new ≡ record self.old { has_room = true } }
     {
         self.room = Some(room);
@@ -82,9 +86,9 @@ impl<B: Builder> Level<B> {
 
     /// Takes apart the room that is held, if one is: its builder and its tables are kept.
     pub fn give_back_room(&mut self)
-        ensures same { self.new ≡ record self.old { has_room = self.new.has_room; kept = self.new.kept } }
+        ensures same { self.new ≡ record self.old { has_room = self.new.has_room; kept = self.new.kept; tables = self.new.tables } }
         ensures none { self.new.has_room ≡ false }
-        ensures held { held_in self.new ≡ held_in self.old }
+        ensures held { in_memory self.new ≡ in_memory self.old }
     {
         if let Some(room) = self.take_room() {
             let (builder, tables) = room.into_parts();
@@ -99,6 +103,7 @@ impl<B: Builder> Level<B> {
         ensures taken { self.new ≡ record self.old { has_room = false } }
         ensures was { is_some result ≡ self.old.has_room }
         ensures few { IfSome result (λ _. held_in self.new < 5) }
+        ensures few_tables { IfSome result (λ _. tables_in self.new < 2) }
     {
         if self.room.is_some() {
             self.room.take()
@@ -149,7 +154,9 @@ impl<B: Builder> Level<B> {
     fn take_tables(&mut self, alloc: Global) -> Result<Tables<B>, NoMemory>
         requires { 1 ≤ self.old.level }
         ensures of_level { IfOk result (λ tables. tables ≡ self.old.level) }
-        ensures same { self.new ≡ self.old }
+        ensures same { self.new ≡ record self.old { tables = self.old.tables - 1 } }
+        ensures refused { OnErr result (self.old.tables ≡ 0) }
+        ensures few { self.old.has_room ≡ false → tables_in self.new < 2 }
     {
         match self.take_kept_tables() {
             Some(tables) => Ok(tables),
@@ -160,7 +167,9 @@ impl<B: Builder> Level<B> {
     /// Tables that are kept, if any are.
     fn take_kept_tables(&mut self) -> Option<Tables<B>>
         ensures of_level { IfSome result (λ tables. tables ≡ self.old.level) }
-        ensures same { self.new ≡ self.old }
+        ensures same { self.new ≡ record self.old { tables = self.old.tables - 1 } }
+        ensures none { IsNone result → self.old.tables ≡ 0 }
+        ensures few { self.old.has_room ≡ false → tables_in self.new < 2 }
     {
         self.tables.pop()
     }

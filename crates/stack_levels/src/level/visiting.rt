@@ -1,7 +1,7 @@
 //! What one tick does at a level.
 ghost use Rattle.std.specs.Prelude.{◌≡◌, ◌+◌, ◌^◌, ◌<◌, ◌≤◌, true, None, length};
 ghost use Rattle.query_laws.specs.Orders.{AllStampsDiffer};
-ghost use Rattle.stack_levels.specs.Slots.{ticks_of, held_in, items_in};
+ghost use Rattle.stack_levels.specs.Slots.{ticks_of, in_memory, items_in};
 ghost use Rattle.stack_levels.specs.Neighbours.{IsBelow, IsVisited, IsPunctual};
 ghost use Rattle.stack_levels.specs.Cost.{IsCostOfVisit};
 
@@ -25,10 +25,11 @@ impl<B: Builder> Level<B> {
           parts = self.new.parts;
           construction = self.new.construction;
           has_room = self.new.has_room;
+          tables = self.new.tables;
         } }
         ensures same_below { lower.new ≡ record lower.old { parts = lower.new.parts; kept = lower.new.kept } }
-        ensures held { held_in self.new ≡ held_in self.old }
-        ensures held_below { held_in lower.new ≡ held_in lower.old }
+        ensures held { in_memory self.new ≡ in_memory self.old }
+        ensures held_below { in_memory lower.new ≡ in_memory lower.old }
 
         // No turn of a construction whose part is built, and no mark where none waits.
         ensures cost { IsCostOfVisit ⟦<B as Kinded>⟧.kind B.Part.Part.mark_touches lower.old self.old self.new steps.old steps.new }

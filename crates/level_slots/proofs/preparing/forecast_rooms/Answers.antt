@@ -42,7 +42,11 @@ pub returns-in_default-clause-kept : goal.returns-in_default-clause-kept
 returns-in_default-clause-kept g c = IsKept-refl _ c.args.levels.now
 
 pub returns-clause-memory : goal.returns-clause-memory
-returns-clause-memory g c = rw c.in-Some.ensures.cases.0 (omega (arith, c.give_back_room.ensures.held), c.make_rooms.ensures.memory)
+returns-clause-memory g c = rw c.in-Some.ensures.cases.0 (
+  omega (arith, ap (λ m. m.parts) c.give_back_room.ensures.held),
+  ap (λ m. m.tables) c.give_back_room.ensures.held,
+  c.make_rooms.ensures.memory,
+)
 
 pub returns-in_default-clause-memory : goal.returns-in_default-clause-memory
 returns-in_default-clause-memory g c = TakeMemory-refl 0 c.args.levels.now

@@ -1,7 +1,8 @@
 use Rattle.std.proofs.Common.{◌≡◌, ◌+◌, ◌≤◌, ◌∙◌, length, ap, sym, subst, arith}
-use Rattle.stack_levels.specs.Levels.{held_of, lowest_held}
+use Rattle.stack_levels.specs.Levels.{lowest_held}
 use Rattle.level_slots.specs.Rooms.{rooms_in}
 use Rattle.level_slots.specs.Preparing.{KeepMore, IsKept}
+use Rattle.level_slots.specs.Retired.{AreInPlace}
 use Rattle.stack_levels.proofs.Held.{written}
 use Rattle.level_slots.proofs.Forecasting.{IsKept-rooms}
 use Rattle.level_slots.proofs.TakingOver.{KeepRoomsAbove-same, length-same, rooms-same}
@@ -21,7 +22,6 @@ returns g c =
       lowest = subst (λ ls. lowest_held ls + c.args.reserved ≤ 5) (sym whole)
           (c.keep_at.ensures.lowest (omega (arith, c.requires.lowest, ap lowest_held value)));
       more = subst (KeepMore old) (sym whole) same;
-      no_less = omega (arith, ap held_of whole, ap held_of value, c.keep_at.ensures.no_less);
-      no_more = omega (arith, ap held_of whole, ap held_of value, c.keep_at.ensures.no_more);
+      at = λ k. rw (whole, ← value) (c.keep_at.ensures.at 0 k c.args.number (subst (AreInPlace 0) (sym value) c.requires.in_place) (omega arith));
       rooms = ap rooms_in whole ∙ rooms-same old new same;
     }

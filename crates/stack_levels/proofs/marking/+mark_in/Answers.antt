@@ -6,7 +6,7 @@ use Rattle.query_laws.specs.StepLedger.{Spends}
 use Rattle.query_laws.proofs.Counting.{Spends-nothing, Spends-within}
 use Rattle.builder_trait.specs.Builders.{PartKind}
 use Rattle.builder_trait.specs.Parts.{OwnsStamp, has_stamp, without}
-use Rattle.stack_levels.specs.Slots.{Slots, one_if, clock_of, waiting_in, held_in, weight_in, live_in, items_in, asked_in}
+use Rattle.stack_levels.specs.Slots.{Slots, one_if, clock_of, waiting_in, held_in, tables_in, in_memory, weight_in, live_in, items_in, asked_in}
 use Rattle.stack_levels.specs.Levels.{waiting_of, weight_of, live_items, all_items, asked}
 use Rattle.stack_levels.specs.Neighbours.{IsPunctual}
 use Rattle.stack_levels.specs.Towers.{IsDue, IsDueSoon, HaveRoomsAbove, AreLevels}
@@ -14,6 +14,7 @@ use Rattle.stack_levels.specs.Marking.{IsSameBelow}
 use Rattle.stack_levels.proofs.Clocks.{clocks-noted}
 use Rattle.stack_levels.proofs.Distinct.{AllStampsDiffer-front, AllStampsDiffer-back}
 use Rattle.stack_levels.proofs.Publishing.{none_of}
+use Rattle.stack_levels.proofs.Held.{memory-same}
 use Rattle.stack_levels.proofs.Marks.{All-first, All-second, has_stamp-append, without-append, without-lacking, Spends-both}
 use Rattle.stack_levels.proofs.MarkedLevels.{Follows-due, Follows-soon, rooms-over, rooms-marked, same-noted, held-noted, tower-over, lacks-below, asked-above, asked-both, light_level, levels_from_tower, waiting-noted, noted_if, one_at_most}
 use Rattle.stack_levels.proofs.marking.+mark_in.Given.{Over}
@@ -67,7 +68,7 @@ returns-then-mark_in g p c =
             ∙ sym (ap (λ ls. without stamp s (live_items contents ls)) split ∙ without-append stamp s (live_items contents above) (live_in contents level));
         items = ap (λ l. l ++ items_in contents level) h.marked.items ∙ sym (ap (all_items contents) split);
         weight = ap (λ n. weight_in level + n) h.marked.weight ∙ sym (ap weight_of split);
-        held = ap (λ ns. held_in level ∷ ns) h.marked.held ∙ sym (ap (map held_in) split);
+        held = ap (λ ns. in_memory level ∷ ns) h.marked.held ∙ sym (ap (map in_memory) split);
         numbers = ap (λ ns. level.level ∷ ns) h.marked.numbers ∙ sym (ap (map (λ l. l.level)) split);
         clocks = ap (λ os. clock_of level ∷ os) h.marked.clocks ∙ sym (ap (map clock_of) split);
         none_lost = rw split (omega (arith, h.marked.none_lost));
@@ -113,7 +114,7 @@ returns-else-mark_in g p c =
     let m = n.marked in
     let off : has_stamp stamp s (live_items contents above) ≡ false = sym h.found ∙ c.if-mark_in.false in
     let marks = asked_in contents stamp s level.parts in
-    let held : held_in level' ≡ held_in level = omega (arith, ap held_in m.same, m.as_many) in
+    let held = memory-same level level' (omega (arith, ap held_in m.same, m.as_many)) (ap tables_in m.same) in
     let here : waiting_in level' ≡ waiting_in level = ap waiting_in m.same in
     let few = waiting-noted mid above' n.noted in
     record {
@@ -140,7 +141,7 @@ returns-else-mark_in g p c =
         weight = ap₂ (λ l k. l + k) (ap₂ (λ l k. l * 2 ^ k) m.as_many (ap (λ v. v.level) m.same))
             (same-noted weight_of (λ l l' rest same _. ap (λ v. weight_in v + weight_of rest) same) mid above' n.noted ∙ h.marked.weight)
             ∙ sym (ap weight_of split);
-        held = ap₂ (λ l ns. l ∷ ns) held (same-noted (map held_in) held-noted mid above' n.noted ∙ h.marked.held) ∙ sym (ap (map held_in) split);
+        held = ap₂ (λ l ns. l ∷ ns) held (same-noted (map in_memory) held-noted mid above' n.noted ∙ h.marked.held) ∙ sym (ap (map in_memory) split);
         numbers = ap₂ (λ l ns. l ∷ ns) (ap (λ v. v.level) m.same)
             (same-noted (map (λ v. v.level)) (λ l l' rest same _. ap (λ v. v.level ∷ map (λ u. u.level) rest) same) mid above' n.noted ∙ h.marked.numbers)
             ∙ sym (ap (map (λ l. l.level)) split);

@@ -6,7 +6,7 @@ use Rattle.query_laws.specs.Orders.{AllStampsDiffer}
 use Rattle.query_laws.proofs.Permutations.{Permuted-refl}
 use Rattle.builder_trait.specs.Builders.{PartKind}
 use Rattle.partial_build.specs.Quota.{quota}
-use Rattle.stack_levels.specs.Slots.{ticks_of, clock_of, waiting_in, held_in, items_in}
+use Rattle.stack_levels.specs.Slots.{ticks_of, clock_of, waiting_in, in_memory, items_in}
 use Rattle.stack_levels.specs.Levels.{weight_of, live_items, all_items}
 use Rattle.stack_levels.specs.Neighbours.{IsPunctual, TakesTick}
 use Rattle.stack_levels.specs.Towers.{IsHalfway, IsTower, IsDue, HaveRooms, HaveRoomsAbove, HaveRoomsAhead, TakeTicks}
@@ -84,7 +84,7 @@ returns-in-Some g p c =
         live = rw split (live-walked contents (kind g) v.visited above (level' ∷ above') w.ticked.live);
         items = rw split (items-walked contents (kind g) v.visited above (level' ∷ above') w.ticked.items);
         weight = weight-walked contents (kind g) v.visited above level' above' w.ticked.weight ∙ ap (λ ls. weight_of (lower ∷ ls)) (sym split);
-        held = ap₂ (λ n ns. n ∷ ns) v.held_below (w.ticked.held ∙ ap (λ n. n ∷ map held_in above) v.held) ∙ ap (λ ls. map held_in (lower ∷ ls)) (sym split);
+        held = ap₂ (λ n ns. n ∷ ns) v.held_below (w.ticked.held ∙ ap (λ n. n ∷ map in_memory above) v.held) ∙ ap (λ ls. map in_memory (lower ∷ ls)) (sym split);
       };
       each = subst (λ ls. TakeTicks ls (level' ∷ above')) (sym split)
           (subst (TakesTick level.level (clock_of level)) (ap (option_map (λ c. c.ticks)) (sym (ap (λ l. l.construction) w.same))) v.visited.ticked, w.each);

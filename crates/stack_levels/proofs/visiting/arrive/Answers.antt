@@ -1,8 +1,8 @@
-use Rattle.std.proofs.Common.{◌≡◌, ◌+◌, ◌<◌, ◌∙◌, ◌∷◌, map, subst, sym, ap, arith}
+use Rattle.std.proofs.Common.{◌≡◌, ◌+◌, ◌<◌, ◌∙◌, ◌∷◌, map, subst, sym, ap, ap₂, arith}
 use Rattle.std.proofs.lemmas.List.{length_push}
 use Rattle.builder_trait.specs.Builders.{PartKind}
 use Rattle.builder_trait.specs.Parts.{live_of}
-use Rattle.stack_levels.specs.Slots.{ticks_of, clock_of, waiting_in, held_in}
+use Rattle.stack_levels.specs.Slots.{ticks_of, clock_of, waiting_in, held_in, tables_in, in_memory}
 use Rattle.stack_levels.specs.Levels.{lowest_held, one_more, waiting_of, weight_of, live_items, all_items}
 use Rattle.stack_levels.specs.Level.{IsOfLevel}
 use Rattle.stack_levels.specs.Neighbours.{arrives}
@@ -43,7 +43,8 @@ returns g c =
     let parts = ap (λ v. v.parts) c.arrive.ensures in
     let none = ap (λ v. v.construction) c.arrive.ensures ∙ h.1 in
     let ticks : ticks_of new ≡ ticks_of lowest = ap ticks_of c.arrive.ensures in
-    let more : held_in new ≡ held_in lowest + 1 = omega (arith, ap held_in c.arrive.ensures, length_push lowest.parts c.args.part) in
+    let more : in_memory new ≡ record (in_memory lowest) { parts = held_in lowest + 1 } =
+    ap₂ (λ n m. record { parts = n; tables = m }) (omega (arith, ap held_in c.arrive.ensures, length_push lowest.parts c.args.part)) (ap tables_in c.arrive.ensures) in
     let rooms : HaveRooms IsDue lowest above = subst (HaveRoomsAbove IsDue) split c.requires.rooms in
     record {
       halfway = (
@@ -58,7 +59,7 @@ returns g c =
         live = arrived (λ p. live_of (contents p)) lowest.parts (live_items contents above) c.args.part parts (sym (ap (live_items contents) split));
         items = arrived (λ p. (contents p).items) lowest.parts (all_items contents above) c.args.part parts (sym (ap (all_items contents) split));
         weight = weight-pushed contents (kind g) lowest above h new c.args.part parts level ∙ ap (λ ls. weight_of ls + 1) (sym split);
-        held = ap (λ n. n ∷ map held_in above) more ∙ sym (ap (λ ls. one_more (map held_in ls)) split);
+        held = ap (λ n. n ∷ map in_memory above) more ∙ sym (ap (λ ls. one_more (map in_memory ls)) split);
         waiting = ap (λ n. n + waiting_of above) (ap waiting_in c.arrive.ensures) ∙ sym (ap waiting_of split);
       };
       clocks = λ ls ticks. TakeTicks-from c.args.levels.now (new ∷ above) ls (ap (λ k. k ∷ map (λ v. v.level) above) level ∙ sym (ap (map (λ v. v.level)) split))

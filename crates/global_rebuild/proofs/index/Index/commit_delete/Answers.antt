@@ -1,9 +1,10 @@
-use Rattle.std.proofs.Common.{rules, ◌≡◌, ℕ, ◌+◌, ◌*◌, ◌^◌, ◌<◌, ◌∙◌, true, Option, Some, None, [], ap, sym, arith}
+use Rattle.std.proofs.Common.{rules, ◌≡◌, ℕ, ◌+◌, ◌-◌, ◌*◌, ◌^◌, ◌<◌, ◌∙◌, nat_lt, true, Option, Some, None, [], ◌∷◌, ap, sym, arith}
+use Rattle.std.proofs.lemmas.Bool.Decides.{nat_tests}
 use Rattle.id_chain.specs.Chain.{is_linked, before_cursor}
 use Rattle.stack_levels.specs.Levels.{weight_of}
 use Rattle.stack_levels.specs.Cost.{IsWithin, quotas}
-use Rattle.level_slots.specs.Stack.{held_by_level, memory_of}
-use Rattle.global_rebuild.specs.Index.{Shadow, IsIndexOf, live_in}
+use Rattle.level_slots.specs.Stack.{held_by_level}
+use Rattle.global_rebuild.specs.Index.{Shadow, IsIndexOf, live_in, is_heavy}
 use Rattle.global_rebuild.proofs.Forgetting.{live_item}
 use Rattle.global_rebuild.proofs.Weights.{main_few, main_light}
 use Rattle.global_rebuild.proofs.Dropping.{IsDropped, few_left, walked_light, walked_few_enough, walked_item, starts, stays_quiet, goes_on_without, goes_on_moved, goes_on_after, left_without, left_after, one_delete, at_most_two, both_deletes}
@@ -11,12 +12,17 @@ use Rattle.global_rebuild.proofs.index.Index.commit_delete.Given.{Over}
 use Rattle.global_rebuild.proofs.index.Index.commit_delete.Goals.{After-delete}
 use Rattle.global_rebuild.proofs.index.Index.commit_delete.Goals as goal
 
+-- more is dead than half of what is live, and eight
+is_over : (weight live : ℕ) → 3 * live + 16 < 2 * weight → nat_lt (live + 16) (2 * (weight - live)) ≡ true
+is_over weight live more = let dead : live + 16 < 2 * (weight - live) = omega (arith, more) in grind (arith, nat_tests, dead)
+
 -- a stack without levels holds nothing
 fresh_holds_none : {P Item : Type 0} (cursor : Option ℕ) (r : Shadow P Item)
-    → Some (record { stack = record { levels = []; spare = 0; starters = 0 }; cursor = cursor }) ≡ Some r → memory_of r.stack ≡ 0
+    → Some (record { stack = record { levels = []; spare = 0; starters = 0 }; cursor = cursor }) ≡ Some r
+    → held_by_level r.stack ≡ record { parts = 0; tables = 0 } ∷ []
 fresh_holds_none {P} {Item} cursor r is =
     let same : record { stack = record { levels = []; spare = 0; starters = 0 }; cursor = cursor } ≡ r = cc in
-    ap (λ (s : Shadow P Item). memory_of s.stack) (sym same)
+    ap (λ (s : Shadow P Item). held_by_level s.stack) (sym same)
 
 pub delete-requires-clause-light : goal.delete-requires-clause-light
 delete-requires-clause-light g c = main_light c.self.view_is c.self.invariant c.requires.chain.1
@@ -27,7 +33,7 @@ delete-requires-clause-live g c =
     live_item c.args.handle c.item-item.result c.args.chain.now.entries h.live c.item-item.ensures.item
 
 dropped : (g : Over) (c : After-delete g) (stamps : ℕ) → IsIndexOf g.B.Part.Part.contents g.B.Item.Item.stamp c.args.self.now c.args.chain.now.entries stamps
-    → IsDropped g.B.Part.Part.contents g.B.Item.Item.stamp (record { main = c.self.inside.main; shadow = c.self.inside.shadow; retired = c.self.inside.retired })
+    → IsDropped g.B.Part.Part.contents g.B.Item.Item.stamp (record { main = c.self.inside.main; shadow = c.self.inside.shadow; retired = c.self.inside.retired.items })
     c.args.self.now c.args.chain.now.entries stamps c.args.handle c.item-item.result c.delete.new.self
 dropped g c stamps h = record {
   view = c.self.view_is;
@@ -43,7 +49,7 @@ dropped g c stamps h = record {
 
 -- the same, whatever number is above the stamps
 some_dropped : (g : Over) (c : After-delete g)
-    → IsDropped g.B.Part.Part.contents g.B.Item.Item.stamp (record { main = c.self.inside.main; shadow = c.self.inside.shadow; retired = c.self.inside.retired })
+    → IsDropped g.B.Part.Part.contents g.B.Item.Item.stamp (record { main = c.self.inside.main; shadow = c.self.inside.shadow; retired = c.self.inside.retired.items })
     c.args.self.now c.args.chain.now.entries c.requires.chain.0 c.args.handle c.item-item.result c.delete.new.self
 some_dropped g c = dropped g c c.requires.chain.0 c.requires.chain.1
 
@@ -165,3 +171,10 @@ returns-then-weight-live-clause-held g c =
       fresh = λ _ r' now. fresh_holds_none c.first_but.result r' now;
       retired = ap (λ i. i.retired) c.self.view_is;
     })
+
+pub returns-then-weight-live-clause-starts : goal.returns-then-weight-live-clause-starts
+returns-then-weight-live-clause-starts g c none =
+    let heavy : is_heavy g.B.Part.Part.contents c.delete.new.self ≡ true =
+    is_over (weight_of c.delete.new.self.levels) (live_in g.B.Part.Part.contents c.delete.new.self)
+    (omega (arith, c.if-weight-live.true, c.weight.ensures.value, c.live.ensures)) in
+    rw (c.start.ensures.started, c.new.ensures, heavy) (ap Some (omega arith))

@@ -30,7 +30,7 @@ insert-requires-clause-apart g c k d within same =
 
 -- what the fields are afterwards
 sound : (g : Over) (c : goal.After-insert g) → IsSoundOf g.B.Part.Part.contents g.B.Item.Item.stamp
-    (record { main = c.insert.new.self; shadow = c.self.inside.shadow; retired = c.self.inside.retired }) c.args.chain.now.entries
+    (record { main = c.insert.new.self; shadow = c.self.inside.shadow; retired = c.self.inside.retired.items }) c.args.chain.now.entries
     (g.B.Item.Item.stamp c.item-item.result + 1)
 sound g c =
     let contents = g.B.Part.Part.contents in
@@ -42,7 +42,7 @@ sound g c =
     last.2 ∙ ap (λ x. last.0 ++ record { handle = c.args.handle; item = x } ∷ []) (sym one) in
     let h = rw (← c.self.view_is, ← one) at last.3 in
     let p = rw (← c.self.view_is) at c.requires.prepared in
-    subst (λ es. IsSoundOf contents stamp (record { main = c.insert.new.self; shadow = c.self.inside.shadow; retired = c.self.inside.retired }) es (stamp e.item + 1))
+    subst (λ es. IsSoundOf contents stamp (record { main = c.insert.new.self; shadow = c.self.inside.shadow; retired = c.self.inside.retired.items }) es (stamp e.item + 1))
     (sym is)
     (appended contents stamp _ last.0 e h c.self.invariant p c.insert.new.self c.insert.ensures.live c.insert.ensures.items
     c.insert.ensures.weight (subst HandlesDiffer is c.requires.differ) (subst (λ es. length es < 2 ^ 29) is c.requires.few))

@@ -1,34 +1,39 @@
-use Rattle.std.proofs.Common.{rules, ◌≡◌, None, ◌∙◌, Some, inl, inr, ap, arith}
+use Rattle.std.proofs.Common.{rules, ◌≡◌, None, ◌<◌, ◌∙◌, Some, All, inl, inr, refl, ap, sym, subst, arith}
 use Rattle.level_slots.proofs.Forecasting.{when_ok, anyway_ok, anyway_err, both_ok}
 use Rattle.level_slots.specs.Stack.{memory_of}
-use Rattle.global_rebuild.specs.Index.{Shadow}
+use Rattle.global_rebuild.specs.Index.{Shadow, FreesOne, none}
+use Rattle.global_rebuild.specs.Retiring.{with_retired}
+use Rattle.global_rebuild.proofs.Retiring.{one_less}
+use Rattle.global_rebuild.proofs.Freeing.{frees, swapped-left}
 use Rattle.global_rebuild.proofs.Swapping.{IsSwapped, ended, not_swapped, IsMade, made, paused}
 use Rattle.global_rebuild.proofs.index.Index.prepare.Given.{Over}
-use Rattle.global_rebuild.proofs.index.Index.prepare.Goals.{then-has_walked, else-has_walked}
+use Rattle.global_rebuild.proofs.index.Index.prepare.Goals.{then-has_walked+in_ok-reserve, else-has_walked}
 use Rattle.global_rebuild.proofs.index.Index.prepare.Goals as goal
 
 is_swapped : (g : Over) (c : goal.After-take_memory g)
-    → IsSwapped c.walk.new.self c.if-has_walked.self-inside.main c.if-has_walked.self-inside.shadow c.if-has_walked.self-inside.retired
+    → IsSwapped c.walk.new.self c.if-has_walked.self-inside.main c.if-has_walked.self-inside.shadow c.if-has_walked.self-inside.retired.items
 is_swapped g c = elim c.if-has_walked.branch [
-  | then-has_walked w ↦
+  | then-has_walked+in_ok-reserve w ↦
       let told : (r : Shadow g.row.B-Part.Denot g.row.B-Item.Denot) × (c.walk.new.self.shadow ≡ Some r) × (r.cursor ≡ None) = search rules in
       let put = w.swap.ensures.swapped told.0 (ap (λ i. i.shadow) c.self.view_is ∙ told.1) in
       ended told.0 told.1 told.2 (ap (λ i. i.main) w.self-inside-is ∙ put.0) (ap (λ i. i.shadow) w.self-inside-is ∙ w.swap.ensures.ended)
-      (ap (λ i. i.retired) w.self-inside-is ∙ put.1 ∙ ap (λ i. Some (memory_of i.main)) c.self.view_is)
+      (ap (λ i. i.retired.items) w.self-inside-is ∙ put.1 ∙ ap (λ rs. with_retired rs c.self.inside.main) w.reserve.ensures.items
+      ∙ ap (λ i. with_retired i.retired i.main) c.self.view_is)
   | else-has_walked w ↦
       let some : (r : Shadow g.row.B-Part.Denot g.row.B-Item.Denot) → c.walk.new.self.shadow ≡ Some r → r.cursor ≡ None → ⊥ = search rules in
       not_swapped c.walk.new.self some (ap (λ i. i.main) w.self-inside-is ∙ ap (λ i. i.main) c.self.view_is)
-      (ap (λ i. i.shadow) w.self-inside-is ∙ ap (λ i. i.shadow) c.self.view_is) (ap (λ i. i.retired) w.self-inside-is ∙ ap (λ i. i.retired) c.self.view_is)
+      (ap (λ i. i.shadow) w.self-inside-is ∙ ap (λ i. i.shadow) c.self.view_is)
+      (ap (λ i. i.retired.items) w.self-inside-is ∙ ap (λ i. i.retired) c.self.view_is)
 ]
 
 made_of : (g : Over) (c : goal.After-take_memory g) → IsMade g.B.Part.Part.contents c.args.self.now
-    (record { main = c.take_memory.new.main; shadow = c.take_memory.new.shadow; retired = c.give_up.new.retired })
+    (record { main = c.take_memory.new.main; shadow = c.take_memory.new.shadow; retired = c.give_up.new.retired.items })
 made_of g c =
     let w = c.walk.ensures in
     let e = c.take_memory.ensures in
     made _ _ (w.chain c.requires.chain.0 c.requires.chain.1) (is_swapped g c) w.same.0 w.same.1 w.same.2 c.in_ok-walk.ensures.taken
     (λ x r was is. (w.handed x r was is).1) (λ x r was is. (w.handed x r was is).0) w.dead c.in_ok-walk.ensures.in_time
-    c.give_up.ensures.one (e.live ∙ c.give_up.ensures.live) (e.weight ∙ c.give_up.ensures.weight) e.none e.some
+    (one_less c.give_up.ensures.given) (e.live ∙ c.give_up.ensures.live) (e.weight ∙ c.give_up.ensures.weight) e.none e.some
 
 pub returns-clause-prepared : goal.returns-clause-prepared
 returns-clause-prepared g c =
@@ -39,6 +44,11 @@ returns-clause-prepared g c =
       shadow = λ r there. (omega (arith, (spares.1 r there).0), (ahead r there).0, (ahead r there).1);
     }) (both_ok _ _ c.take_memory.result e.spare e.spare_too)
 
+pub returns-clause-ready : goal.returns-clause-ready
+returns-clause-ready g c =
+    let e = c.take_memory.ensures in
+    when_ok c.take_memory.result (λ spares. (spares.0.0, spares.0.1, spares.1)) (both_ok _ _ c.take_memory.result e.spare e.spare_too)
+
 pub returns-clause-walked : goal.returns-clause-walked
 returns-clause-walked g c = anyway_ok c.take_memory.result (made_of g c).on
 
@@ -47,3 +57,13 @@ returns-clause-refused g c = anyway_err c.take_memory.result (inl (made_of g c).
 
 pub returns-in_err-walk-clause-refused : goal.returns-in_err-walk-clause-refused
 returns-in_err-walk-clause-refused g c = anyway_err _ (inr (paused _ _ c.walk.ensures.same c.walk.ensures.handed))
+
+pub returns-clause-frees : goal.returns-clause-frees
+returns-clause-frees g c =
+    let w = c.walk.ensures in
+    frees c.args.self.now c.walk.new.self
+    (record { main = c.take_memory.new.main; shadow = c.take_memory.new.shadow; retired = c.give_up.new.retired.items }) (is_swapped g c)
+    w.no_less w.same.0 w.same.1 c.give_up.ensures.given refl c.take_memory.ensures.no_less w.same.2 c.take_memory.ensures.none
+
+pub returns-in_err-walk-clause-frees : goal.returns-in_err-walk-clause-frees
+returns-in_err-walk-clause-frees g c = none c.walk.ensures.no_less

@@ -3,6 +3,8 @@ use Rattle.query_laws.specs.Permuted.{Permuted}
 use Rattle.query_laws.proofs.Permutations.{Permuted-length}
 use Rattle.stack_levels.specs.Slots.{IsPartOf}
 use Rattle.stack_levels.specs.Levels.{live_items, all_items, weight_of}
+use Rattle.level_slots.specs.Retired.{parts_at}
+use Rattle.level_slots.proofs.GivingUp.{memory-at, same-at}
 use Rattle.global_rebuild.specs.Index.{live_in}
 use Rattle.global_rebuild.proofs.Walking.{IsShadowOf-next}
 use Rattle.global_rebuild.proofs.shadow.Shadow.take_next.Given.{Over}
@@ -34,3 +36,10 @@ returns-clause-shadow g c stamps rise h =
 
 pub returns-clause-cost : goal.returns-clause-cost
 returns-clause-cost g c g' light = c.insert.ensures.cost.within g' light
+
+pub returns-clause-no_less : goal.returns-clause-no_less
+returns-clause-no_less g c k =
+    omega (arith, memory-at c.self.inside.stack c.prepare.new.self c.in_ok-prepare.ensures.memory k, same-at c.prepare.new.self c.insert.new.self c.insert.ensures.each_level k, ap (λ r. parts_at k r.stack) c.self.view_is)
+
+pub returns-in_err-prepare-clause-no_less : goal.returns-in_err-prepare-clause-no_less
+returns-in_err-prepare-clause-no_less g c k = omega (arith, memory-at c.self.inside.stack c.prepare.new.self c.in_err-prepare.ensures.memory k, ap (λ r. parts_at k r.stack) c.self.view_is)

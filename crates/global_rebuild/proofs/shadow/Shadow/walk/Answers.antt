@@ -29,6 +29,7 @@ loop-taken-preserved g c =
       at_most = omega (arith, before.at_most, e.at_most);
       dead = omega (arith, before.dead, e.dead);
       no_lighter = omega (arith, before.no_lighter, e.no_lighter);
+      no_less = λ k. omega (arith, before.no_less k, e.no_less k);
       cost = λ g' light. within_then c.loop-taken._taken (quotas g.B.Builder.SLOPE g.B.Builder.BASE 0 g') (2 * g') (before.cost g' (lighter e.no_lighter light)) (e.cost g' light);
     }
 
@@ -38,3 +39,6 @@ returns-in_err-take_next-clause-cost g c g' light =
     let few : c.loop-taken._taken + 1 ≤ c.args.most = omega (arith, c.loop-taken-test.true) in
     IsWithin-more (within_then c.loop-taken._taken (quotas g.B.Builder.SLOPE g.B.Builder.BASE 0 g') (2 * g') (c.loop-taken.invariant.cost g' (lighter e.no_lighter light)) (e.cost g' light))
     (times_more (quotas g.B.Builder.SLOPE g.B.Builder.BASE 0 g') few) (times_more (2 * g') few) (omega arith)
+
+pub returns-in_err-take_next-clause-no_less : goal.returns-in_err-take_next-clause-no_less
+returns-in_err-take_next-clause-no_less g c k = omega (arith, c.loop-taken.invariant.no_less k, c.take_next.ensures.no_less k)

@@ -5,7 +5,7 @@ use Rattle.builder_trait.specs.Builders.{PartKind}
 use Rattle.stack_levels.specs.Levels.{lowest_held, weight_of, live_items, all_items}
 use Rattle.stack_levels.proofs.Distinct.{AllStampsDiffer-part}
 use Rattle.stack_levels.proofs.MarkedLevels.{one_fewer}
-use Rattle.stack_levels.proofs.Held.{as_many-held, lowest-held}
+use Rattle.stack_levels.proofs.Held.{as_many-held, lowest-held, tables-held}
 use Rattle.level_slots.proofs.Stacks.{IsStack-ticked, IsPartOf-length}
 use Rattle.level_slots.proofs.FewParts.{asked-few, parts-few}
 use Rattle.level_slots.proofs.HeldByLevel.{same_held}
@@ -82,7 +82,9 @@ returns-clause-weight g c = rw (whole g c, ← seen g c) c.take_out.ensures.weig
 
 pub returns-clause-each_level : goal.returns-clause-each_level
 returns-clause-each_level g c =
-    rw (whole g c, ← seen g c) (same_held _ _ _ _ (omega (arith, lowest-held _ _ c.take_out.ensures.held, ap (λ s. s.starters) c.self.view_is)) (ap (drop 1) c.take_out.ensures.held))
+    let held = c.take_out.ensures.held in
+    rw (whole g c, ← seen g c) (same_held _ _ _ _ (omega (arith, lowest-held _ _ held, ap (λ s. s.starters) c.self.view_is)) (tables-held _ _ held)
+    (ap (drop 1) held))
 
 pub returns-clause-spare : goal.returns-clause-spare
 returns-clause-spare g c = omega (arith, c.requires.spare, ap (λ v. v.spare) c.self.view_is)

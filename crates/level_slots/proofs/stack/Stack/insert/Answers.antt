@@ -4,7 +4,7 @@ use Rattle.query_laws.specs.Orders.{AllStampsDiffer}
 use Rattle.query_laws.proofs.Permutations.{Permuted-length}
 use Rattle.stack_levels.specs.Levels.{lowest_held, weight_of, all_items}
 use Rattle.stack_levels.proofs.Distinct.{AllStampsDiffer-push, AllStampsDiffer-part}
-use Rattle.stack_levels.proofs.Held.{as_many-more, lowest-more, above-more}
+use Rattle.stack_levels.proofs.Held.{as_many-more, lowest-more, tables-more, above-more}
 use Rattle.level_slots.proofs.Stacks.{IsStack-ticked, IsPartOf-length, IsWithin-first}
 use Rattle.level_slots.proofs.HeldByLevel.{same_held}
 use Rattle.level_slots.proofs.stack.Stack.insert.Given.{Over}
@@ -101,7 +101,7 @@ pub returns-clause-each_level : goal.returns-clause-each_level
 returns-clause-each_level g c =
     rw (whole g c, ← seen g c) (same_held _ _ _ _
     (omega (arith, lowest-more _ _ (some_there g c) c.take_in.ensures.held, c.part_of-part.ensures.one_fewer, ap (λ s. s.starters) c.self.view_is))
-    (above-more _ _ c.take_in.ensures.held))
+    (tables-more _ _ c.take_in.ensures.held) (above-more _ _ c.take_in.ensures.held))
 
 pub returns-clause-spare : goal.returns-clause-spare
 returns-clause-spare g c = omega (arith, c.requires.spare, ap (λ v. v.spare) c.self.view_is)

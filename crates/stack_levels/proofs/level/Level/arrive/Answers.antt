@@ -14,4 +14,4 @@ invariant_of-self g c =
     (AreHeld-push v.parts.items c.args.part p.items p.capacity h.parts_held
     (subst (λ k. IsOfLevel k (g.B.Part.Part.contents c.args.part)) (sym (ap (λ l. l.level) c.self.view_is)) c.requires.of_level)
     (omega (arith, c.requires.place, ap (λ l. length l.parts) c.self.view_is)))
-    h.builders_held h.tables_held (omega (arith, c.requires.room, ap held_in c.self.view_is, ap length p.items, length_push v.parts.items c.args.part))
+    h.builders_held h.tables_held (omega (arith, c.requires.room, ap held_in c.self.view_is, ap length p.items, length_push v.parts.items c.args.part)) h.few_tables

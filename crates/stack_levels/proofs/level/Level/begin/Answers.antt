@@ -24,6 +24,7 @@ start-requires g c =
     record {
       of_level = c.begin.ensures.level ∙ c.self.invariant.rooms c.in-Some.room held;
       room = omega (arith, c.self.invariant.few, counted held, ap (λ (o : Option ℕ). one_if (is_some o)) c.take.ensures.after);
+      room_for_tables = omega (arith, c.self.invariant.few_tables, counted held, ap (λ (o : Option ℕ). one_if (is_some o)) c.take.ensures.after);
     }
 
 pub returns-clause-ticks : goal.returns-clause-ticks

@@ -13,4 +13,4 @@ invariant_of-self g c =
     IsLevel-of h h.builds h.parts_held
     (AreHeld-push v.builders.items c.args.builder p.items p.capacity h.builders_held (c.requires.begun ∙ ap (λ l. begun l.level) (sym c.self.view_is))
     (omega (arith, c.requires.place, ap held_in c.self.view_is)))
-    h.tables_held (omega (arith, c.requires.place, ap held_in c.self.view_is, ap length p.items, length_push v.builders.items c.args.builder))
+    h.tables_held (omega (arith, c.requires.place, ap held_in c.self.view_is, ap length p.items, length_push v.builders.items c.args.builder)) h.few_tables

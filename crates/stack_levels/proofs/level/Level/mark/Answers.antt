@@ -29,7 +29,7 @@ invariant_of-self g c =
       few = omega (arith, as_long, h.parts_held.few);
       place = h.parts_held.place;
     }))
-    h.builders_held h.tables_held (omega (arith, h.few, ap length whole, as_long))
+    h.builders_held h.tables_held (omega (arith, h.few, ap length whole, as_long)) h.few_tables
 
 pub returns-clause-cost : goal.returns-clause-cost
 returns-clause-cost g c h above =

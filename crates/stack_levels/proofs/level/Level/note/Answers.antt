@@ -31,7 +31,7 @@ returns-clause-waiting g c =
 pub invariant_of-self-2 : goal.invariant_of-self-2
 invariant_of-self-2 g c =
     IsLevel-building c.self.invariant c.note.new.self (ap (λ v. v.level) c.note.ensures.noted ∙ c.self.invariant.builds c.in-Some.construction c.in-Some.is)
-    (omega (arith, c.self.invariant.few, counted c.in-Some.is))
+    (omega (arith, c.self.invariant.few, counted c.in-Some.is)) (omega (arith, c.self.invariant.few_tables, counted c.in-Some.is))
 
 pub returns-clause-of_a : goal.returns-clause-of_a
 returns-clause-of_a g c a b new live same old c' is =

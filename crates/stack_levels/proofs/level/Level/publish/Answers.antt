@@ -27,8 +27,8 @@ arrive-requires-clause-of_level g c =
     let level : c.in-Some.construction.level ≡ c.take_ended.new.self.level = h.1 ∙ sym (ap (λ v. v.level) c.in-Some.ensures.taken) in
     subst (λ k. IsOfLevel k (g.B.Part.Part.contents c.publish-part.result.0)) level (record { at_level = p.level; fits = p.few })
 
-pub keep_tables-requires : goal.keep_tables-requires
-keep_tables-requires g c =
+pub keep_tables-requires-clause-of_level : goal.keep_tables-requires-clause-of_level
+keep_tables-requires-clause-of_level g c =
     c.publish-part.ensures.tables ∙ c.in-Some.ensures.ended.1 ∙ sym (ap (λ v. v.level) c.in-Some.ensures.taken) ∙ sym (ap (λ v. v.level) c.arrive.ensures)
 
 pub returns-in-Some-clause-ends : goal.returns-in-Some-clause-ends

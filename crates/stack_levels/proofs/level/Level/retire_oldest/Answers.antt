@@ -19,4 +19,4 @@ invariant_of-self g c =
     (AreHeld-push v.builders.items c.recycle-builder.result p.items p.capacity h.builders_held (c.recycle-builder.ensures ∙ ap begun part.at_level)
     (omega (arith, h.few, some)))
     h.tables_held
-    (omega (arith, h.few, some, ap length r.items, length-rest v.parts.items some, ap length p.items, length_push v.builders.items c.recycle-builder.result))
+    (omega (arith, h.few, some, ap length r.items, length-rest v.parts.items some, ap length p.items, length_push v.builders.items c.recycle-builder.result)) h.few_tables

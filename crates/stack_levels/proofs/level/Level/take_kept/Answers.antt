@@ -11,7 +11,7 @@ invariant_of-self g c =
     let p = c.pop.ensures in
     IsLevel-of h h.builds h.parts_held
     (AreHeld-popped c.self.inside.builders.items c.pop.new.self.items c.pop.result p.items p.capacity h.builders_held)
-    h.tables_held (omega (arith, h.few, ap length p.items, length-append c.pop.new.self.items (option_to_list c.pop.result)))
+    h.tables_held (omega (arith, h.few, ap length p.items, length-append c.pop.new.self.items (option_to_list c.pop.result))) h.few_tables
 
 pub returns-clause-begun : goal.returns-clause-begun
 returns-clause-begun g c =

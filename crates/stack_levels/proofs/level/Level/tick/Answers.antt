@@ -22,7 +22,7 @@ tick-requires-clause-builds g c = c.requires.fed c.in-Some.construction (sym (ap
 pub invariant_of-self : goal.invariant_of-self
 invariant_of-self g c =
     IsLevel-building c.self.invariant c.tick.new.self (c.tick.ensures.ticked.0 ∙ c.self.invariant.builds c.in-Some.construction c.in-Some.is)
-    (omega (arith, c.self.invariant.few, counted c.in-Some.is))
+    (omega (arith, c.self.invariant.few, counted c.in-Some.is)) (omega (arith, c.self.invariant.few_tables, counted c.in-Some.is))
 
 pub returns-clause-to_go : goal.returns-clause-to_go
 returns-clause-to_go g c =
