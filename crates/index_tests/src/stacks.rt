@@ -59,30 +59,20 @@ fn filled<B: Builder<Item = Pair>, L: Ledger>(
 /// The numbers of parts and the weights after each of twelve inserts.
 fn traced<B: Builder<Item = Pair>, L: Ledger>(
     alloc: Global,
-    blank: Blank,
-) -> Result<Vec<(u32, u64)>, NoMemory>
-    requires name { blank.name ≡ L.name }
-    requires parts { blank.parts ≡ L.parts }
-    requires shares { blank.parts ≡ SHARES }
-{
-    let mut steps = Steps::<L>::new(blank);
+    steps: &mut Steps<L>,
+) -> Result<Vec<(u32, u64)>, NoMemory> {
     let mut stack = Stack::<B>::new(alloc);
-    insert_up_to(alloc, &mut stack, 12, &mut steps)
+    insert_up_to(alloc, &mut stack, 12, steps)
 }
 
 /// Five inserts, and the first item is deleted: the weight, the live items, the parts, the levels and the spare after that.
 fn deleted<B: Builder<Item = Pair>, L: Ledger>(
     alloc: Global,
-    blank: Blank,
-) -> Result<(u64, u64, u32, u32, u32), NoMemory>
-    requires name { blank.name ≡ L.name }
-    requires parts { blank.parts ≡ L.parts }
-    requires shares { blank.parts ≡ SHARES }
-{
-    let mut steps = Steps::<L>::new(blank);
-    let mut stack = filled::<B, L>(alloc, 5, &mut steps)?;
+    steps: &mut Steps<L>,
+) -> Result<(u64, u64, u32, u32, u32), NoMemory> {
+    let mut stack = filled::<B, L>(alloc, 5, steps)?;
     stack.prepare()?;
-    stack.delete(&pair(0), &mut steps);
+    stack.delete(&pair(0), steps);
     Ok((
         stack.weight(),
         stack.live(),
@@ -108,17 +98,12 @@ fn prepared<B: Builder<Item = Pair>, L: Ledger>(
 /// The same after five, six and nine inserts.
 fn prepared_thrice<B: Builder<Item = Pair>, L: Ledger>(
     alloc: Global,
-    blank: Blank,
-) -> Result<[(u64, u32); 3], NoMemory>
-    requires name { blank.name ≡ L.name }
-    requires parts { blank.parts ≡ L.parts }
-    requires shares { blank.parts ≡ SHARES }
-{
-    let mut steps = Steps::<L>::new(blank);
+    steps: &mut Steps<L>,
+) -> Result<[(u64, u32); 3], NoMemory> {
     Ok([
-        prepared::<B, L>(alloc, 5, &mut steps)?,
-        prepared::<B, L>(alloc, 6, &mut steps)?,
-        prepared::<B, L>(alloc, 9, &mut steps)?,
+        prepared::<B, L>(alloc, 5, steps)?,
+        prepared::<B, L>(alloc, 6, steps)?,
+        prepared::<B, L>(alloc, 9, steps)?,
     ])
 }
 
@@ -135,15 +120,10 @@ fn take_all<B: Builder<Item = Pair>>(stack: &mut Stack<B>, retired: &mut Retired
 /// their number, how many are left, and the kept builders, the rooms, the parts and the spare after it.
 fn retired<B: Builder<Item = Pair>, L: Ledger>(
     alloc: Global,
-    blank: Blank,
-) -> Result<(usize, usize, u64, u64, u32, u32), NoMemory>
-    requires name { blank.name ≡ L.name }
-    requires parts { blank.parts ≡ L.parts }
-    requires shares { blank.parts ≡ SHARES }
-{
-    let mut steps = Steps::<L>::new(blank);
-    let old = filled::<B, L>(alloc, 12, &mut steps)?;
-    let mut stack = filled::<B, L>(alloc, 5, &mut steps)?;
+    steps: &mut Steps<L>,
+) -> Result<(usize, usize, u64, u64, u32, u32), NoMemory> {
+    let old = filled::<B, L>(alloc, 12, steps)?;
+    let mut stack = filled::<B, L>(alloc, 5, steps)?;
     stack.prepare()?;
     let mut retired = old.retire();
     let held = take_all(&mut stack, &mut retired);
@@ -157,39 +137,56 @@ fn retired<B: Builder<Item = Pair>, L: Ledger>(
     ))
 }
 
-#[test]
-fn twelve_inserts(rt: HostRuntime) -> Result<(), Fail> {
-    let seen = traced::<FlatBuilder<Pair>, Brand>(rt.alloc(), blank())?;
-    let parts = [1, 2, 2, 3, 3, 4, 4, 4, 4, 5, 5, 5];
-    assert_eq!(rt; seen.len(), parts.len());
-    for (place, (found, weight)) in seen.iter().enumerate() {
-        assert_eq!(rt; *found, parts[place]);
-        assert_eq!(rt; *weight, place as u64 + 1);
-    }
-    Ok(())
+/// What all these tell of stacks of the same kind of part.
+#[derive(Drop)]
+struct Findings {
+    traced: Vec<(u32, u64)>,
+    deleted: (u64, u64, u32, u32, u32),
+    retired: (usize, usize, u64, u64, u32, u32),
+    prepared: [(u64, u32); 3],
 }
 
-#[test]
-fn deletes_the_first_of_five(rt: HostRuntime) -> Result<(), Fail> {
-    let seen = deleted::<FlatBuilder<Pair>, Brand>(rt.alloc(), blank())?;
-    assert_eq!(rt; seen, (5, 4, 3, 3, 1));
-    Ok(())
+fn seen<B: Builder<Item = Pair>, L: Ledger>(
+    alloc: Global,
+    blank: Blank,
+) -> Result<Findings, NoMemory>
+    requires name { blank.name ≡ L.name }
+    requires parts { blank.parts ≡ L.parts }
+    requires shares { blank.parts ≡ SHARES }
+{
+    let mut steps = Steps::<L>::new(blank);
+    Ok(Findings {
+        traced: traced::<B, L>(alloc, &mut steps)?,
+        deleted: deleted::<B, L>(alloc, &mut steps)?,
+        retired: retired::<B, L>(alloc, &mut steps)?,
+        prepared: prepared_thrice::<B, L>(alloc, &mut steps)?,
+    })
 }
 
-/// The numbers are those of a model of the clocks: of the twelve parts two are under construction, and four find no place.
+/// What is retired and kept was worked out by a model of the clocks: of the twelve parts two are under construction, and four find no
+/// place.
 #[test]
-fn takes_over_part_by_part(rt: HostRuntime) -> Result<(), Fail> {
-    let seen = retired::<FlatBuilder<Pair>, Brand>(rt.alloc(), blank())?;
-    assert_eq!(rt; seen, (12, 0, 18, 8, 3, 2));
-    Ok(())
-}
-
-#[test]
-fn holds_rooms_by_forecast(rt: HostRuntime) -> Result<(), Fail> {
-    let seen = prepared_thrice::<FlatBuilder<Pair>, Brand>(rt.alloc(), blank())?;
-    for (place, most) in [8, 16, 8].iter().enumerate() {
-        assert!(rt; seen[place].0 <= *most, "{place}");
-        assert_eq!(rt; seen[place].1, 2);
-    }
+fn keeps_parts_by_level(rt: HostRuntime) -> Result<(), Fail> {
+    let seen = seen::<FlatBuilder<Pair>, Brand>(rt.alloc(), blank())?;
+    let traced = [
+        (1, 1),
+        (2, 2),
+        (2, 3),
+        (3, 4),
+        (3, 5),
+        (4, 6),
+        (4, 7),
+        (4, 8),
+        (4, 9),
+        (5, 10),
+        (5, 11),
+        (5, 12),
+    ];
+    assert_eq!(rt; seen.traced.as_slice(), traced.as_slice());
+    assert_eq!(rt; seen.deleted, (5, 4, 3, 3, 1));
+    assert_eq!(rt; seen.retired, (12, 0, 18, 8, 3, 2));
+    let [five, six, nine] = seen.prepared;
+    assert!(rt; five.0 <= 8 && six.0 <= 16 && nine.0 <= 8);
+    assert_eq!(rt; (five.1, six.1, nine.1), (2, 2, 2));
     Ok(())
 }
