@@ -11,7 +11,7 @@ use Rattle.query_laws.specs.StepLedger.{Entries}
 use Rattle.query_laws.specs.declared.item.Order.{Order}
 use Rattle.query_laws.specs.declared.item.Order.TheVariants.{First, Second}
 use Rattle.builder_trait.specs.Parts.{Contents, IsPart, IsRising}
-use Rattle.builder_trait.specs.Builders.{Progress, FitsFirst, FitsSecond}
+use Rattle.builder_trait.specs.Builders.{Progress, IsUnderway, FitsFirst, FitsSecond}
 use Rattle.builder_trait.specs.Flat.{items_at, IsFlatBuilding, IsFlagging}
 use Rattle.builder_trait.proofs.RebuildingLemmas.{length-reordered, placed-at}
 use Rattle.builder_trait.proofs.Places.{length-reordered_le, length-placed, IsPart-from_rising}
@@ -113,6 +113,27 @@ module _ {Item : Type 0} {before : Order → Item → Item → Bool} {items : En
       })
 
 module _ {Item : Type 0} where
+  -- the rows are those of a builder that is underway
+  pub IsUnderway-building : {before : Order → Item → Item → Bool} {items : Entries Item} {places : Entries ℕ} {flags : Entries Bool}
+      {n left : ℕ} {is_sealed : Bool} → IsFlatBuilding before items places flags n
+      → IsFlagging items.items (items_at items.items places.items) flags.items is_sealed left
+      → IsUnderway before (record {
+        items = items.items;
+        reordered = items_at items.items places.items;
+        places = places.items;
+        at_level = n;
+        is_sealed = is_sealed;
+        left = left;
+      })
+  IsUnderway-building kept flagging = record {
+    small = kept.wide.level_small;
+    few = kept.few;
+    rising = kept.rising;
+    rising_reordered = kept.rising_reordered;
+    placed = kept.placed;
+    complete = flagging.complete;
+  }
+
   -- before the seal flags say nothing of items
   pub IsFlagging-put : {items items' reordered reordered' : List Item} {flags : List Bool} {is_sealed : Bool} {left : ℕ} → is_sealed ≡ false
       → IsFlagging items reordered flags is_sealed left → IsFlagging items' reordered' flags is_sealed left

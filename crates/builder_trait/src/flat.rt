@@ -2,12 +2,12 @@
 //!
 //! It keeps each item once, in the first order, with a flag, and the second order as places; and it answers no question. It stands for any other kind where only
 //! the contract of parts and builders matters.
-ghost use Rattle.std.specs.Prelude.{◌≡◌, ◌+◌, ◌-◌, ◌*◌, ◌<◌, ◌≤◌, ◌^◌, ℕ, IfSome, IsNone, IsTrue, ◌↔◌, All, ◌≢◌, length, Some, slice_get, slice_set, refl, true, false};
+ghost use Rattle.std.specs.Prelude.{◌≡◌, ◌+◌, ◌-◌, ◌*◌, ◌<◌, ◌≤◌, ◌^◌, ℕ, IfOk, IfSome, IsNone, IsTrue, ◌↔◌, All, ◌≢◌, length, Some, slice_get, slice_set, refl, true, false};
 ghost use Rattle.std.specs.Option.{is_some};
 ghost use Rattle.query_laws.specs.StepLedger.{Spends, one_mark, one_touch};
 ghost use Rattle.query_laws.specs.declared.item.Order.TheVariants.{First, Second};
-ghost use Rattle.builder_trait.specs.Parts.{IsRising, OwnsStamp, IsOutside, live_of, has_stamp, without, marked};
-ghost use Rattle.builder_trait.specs.Builders.{IsUnderway, IsQuota, FitsFirst, FitsSecond, with_put, sealed_with};
+ghost use Rattle.builder_trait.specs.Parts.{IsPart, IsRising, OwnsStamp, IsOutside, live_of, has_stamp, without, marked};
+ghost use Rattle.builder_trait.specs.Builders.{IsUnderway, IsQuota, FitsFirst, FitsSecond, begun, with_put, sealed_with, all_live};
 
 use crate::builder::Builder;
 use crate::part::Part;
@@ -235,7 +235,11 @@ impl<I: Item> Builder for FlatBuilder<I> {
 
     ghost progress = { λ b. b };
 
-    fn room(alloc: Global, level: u32) -> Result<FlatBuilder<I>, NoMemory> {
+    fn room(alloc: Global, level: u32) -> Result<FlatBuilder<I>, NoMemory>
+        requires { level < 32 }
+        ensures empty { IfOk result (λ builder. builder ≡ begun level) }
+        ensures valid { IfOk result (λ builder. IsUnderway I.before builder) }
+    {
         let cap = 2usize.pow(level);
         Ok(FlatBuilder {
             items: Row::room(alloc, cap)?,
@@ -254,6 +258,7 @@ impl<I: Item> Builder for FlatBuilder<I> {
         requires first { order ≡ First → FitsFirst (I.before First) self.old item place }
         requires second { order ≡ Second → FitsSecond (I.before Second) self.old item place }
         ensures added { self.new ≡ with_put order item place self.old }
+        ensures valid { IsUnderway I.before self.new }
         ensures cost { Spends steps.old steps.new 1 0 2 }
     {
         steps.turn();
@@ -288,7 +293,13 @@ impl<I: Item> Builder for FlatBuilder<I> {
         steps.turn()
     }
 
-    fn finish(self) -> FlatPart<I> {
+    fn finish(self) -> FlatPart<I>
+        requires closed { self.is_sealed ≡ true }
+        requires ended { self.left ≡ 0 }
+        ensures whole { result ≡ all_live self }
+        ensures live { live_of result ≡ self.items }
+        ensures valid { IsPart I.before result }
+    {
         let live = self.items.len();
         FlatPart {
             items: self.items,
@@ -300,7 +311,10 @@ impl<I: Item> Builder for FlatBuilder<I> {
         }
     }
 
-    fn recycle(part: FlatPart<I>) -> FlatBuilder<I> {
+    fn recycle(part: FlatPart<I>) -> FlatBuilder<I>
+        ensures empty { result ≡ begun part.at_level }
+        ensures valid { IsUnderway I.before result }
+    {
         let FlatPart {
             mut items,
             mut places,

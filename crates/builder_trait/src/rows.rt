@@ -2,8 +2,8 @@
 ghost use Rattle.std.specs.Prelude.{◌≡◌, ◌+◌, ◌-◌, ◌<◌, ◌≤◌, ◌^◌, ◌%◌, ℕ, IfOk, IsErr, IsTrue, Some, length, slice_get};
 ghost use Rattle.query_laws.specs.StepLedger.{Spends};
 ghost use Rattle.query_laws.specs.declared.item.Order.TheVariants.{First, Second};
-ghost use Rattle.builder_trait.specs.Parts.{Contents, live_of};
-ghost use Rattle.builder_trait.specs.Builders.{Progress, begun, FitsFirst, FitsSecond, with_put, all_live, IsQuota};
+ghost use Rattle.builder_trait.specs.Parts.{Contents, IsPart, live_of};
+ghost use Rattle.builder_trait.specs.Builders.{Progress, IsUnderway, begun, FitsFirst, FitsSecond, with_put, all_live, IsQuota};
 ghost use Rattle.builder_trait.specs.Rows.{AreBehind};
 
 use crate::builder::Builder;
@@ -62,6 +62,7 @@ pub trait Rows: Drop + Sized {
         place: usize,
         steps: &mut Steps<L>,
     )
+        requires valid { IsUnderway Self.Item.before items.now }
         requires putting { IsPutting items.now self.old }
         requires fits { FitsFirst (Self.Item.before First) items.now item.now place }
         ensures putting { IsPutting (with_put First item.now place items.now) self.new }
@@ -75,6 +76,7 @@ pub trait Rows: Drop + Sized {
         place: usize,
         steps: &mut Steps<L>,
     )
+        requires valid { IsUnderway Self.Item.before items.now }
         requires putting { IsPutting items.now self.old }
         requires fits { FitsSecond (Self.Item.before Second) items.now item.now place }
         ensures putting { IsPutting (with_put Second item.now place items.now) self.new }
@@ -82,6 +84,7 @@ pub trait Rows: Drop + Sized {
 
     /// Begins to grow, once all items were put in both orders. It counts nothing.
     fn begin(&mut self, items: &FlatBuilder<Self::Item>)
+        requires valid { IsUnderway Self.Item.before items.now }
         requires putting { IsPutting items.now self.old }
         requires complete { length items.now.reordered ≡ length items.now.items }
         ensures growing { IsGrowing (all_live items.now) self.new }
@@ -107,6 +110,7 @@ pub trait Rows: Drop + Sized {
         item: &Self::Item,
         steps: &mut Steps<L>,
     )
+        requires valid { IsPart Self.Item.before items.now }
         requires behind { AreBehind IsDone items.now place self.old }
         requires there { slice_get items.now.items place ≡ Some item.now }
         ensures done { IsDone items.now self.new }
@@ -147,6 +151,7 @@ pub trait AnsweringRows<Q: Question<Item = Self::Item>>: Rows {
         tally: &mut Q::Tally,
         steps: &mut Steps<L>,
     ) -> Result<(), NoMemory>
+        requires valid { IsPart Self.Item.before items.now }
         requires owned { Q.owns question.now tally.old }
         requires done { Self.IsDone items.now self.now }
         ensures owned { Q.owns question.now tally.new }
@@ -169,7 +174,7 @@ impl<R: Rows> Model for RowsPart<R> {
 
     ghost view = { λ p. p.items };
 
-    ghost invariant = { λ p. R.IsDone p.items p.rows };
+    ghost invariant = { λ p. IsPart R.Item.before p.items × R.IsDone p.items p.rows };
 }
 
 impl<R: Rows> Part for RowsPart<R> {
@@ -232,13 +237,13 @@ pub struct RowsBuilder<R: Rows> {
 
 impl<R: Rows> Model for RowsBuilder<R> {
     ghost use Rattle.std.specs.Prelude.{◌≡◌, ◌+◌, ◌<◌, ◌^◌, true, false};
-    ghost use Rattle.builder_trait.specs.Builders.{Progress, all_live};
+    ghost use Rattle.builder_trait.specs.Builders.{Progress, IsUnderway, all_live};
 
     ghost Value = { Progress R.Item };
 
     ghost view = { λ b. record b.items { left = b.items.left + R.left b.rows } };
 
-    ghost invariant = { λ b. (b.items.is_sealed ≡ false → R.IsPutting b.items b.rows × (b.items.left ≡ 0))
+    ghost invariant = { λ b. (b.items.is_sealed ≡ false → IsUnderway R.Item.before b.items × R.IsPutting b.items b.rows × (b.items.left ≡ 0))
         × (b.items.is_sealed ≡ true → R.IsGrowing (all_live b.items) b.rows × (b.items.left + R.left b.rows < 2 ^ 63)) };
 }
 
@@ -273,8 +278,6 @@ impl<R: Rows> Builder for RowsBuilder<R> {
     }
 
     fn seal(&mut self) {
-        // By its contract the level is small, and so is the quota.
-        let _len = self.items.len();
         self.rows.begin(&self.items);
         self.items.seal();
     }

@@ -1,19 +1,19 @@
 //! Answers to questions: the segments over a place one after another, or how many there are.
 ghost use Rattle.std.specs.Prelude.{◌≡◌, ◌+◌, ◌*◌, ◌^◌, ◌<◌, ◌≤◌, ◌∷◌, ◌++◌, [], ℕ, List, Some, length, map, slice_get, IfOk, OnOk, IfSome, IsNone, MatchOption};
 ghost use Rattle.query_laws.specs.StepLedger.{Spends};
-ghost use Rattle.builder_trait.specs.Parts.{live_of};
+ghost use Rattle.builder_trait.specs.Parts.{IsPart, live_of};
 ghost use Rattle.map_shapes.specs.Ascending.{sorted_ids, sorted_union};
 ghost use Rattle.map_shapes.specs.declared.segment.Segment.{Segment};
 ghost use Rattle.map_questions.specs.Questions.{stab};
 ghost use Rattle.interval_stab.specs.Costs.{count_touches, stab_touches};
 ghost use Rattle.interval_stab.specs.Queries.{hits, hits_before};
-ghost use Rattle.interval_stab.specs.Rows.{AreOver};
+ghost use Rattle.interval_stab.specs.Rows.{AreOver, before};
 
 use crate::rows::StabRows;
 use crate::search::{begun, ended};
 use crate::trees::Trees;
+use builder_trait::AnsweringRows;
 use builder_trait::flat::FlatPart;
-use builder_trait::{AnsweringRows, Part};
 use map_questions::{Stab, StabCount};
 use map_shapes::{IdTally, Segment};
 use query_laws::step_ledger::Steps;
@@ -96,12 +96,11 @@ impl Trees {
 
     /// How many live segments are over x: those that have begun, less those that have ended.
     fn count<L: Ledger>(&self, segments: &FlatPart<Segment>, x: u32, steps: &mut Steps<L>) -> u64
+        requires valid { IsPart before segments.now }
         requires over { AreOver segments.now self.now }
         ensures value { result ≡ length (hits x segments.now) }
         ensures cost { Spends steps.old steps.new 0 0 (count_touches segments.now.items) }
     {
-        // By its contract both orders have the same segments.
-        let _len = segments.len();
         let lower = begun(segments, x, steps);
         let begun = self.by_lower.prefix(lower, steps);
         let upper = ended(segments, x, steps);

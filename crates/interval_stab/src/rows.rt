@@ -4,7 +4,7 @@ ghost use Rattle.std.specs.Prelude.{◌≡◌};
 use crate::search::index_of;
 use crate::trees::Trees;
 use builder_trait::flat::{FlatBuilder, FlatPart};
-use builder_trait::{Part, Rows, RowsBuilder, RowsPart};
+use builder_trait::{Rows, RowsBuilder, RowsPart};
 use map_shapes::Segment;
 use query_laws::NoMemory;
 use query_laws::step_ledger::Steps;
@@ -115,8 +115,6 @@ impl Rows for StabRows {
         segment: &Segment,
         steps: &mut Steps<L>,
     ) {
-        // By its contract both orders have the same segments.
-        let _len = segments.len();
         let index = index_of(segments, segment, steps);
         self.trees.clear_at(place, index, steps);
     }

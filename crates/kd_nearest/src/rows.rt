@@ -101,8 +101,6 @@ impl Rows for KdRows {
         place: usize,
         steps: &mut Steps<L>,
     ) {
-        // By its contract there is room for it.
-        let _len = points.len();
         self.places.put(steps);
         self.sorting.put_first(place, steps);
     }
@@ -115,8 +113,6 @@ impl Rows for KdRows {
         place: usize,
         steps: &mut Steps<L>,
     ) {
-        // By its contract there is room for it.
-        let _len = points.len();
         self.sorting.put_second(place, steps);
     }
 

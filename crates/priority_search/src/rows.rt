@@ -4,7 +4,7 @@ ghost use Rattle.std.specs.Prelude.{◌≡◌};
 use crate::entry::Entry;
 use crate::heap::Heap;
 use builder_trait::flat::{FlatBuilder, FlatPart};
-use builder_trait::{Part, Rows, RowsBuilder, RowsPart};
+use builder_trait::{Rows, RowsBuilder, RowsPart};
 use map_shapes::Point;
 use query_laws::NoMemory;
 use query_laws::step_ledger::Steps;
@@ -94,8 +94,6 @@ impl Rows for TopRows {
         place: usize,
         steps: &mut Steps<L>,
     ) {
-        // By its contract there is room for it.
-        let _len = points.len();
         self.heap.put(points, item, place, steps);
     }
 
@@ -108,8 +106,6 @@ impl Rows for TopRows {
     ) {}
 
     fn begin(&mut self, points: &FlatBuilder<Point>) {
-        // By its contract the leaves are few.
-        let _len = points.len();
         self.height = height_of(self.heap.leaves.len());
         self.left = 2 * 2u64.pow(self.height) - (self.height as u64 + 2);
         self.at = 1;
@@ -138,8 +134,6 @@ impl Rows for TopRows {
         item: &Point,
         steps: &mut Steps<L>,
     ) {
-        // By its contract the points are few.
-        let _len = points.len();
         let entry = Entry {
             y: item.y,
             place: place as u32,

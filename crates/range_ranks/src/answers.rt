@@ -2,17 +2,16 @@
 ghost use Rattle.std.specs.Prelude.{◌≡◌, ◌≢◌, ◌+◌, ◌-◌, ◌≤◌, true, false, OnOk};
 ghost use Rattle.query_laws.specs.StepLedger.{Spends};
 ghost use Rattle.query_laws.specs.Sums.{capped_add};
-ghost use Rattle.builder_trait.specs.Parts.{live_of};
+ghost use Rattle.builder_trait.specs.Parts.{IsPart, live_of};
 ghost use Rattle.map_shapes.specs.Ascending.{sorted_ids, sorted_union};
 ghost use Rattle.map_shapes.specs.Questions.{ids_in};
 ghost use Rattle.range_ranks.specs.Costs.{count_touches, list_touches};
 ghost use Rattle.range_ranks.specs.Measures.{measure_in};
-ghost use Rattle.range_ranks.specs.Tree.{IsTree};
+ghost use Rattle.range_ranks.specs.Tree.{IsTree, before};
 
 use crate::measure::Measure;
 use crate::rows::{LOWEST, RangeTree};
 use crate::scanning::Places;
-use builder_trait::Part;
 use builder_trait::flat::FlatPart;
 use map_shapes::{IdTally, Point, Rect};
 use query_laws::step_ledger::Steps;
@@ -51,12 +50,11 @@ impl RangeTree {
         tally: &mut Total,
         steps: &mut Steps<L>,
     )
+        requires valid { IsPart before points.now }
         requires over { IsTree points.now self.now }
         ensures added { tally.new ≡ capped_add tally.old (measure_in measure rect.now (live_of points.now)) }
         ensures cost { Spends steps.old steps.new 0 0 (count_touches points.now.items) }
     {
-        // By its contract each point has a flag.
-        let _len = points.len();
         let places = self.places_in(points, rect, steps);
         let whole = places.whole_blocks(LOWEST);
         let most = most_scanned(measure);
@@ -91,13 +89,12 @@ impl RangeTree {
         tally: &mut IdTally,
         steps: &mut Steps<L>,
     ) -> Result<(), NoMemory>
+        requires valid { IsPart before points.now }
         requires over { IsTree points.now self.now }
         ensures joined { OnOk result (sorted_ids tally.new
             ≡ sorted_union (sorted_ids tally.old) (ids_in rect.now (live_of points.now))) }
         ensures cost { Spends steps.old steps.new 0 0 (list_touches rect.now points.now) }
     {
-        // By its contract each point has a flag.
-        let _len = points.len();
         let places = self.places_in(points, rect, steps);
         let whole = places.whole_blocks(LOWEST);
         let scan = are_scanned(MOST_LISTED, places, whole);

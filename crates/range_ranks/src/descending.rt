@@ -1,9 +1,10 @@
 //! Down the rows by ranks, to the blocks that a rectangle takes whole.
 ghost use Rattle.std.specs.Prelude.{◌≡◌, ◌+◌, ◌-◌, ◌*◌, ◌^◌, ◌<◌, ◌≤◌, ℕ, length, sum_by};
 ghost use Rattle.query_laws.specs.StepLedger.{Spends};
+ghost use Rattle.builder_trait.specs.Parts.{IsPart};
 ghost use Rattle.range_ranks.specs.Measures.{measure_of};
 ghost use Rattle.range_ranks.specs.Heights.{rows_to};
-ghost use Rattle.range_ranks.specs.Tree.{IsTree};
+ghost use Rattle.range_ranks.specs.Tree.{IsTree, before};
 ghost use Rattle.range_ranks.specs.declared.scanning.Places.{Places};
 ghost use Rattle.range_ranks.specs.declared.descending.Cut.TheVariants.{Whole};
 ghost use Rattle.range_ranks.specs.Queries.{AreWithinOrdinates, AreWhole, IsSpan, IsCut, AreHalves, ends_inside, live_in_span};
@@ -44,6 +45,7 @@ impl RangeTree {
         rect: &Rect,
         steps: &mut Steps<L>,
     ) -> Span
+        requires valid { IsPart before points.now }
         requires over { IsTree points.now self.now }
         requires some { 0 < rows_to self.now.height }
         ensures span { IsSpan points.now self.now result.from result.to result }
@@ -52,8 +54,6 @@ impl RangeTree {
         ensures ordinates { AreWithinOrdinates points.now result.from result.to rect.now }
         ensures cost { (h : ℕ) → length points.now.items ≤ 2 ^ h → Spends steps.old steps.new 0 0 (2 * (h + 1)) }
     {
-        // By its contract the second order rises.
-        let _len = points.len();
         let top = &self.top;
         let from = partition_point(top, &Reach::Below(rect.y1), 0, top.len(), steps);
         let to = partition_point(top, &Reach::UpTo(rect.y2), from, top.len(), steps);
@@ -72,6 +72,7 @@ impl RangeTree {
         span: Span,
         steps: &mut Steps<L>,
     ) -> (Span, Span)
+        requires valid { IsPart before points.now }
         requires over { IsTree points.now self.now }
         requires span { (low high : ℕ) × IsSpan points.now self.now low high span }
         requires some { span.start < length points.now.items }
@@ -80,8 +81,6 @@ impl RangeTree {
             → AreHalves points.now self.now low high span result.0 result.1 }
         ensures cost { Spends steps.old steps.new 0 0 2 }
     {
-        // By its contract each place of the second order is that of a point.
-        let _len = points.len();
         let middle = span.start + block_len(self.height - span.row - 1);
         let from = self.ranks.halves(span.row, span.start, span.from, steps);
         let to = self.ranks.halves(span.row, span.start, span.to, steps);
@@ -109,13 +108,13 @@ impl RangeTree {
         places: Places,
         steps: &mut Steps<L>,
     ) -> Cut
+        requires valid { IsPart before points.now }
         requires over { IsTree points.now self.now }
         requires span { (low high : ℕ) × IsSpan points.now self.now low high span }
         requires whole { AreWhole points.now places }
         ensures cut { (low high : ℕ) → IsSpan points.now self.now low high span → IsCut points.now self.now low high places span result }
         ensures cost { Spends steps.old steps.new 0 0 2 }
     {
-        // By its contract each place of the second order is that of a point.
         let all = points.len();
         if span.from == span.to {
             return Cut::Outside;
@@ -144,6 +143,7 @@ impl RangeTree {
         measure: Measure,
         steps: &mut Steps<L>,
     ) -> u64
+        requires valid { IsPart before points.now }
         requires over { IsTree points.now self.now }
         requires span { (low high : ℕ) × IsSpan points.now self.now low high span }
         requires some { span.start < length points.now.items }
@@ -151,8 +151,6 @@ impl RangeTree {
             → result ≡ sum_by (measure_of measure) (live_in_span points.now self.now low high places span) }
         ensures cost { Spends steps.old steps.new 0 0 (2 * (self.now.height - span.row + 64)) }
     {
-        // By its contract each place of the second order is that of a point.
-        let _len = points.len();
         let Span {
             row,
             start,
@@ -179,6 +177,7 @@ impl RangeTree {
         measure: Measure,
         steps: &mut Steps<L>,
     ) -> u64
+        requires valid { IsPart before points.now }
         requires over { IsTree points.now self.now }
         requires span { (low high : ℕ) × IsSpan points.now self.now low high span }
         requires whole { AreWhole points.now places }
@@ -187,8 +186,6 @@ impl RangeTree {
         ensures cost { Spends steps.old steps.new 0 0
             (blocks_touches self.now.height (rows_to self.now.height - span.row) (ends_inside self.now.height places span)) }
     {
-        // By its contract each place of the second order is that of a point.
-        let _len = points.len();
         match self.cut(points, span, places, steps) {
             Cut::Outside => 0,
             Cut::Whole => self.measure_span(points, span, measure, steps),

@@ -2,14 +2,14 @@
 ghost use Rattle.std.specs.Prelude.{◌≡◌, ◌+◌, ◌-◌, ◌*◌, ◌<◌, ◌≤◌, ◌++◌, ℕ, true, Some, OnOk, List, length, map, slice_get};
 ghost use Rattle.query_laws.specs.Permuted.{Permuted};
 ghost use Rattle.query_laws.specs.StepLedger.{Spends};
-ghost use Rattle.builder_trait.specs.Parts.{Contents};
+ghost use Rattle.builder_trait.specs.Parts.{Contents, IsPart};
 ghost use Rattle.map_shapes.specs.declared.point.Point.{Point};
 ghost use Rattle.rank_rows.specs.Ranked.{IsFront, how_many, place_at, slice_of};
 ghost use Rattle.range_ranks.specs.Costs.{blocks_touches, list_touches_each};
 ghost use Rattle.range_ranks.specs.Heights.{rows_to};
 ghost use Rattle.range_ranks.specs.Marks.{IsStanding};
 ghost use Rattle.range_ranks.specs.Queries.{AreWhole, IsCut, IsSpan, ends_inside, live_in_span};
-ghost use Rattle.range_ranks.specs.Tree.{IsTree};
+ghost use Rattle.range_ranks.specs.Tree.{IsTree, before};
 ghost use Rattle.range_ranks.specs.declared.growing.Carried.{Carried};
 ghost use Rattle.range_ranks.specs.declared.scanning.Places.{Places};
 ghost use Rattle.range_ranks.specs.declared.descending.Cut.TheVariants.{Whole};
@@ -17,7 +17,6 @@ ghost use Rattle.range_ranks.specs.declared.descending.Cut.TheVariants.{Whole};
 use crate::descending::{Cut, Span};
 use crate::rows::{RangeTree, rows_for};
 use crate::scanning::Places;
-use builder_trait::Part;
 use builder_trait::flat::FlatPart;
 use map_shapes::{IdTally, Point};
 use query_laws::NoMemory;
@@ -89,6 +88,7 @@ impl RangeTree {
         tally: &mut IdTally,
         steps: &mut Steps<L>,
     ) -> Result<(), NoMemory>
+        requires valid { IsPart before points.now }
         requires over { IsTree points.now self.now }
         requires span { (low high : ℕ) × IsSpan points.now self.now low high span }
         requires some { span.start < length points.now.items }
@@ -98,8 +98,6 @@ impl RangeTree {
             → Spends steps.old steps.new 0 0
             (2 * self.now.height + length (live_in_span points.now self.now low high places span) * list_touches_each self.now.height) }
     {
-        // By its contract each place of the second order is that of a point.
-        let _len = points.len();
         let Span {
             row,
             start,
@@ -129,6 +127,7 @@ impl RangeTree {
         tally: &mut IdTally,
         steps: &mut Steps<L>,
     ) -> Result<(), NoMemory>
+        requires valid { IsPart before points.now }
         requires over { IsTree points.now self.now }
         requires span { (low high : ℕ) × IsSpan points.now self.now low high span }
         requires whole { AreWhole points.now places }
@@ -139,8 +138,6 @@ impl RangeTree {
             (blocks_touches self.now.height (rows_to self.now.height - span.row) (ends_inside self.now.height places span)
             + length (live_in_span points.now self.now low high places span) * list_touches_each self.now.height) }
     {
-        // By its contract each place of the second order is that of a point.
-        let _len = points.len();
         match self.cut(points, span, places, steps) {
             Cut::Outside => Ok(()),
             Cut::Whole => self.list_span(points, span, tally, steps),

@@ -5,8 +5,8 @@ ghost use Rattle.range_ranks.specs.Heights.{rows_to};
 use crate::entry::Entry;
 use crate::growing::Carried;
 use crate::leaves::{LEAF_LEN, Leaf};
+use builder_trait::Rows;
 use builder_trait::flat::{FlatBuilder, FlatPart};
-use builder_trait::{Part, Rows};
 use map_shapes::Point;
 use query_laws::NoMemory;
 use query_laws::step_ledger::{Row, Steps};
@@ -93,8 +93,6 @@ impl Rows for RangeTree {
         place: usize,
         steps: &mut Steps<L>,
     ) {
-        // By its contract no place was put where no point of the second order was.
-        let _len = points.len();
         self.abscissas.push(item.x, steps);
         self.put_leaf(place, item.y, steps);
     }
@@ -106,8 +104,6 @@ impl Rows for RangeTree {
         place: usize,
         steps: &mut Steps<L>,
     ) {
-        // By its contract there is room for it.
-        let _len = points.len();
         if self.top.cap() > 0 {
             let place = place as u32;
             let carried = Carried {
@@ -149,8 +145,6 @@ impl Rows for RangeTree {
         item: &Point,
         steps: &mut Steps<L>,
     ) {
-        // By its contract both orders rise.
-        let _len = points.len();
         self.strike_leaf(place, steps);
         let rows = rows_for(self.height);
         if rows == 0 {

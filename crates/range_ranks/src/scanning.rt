@@ -1,10 +1,11 @@
 //! Neighbouring places of the first order, whose abscissas are in the rectangle.
 ghost use Rattle.std.specs.Prelude.{◌≡◌, ◌+◌, ◌-◌, ◌*◌, ◌/◌, ◌%◌, ◌^◌, ◌<◌, ◌≤◌, ◌++◌, ℕ, OnOk, length, filter, map, sum_by, nat_le, ◌&&◌};
 ghost use Rattle.query_laws.specs.StepLedger.{Spends};
+ghost use Rattle.builder_trait.specs.Parts.{IsPart};
 ghost use Rattle.range_ranks.specs.Heights.{lowest};
 ghost use Rattle.range_ranks.specs.LeafHits.{AreHits, points_at};
 ghost use Rattle.range_ranks.specs.Measures.{measure_of};
-ghost use Rattle.range_ranks.specs.Tree.{IsTree};
+ghost use Rattle.range_ranks.specs.Tree.{IsTree, before};
 ghost use Rattle.range_ranks.specs.declared.scanning.Places.{Places};
 ghost use Rattle.row_blocks.specs.Blocks.{IsMultiple};
 ghost use Rattle.range_ranks.specs.Queries.{AreWithinAbscissas, IsLeafOf, has_ordinate, live_in_places};
@@ -14,7 +15,7 @@ use crate::measure::Measure;
 use crate::rows::RangeTree;
 use crate::search::Reach;
 use builder_trait::flat::FlatPart;
-use builder_trait::{Part, partition_point};
+use builder_trait::partition_point;
 use map_shapes::{IdTally, Point, Rect};
 use query_laws::NoMemory;
 use query_laws::step_ledger::Steps;
@@ -211,12 +212,11 @@ impl RangeTree {
         rect: &Rect,
         steps: &mut Steps<L>,
     ) -> Places
+        requires valid { IsPart before points.now }
         requires over { IsTree points.now self.now }
         ensures inside { AreWithinAbscissas points.now result rect.now }
         ensures cost { (h : ℕ) → length points.now.items ≤ 2 ^ h → Spends steps.old steps.new 0 0 (2 * (h + 1)) }
     {
-        // By its contract the first order rises.
-        let _len = points.len();
         let row = &self.abscissas;
         let from = partition_point(row, &Reach::Below(rect.x1), 0, row.len(), steps);
         let to = partition_point(row, &Reach::UpTo(rect.x2), from, row.len(), steps);

@@ -19,3 +19,8 @@ pub returns-clause-live : goal.returns-clause-live
 returns-clause-live g c =
     items-ended c.self.invariant.1 (ap (λ p. p.is_sealed) c.self.view_is ∙ c.requires.closed) (ap (λ p. p.left) c.self.view_is ∙ c.requires.ended)
     ∙ ap (λ p. p.items) c.self.view_is
+
+pub returns-clause-valid : goal.returns-clause-valid
+returns-clause-valid g c =
+    IsPart-ended (g.met.I.Item.ordered Second) c.self.invariant.0 c.self.invariant.1
+    (ap (λ p. p.is_sealed) c.self.view_is ∙ c.requires.closed) (ap (λ p. p.left) c.self.view_is ∙ c.requires.ended)

@@ -60,5 +60,5 @@ returns-clause-cost g c h few =
     let cleared =
     c.clear_at.ensures.cost h (omega (arith, few, ap length over.ends, length-ends_of 0 before over.flagged))
     (omega (arith, few, ap length over.by_lower, length-lives_of before over.flagged))
-    (omega (arith, few, ap length over.by_upper, length-lives_reordered before (length-places c.len-len.ensures.valid))) in
+    (omega (arith, few, ap length over.by_upper, length-lives_reordered before (length-places c.requires.valid))) in
     Spends-within (Spends-then (c.index_of-index.ensures.cost h few) cleared) (omega arith) (omega arith) (omega arith)

@@ -12,7 +12,7 @@ use Rattle.interval_stab.proofs.trees.Trees.count.Goals as goal
 
 pub prefix-ended-requires-clause-within : goal.prefix-ended-requires-clause-within
 prefix-ended-requires-clause-within g c =
-    let valid = c.len-len.ensures.valid in
+    let valid = c.requires.valid in
     omega (
       arith,
       c.ended-upper.ensures.cut.within,
@@ -27,10 +27,10 @@ overflow_sub-result g c =
     let part = c.args.segments.now in
     let begun : c.prefix-begun.result ≡ length (filter (has_begun x) (live_of part)) =
     c.prefix-begun.ensures.count ∙ ap (λ (ps : List Place). count_by is_live (take c.begun-lower.result ps)) c.requires.over.by_lower
-    ∙ count-begun x part c.len-len.ensures.valid c.begun-lower.result c.begun-lower.ensures.cut in
+    ∙ count-begun x part c.requires.valid c.begun-lower.result c.begun-lower.ensures.cut in
     let ended : c.prefix-ended.result ≡ length (filter (has_ended x) (live_of part)) =
     c.prefix-ended.ensures.count ∙ ap (λ (ps : List Place). count_by is_live (take c.ended-upper.result ps)) c.requires.over.by_upper
-    ∙ count-ended x part c.len-len.ensures.valid c.ended-upper.result c.ended-upper.ensures.cut in
+    ∙ count-ended x part c.requires.valid c.ended-upper.result c.ended-upper.ensures.cut in
     omega (arith, begun, ended, count-over x (live_of part))
 
 pub returns-clause-value : goal.returns-clause-value
@@ -39,10 +39,10 @@ returns-clause-value g c =
     let part = c.args.segments.now in
     let begun : c.prefix-begun.result ≡ length (filter (has_begun x) (live_of part)) =
     c.prefix-begun.ensures.count ∙ ap (λ (ps : List Place). count_by is_live (take c.begun-lower.result ps)) c.requires.over.by_lower
-    ∙ count-begun x part c.len-len.ensures.valid c.begun-lower.result c.begun-lower.ensures.cut in
+    ∙ count-begun x part c.requires.valid c.begun-lower.result c.begun-lower.ensures.cut in
     let ended : c.prefix-ended.result ≡ length (filter (has_ended x) (live_of part)) =
     c.prefix-ended.ensures.count ∙ ap (λ (ps : List Place). count_by is_live (take c.ended-upper.result ps)) c.requires.over.by_upper
-    ∙ count-ended x part c.len-len.ensures.valid c.ended-upper.result c.ended-upper.ensures.cut in
+    ∙ count-ended x part c.requires.valid c.ended-upper.result c.ended-upper.ensures.cut in
     omega (arith, begun, ended, count-over x (live_of part))
 
 pub returns-clause-cost : goal.returns-clause-cost
@@ -53,7 +53,7 @@ returns-clause-cost g c =
     let few : length part.items ≤ 2 ^ h = (IsLeastHeight-height_of (length part.items) (omega (arith, over.few))).above in
     let lower : length c.args.self.now.by_lower.places ≤ 2 ^ h = omega (arith, ap length over.by_lower, length-lives_of part over.flagged) in
     let upper : length c.args.self.now.by_upper.places ≤ 2 ^ h =
-    omega (arith, ap length over.by_upper, length-lives_reordered part (length-places c.len-len.ensures.valid)) in
+    omega (arith, ap length over.by_upper, length-lives_reordered part (length-places c.requires.valid)) in
     Spends-within
     (Spends-then (Spends-then (Spends-then (c.begun-lower.ensures.cost h few) (c.prefix-begun.ensures.cost h lower)) (c.ended-upper.ensures.cost h few))
     (c.prefix-ended.ensures.cost h upper))

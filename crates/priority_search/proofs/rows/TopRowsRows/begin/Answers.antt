@@ -9,7 +9,7 @@ overflow_sub-self c = omega (arith, above_height c.height_of-self.result, c.pow.
 pub returns-clause-growing : goal.returns-clause-growing
 returns-clause-growing c =
     let value = c.len.ensures.value in
-    IsGrowing-begun c.args.points.now c.args.self.now.heap c.requires.putting.0 c.len-len.ensures.valid.few c.height_of-self.result
+    IsGrowing-begun c.args.points.now c.args.self.now.heap c.requires.putting.0 c.requires.valid.few c.height_of-self.result
     (omega (arith, value, c.height_of-self.ensures.above)) (λ h within. c.height_of-self.ensures.least h (omega (arith, value, within)))
     (2 * c.pow.result - (c.height_of-self.result + 2)) (ap (λ n. 2 * n - (c.height_of-self.result + 2)) c.pow.ensures)
 
@@ -18,5 +18,5 @@ returns-clause-quota c =
     let value = c.len.ensures.value in
     let n = length c.args.points.now.items in
     subst (λ (m : ℕ). IsQuota 4 12 c.args.points.now.at_level n (n + (2 * m - (c.height_of-self.result + 2)))) (sym c.pow.ensures)
-    (IsQuota-begun c.args.points.now c.args.self.now.heap c.requires.putting.0 c.len-len.ensures.valid.few c.height_of-self.result
+    (IsQuota-begun c.args.points.now c.args.self.now.heap c.requires.putting.0 c.requires.valid.few c.height_of-self.result
     (omega (arith, value, c.height_of-self.ensures.above)) (λ h within. c.height_of-self.ensures.least h (omega (arith, value, within))))

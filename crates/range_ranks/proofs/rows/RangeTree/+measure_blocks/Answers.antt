@@ -13,7 +13,7 @@ overflow_add-result g t c =
     let high = c.requires.span.1 in
     let is = c.requires.span.2 in
     let halves = (c.in-Halves.ensures.cut low high is).1 in
-    let few : length (slice_range part.places low high) ≤ 2 ^ 31 = omega (arith, length-slice_range part.places low high is.ordered is.within, is.within, many_places part c.len-len.ensures.valid.each_place, c.requires.over.few) in
+    let few : length (slice_range part.places low high) ≤ 2 ^ 31 = omega (arith, length-slice_range part.places low high is.ordered is.within, is.within, many_places part c.requires.valid.each_place, c.requires.over.few) in
     omega (
       arith,
       c.measure_blocks.ensures.sum low high halves.first_span,

@@ -32,7 +32,7 @@ returns-then-scan-clause-added g c =
     let part = c.args.points.now in
     let rect = c.args.rect.now in
     added_all c.args.tally.now c.add.new.self c.measure_places-sum.result c.args.measure rect (live_of part) c.add.ensures
-    (c.measure_places-sum.ensures.sum ∙ ap (sum_by (measure_of c.args.measure)) (all_of part rect c.places_in-places.result c.len-len.ensures.valid.flagged c.places_in-places.ensures.inside))
+    (c.measure_places-sum.ensures.sum ∙ ap (sum_by (measure_of c.args.measure)) (all_of part rect c.places_in-places.result c.requires.valid.flagged c.places_in-places.ensures.inside))
 
 pub returns-then-scan-clause-cost : goal.returns-then-scan-clause-cost
 returns-then-scan-clause-cost g c =
@@ -106,7 +106,7 @@ overflow_add-first-2 g c =
     let front = places_small part rect (record { from = places.from; to = whole.from }) c.args.measure (omega (arith, blocks.ordered, blocks.last, inside.within, c.requires.over.few)) in
     let back = places_small part rect (record { from = whole.to; to = places.to }) c.args.measure (omega (arith, inside.within, c.requires.over.few)) in
     let few : length (slice_range part.places span.from span.to) ≤ 2 ^ 31 =
-    omega (arith, length-slice_range part.places span.from span.to is.ordered is.within, is.within, many_places part c.len-len.ensures.valid.each_place, c.requires.over.few) in
+    omega (arith, length-slice_range part.places span.from span.to is.ordered is.within, is.within, many_places part c.requires.valid.each_place, c.requires.over.few) in
     let mid = measure-small part c.args.self.now span.from span.to whole span c.args.measure few in
     omega (
       arith,
@@ -128,7 +128,7 @@ returns-clause-added g c =
     let span = c.span_in-span.result in
     let blocks = c.whole_blocks-whole.ensures in
     let inside = c.places_in-places.ensures.inside in
-    let valid = c.len-len.ensures.valid in
+    let valid = c.requires.valid in
     let mid = middle part valid rect span.from span.to c.span_in-span.ensures.ordinates places whole inside blocks.first blocks.ordered blocks.last rows c.requires.over span
     c.span_in-span.ensures.row c.span_in-span.ensures.start in
     added_all c.args.tally.now c.add-2.new.self (c.measure_places-first.result + c.measure_places-last.result + c.measure_blocks-inner.result) c.args.measure rect (live_of part) c.add-2.ensures

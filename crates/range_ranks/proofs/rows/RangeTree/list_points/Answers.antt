@@ -42,7 +42,7 @@ returns-then-scan-clause-joined g c =
     let places = c.places_in-places.result in
     on_ok_weaker c.list_places.result
     (λ listed. joined_one part rect c.args.tally.now c.list_places.new.tally (live_in_places part rect places) listed
-    (all_of part rect places c.len-len.ensures.valid.flagged c.places_in-places.ensures.inside))
+    (all_of part rect places c.requires.valid.flagged c.places_in-places.ensures.inside))
     c.list_places.ensures.listed
 
 pub returns-then-scan-clause-cost : goal.returns-then-scan-clause-cost
@@ -63,7 +63,7 @@ returns-then-scan-clause-cost g c =
     ] in
     Spends-within (Spends-then (c.places_in-places.ensures.cost h above) c.list_places.ensures.cost) refl refl
     (subst (λ n. 2 * (h + 1) + (d / 16 + 2 + hits) ≤ 16 * ((n + 2) * (n + 2)) + 8 * (n + 2) * length (filter (is_in rect) (live_of part))) c.requires.over.height
-    (subst (λ k. 2 * (h + 1) + (d / 16 + 2 + hits) ≤ 16 * ((h + 2) * (h + 2)) + 8 * (h + 2) * k) (ap length (all_of part rect places c.len-len.ensures.valid.flagged inside))
+    (subst (λ k. 2 * (h + 1) + (d / 16 + 2 + hits) ≤ 16 * ((h + 2) * (h + 2)) + 8 * (h + 2) * k) (ap length (all_of part rect places c.requires.valid.flagged inside))
     (list_scanned h (length part.items) d hits (omega (arith, inside.within)) above few)))
 
 pub span_in-span-requires-clause-some : goal.span_in-span-requires-clause-some
@@ -104,7 +104,7 @@ returns-clause-joined g c =
     let span = c.span_in-span.result in
     let blocks = c.whole_blocks-whole.ensures in
     let inside = c.places_in-places.ensures.inside in
-    let valid = c.len-len.ensures.valid in
+    let valid = c.requires.valid in
     let mid = middle part valid rect span.from span.to c.span_in-span.ensures.ordinates places whole inside blocks.first blocks.ordered blocks.last rows c.requires.over span
     c.span_in-span.ensures.row c.span_in-span.ensures.start in
     on_ok_weaker c.list_blocks.result
@@ -124,7 +124,7 @@ returns-clause-cost g c =
     let span = c.span_in-span.result in
     let blocks = c.whole_blocks-whole.ensures in
     let inside = c.places_in-places.ensures.inside in
-    let valid = c.len-len.ensures.valid in
+    let valid = c.requires.valid in
     let above = height-above part rows c.requires.over in
     let some : whole.from < whole.to = omega (arith, c.are_scanned-scan.ensures.some c.if-scan.false, blocks.ordered) in
     let are = AreWhole-found part places whole inside.within blocks.last some blocks.front blocks.back in
@@ -154,7 +154,7 @@ returns-in_err-list_places-clause-cost g c =
     let span = c.span_in-span.result in
     let blocks = c.whole_blocks-whole.ensures in
     let inside = c.places_in-places.ensures.inside in
-    let valid = c.len-len.ensures.valid in
+    let valid = c.requires.valid in
     let above = height-above part rows c.requires.over in
     let some : whole.from < whole.to = omega (arith, c.are_scanned-scan.ensures.some c.if-scan.false, blocks.ordered) in
     let are = AreWhole-found part places whole inside.within blocks.last some blocks.front blocks.back in
@@ -181,7 +181,7 @@ returns-in_err-list_places-2-clause-cost g c =
     let span = c.span_in-span.result in
     let blocks = c.whole_blocks-whole.ensures in
     let inside = c.places_in-places.ensures.inside in
-    let valid = c.len-len.ensures.valid in
+    let valid = c.requires.valid in
     let above = height-above part rows c.requires.over in
     let some : whole.from < whole.to = omega (arith, c.are_scanned-scan.ensures.some c.if-scan.false, blocks.ordered) in
     let are = AreWhole-found part places whole inside.within blocks.last some blocks.front blocks.back in

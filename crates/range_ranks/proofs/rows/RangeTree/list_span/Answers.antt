@@ -22,19 +22,19 @@ spent_more height row kept rows n m first second third fourth same few more =
 
 pub live_before-first-requires : goal.live_before-first-requires
 live_before-first-requires g c =
-    span_front c.args.points.now c.args.self.now c.len-len.ensures.valid.each_place c.requires.over c.requires.span.0 c.requires.span.1 c.args.span c.requires.span.2
+    span_front c.args.points.now c.args.self.now c.requires.valid.each_place c.requires.over c.requires.span.0 c.requires.span.1 c.args.span c.requires.span.2
     c.requires.some c.requires.span.0 c.args.span.from c.requires.span.2.from
 
 pub live_before-last-requires : goal.live_before-last-requires
 live_before-last-requires g c =
-    span_front c.args.points.now c.args.self.now c.len-len.ensures.valid.each_place c.requires.over c.requires.span.0 c.requires.span.1 c.args.span c.requires.span.2
+    span_front c.args.points.now c.args.self.now c.requires.valid.each_place c.requires.over c.requires.span.0 c.requires.span.1 c.args.span c.requires.span.2
     c.requires.some c.requires.span.1 c.args.span.to c.requires.span.2.to
 
 pub loop-rank-init : goal.loop-rank-init
 loop-rank-init g c =
     let part = c.args.points.now in
     let rows = c.args.self.now in
-    let each = c.len-len.ensures.valid.each_place in
+    let each = c.requires.valid.each_place in
     let is = c.requires.span.2 in
     let some : 0 < rows_to rows.height = omega (arith, is.row) in
     let same = (c.requires.over.ranks some).same_height in
@@ -50,7 +50,7 @@ loop-rank-init g c =
 
 pub next_live-found-requires-clause-front : goal.next_live-found-requires-clause-front
 next_live-found-requires-clause-front g c =
-    span_front c.args.points.now c.args.self.now c.len-len.ensures.valid.each_place c.requires.over c.requires.span.0 c.requires.span.1 c.args.span c.requires.span.2
+    span_front c.args.points.now c.args.self.now c.requires.valid.each_place c.requires.over c.requires.span.0 c.requires.span.1 c.args.span c.requires.span.2
     c.requires.some c.requires.span.1 c.args.span.to c.requires.span.2.to
 
 pub next_live-found-requires-clause-from : goal.next_live-found-requires-clause-from
@@ -60,7 +60,7 @@ pub next_live-found-requires-clause-inside : goal.next_live-found-requires-claus
 next_live-found-requires-clause-inside g c =
     let is = c.requires.span.2 in
     let some : 0 < rows_to c.args.self.now.height = omega (arith, is.row) in
-    span_inside c.args.points.now c.args.self.now c.len-len.ensures.valid.each_place c.requires.over c.requires.span.0 c.requires.span.1 c.args.span is c.requires.some some
+    span_inside c.args.points.now c.args.self.now c.requires.valid.each_place c.requires.over c.requires.span.0 c.requires.span.1 c.args.span is c.requires.some some
     c.loop-rank.k c.loop-rank.rank c.loop-rank.invariant.to c.loop-rank.invariant.ranked (omega (arith, c.live_before-last.ensures.value, c.loop-rank-test.true))
 
 pub next_live-found-requires-clause-ranked : goal.next_live-found-requires-clause-ranked
@@ -76,7 +76,7 @@ pub place_of-place-requires-clause-standing : goal.place_of-place-requires-claus
 place_of-place-requires-clause-standing g c =
     let part = c.args.points.now in
     let rows = c.args.self.now in
-    let each = c.len-len.ensures.valid.each_place in
+    let each = c.requires.valid.each_place in
     let is = c.requires.span.2 in
     let some : 0 < rows_to rows.height = omega (arith, is.row) in
     let end = span_within part rows each c.requires.over c.requires.span.0 c.requires.span.1 c.args.span is c.requires.some some in (
@@ -89,7 +89,7 @@ pub at-item-requires : goal.at-item-requires
 at-item-requires g c =
     let part = c.args.points.now in
     let rows = c.args.self.now in
-    let each = c.len-len.ensures.valid.each_place in
+    let each = c.requires.valid.each_place in
     let is = c.requires.span.2 in
     let some : 0 < rows_to rows.height = omega (arith, is.row) in
     let end = span_within part rows each c.requires.over c.requires.span.0 c.requires.span.1 c.args.span is c.requires.some some in
@@ -108,14 +108,14 @@ pub overflow_add-k : goal.overflow_add-k
 overflow_add-k g c =
     let is = c.requires.span.2 in
     let some : 0 < rows_to c.args.self.now.height = omega (arith, is.row) in
-    let end = span_within c.args.points.now c.args.self.now c.len-len.ensures.valid.each_place c.requires.over c.requires.span.0 c.requires.span.1 c.args.span is c.requires.some some in
+    let end = span_within c.args.points.now c.args.self.now c.requires.valid.each_place c.requires.over c.requires.span.0 c.requires.span.1 c.args.span is c.requires.some some in
     omega (arith, end, c.next_live-found.ensures.within, c.requires.over.few)
 
 pub loop-rank-preserved : goal.loop-rank-preserved
 loop-rank-preserved g c =
     let part = c.args.points.now in
     let rows = c.args.self.now in
-    let each = c.len-len.ensures.valid.each_place in
+    let each = c.requires.valid.each_place in
     let low = c.requires.span.0 in
     let high = c.requires.span.1 in
     let is = c.requires.span.2 in
@@ -150,7 +150,7 @@ pub returns-in_err-push-clause-cost : goal.returns-in_err-push-clause-cost
 returns-in_err-push-clause-cost g c low high places is whole =
     let part = c.args.points.now in
     let rows = c.args.self.now in
-    let each = c.len-len.ensures.valid.each_place in
+    let each = c.requires.valid.each_place in
     let some : 0 < rows_to rows.height = omega (arith, is.row) in
     let ordered = span_ordered part rows each low high c.args.span is in
     let counted = span_counted part rows each c.requires.over low high c.args.span is c.requires.some some ordered in
@@ -168,7 +168,7 @@ pub returns-clause-listed : goal.returns-clause-listed
 returns-clause-listed g c low high places is whole =
     let part = c.args.points.now in
     let rows = c.args.self.now in
-    let each = c.len-len.ensures.valid.each_place in
+    let each = c.requires.valid.each_place in
     let some : 0 < rows_to rows.height = omega (arith, is.row) in
     let more = span_more part rows each c.requires.over low high c.args.span is c.requires.some some c.loop-rank.k c.loop-rank.invariant.from c.loop-rank.invariant.to in
     let end = c.loop-rank.invariant.ranked
@@ -183,7 +183,7 @@ pub returns-clause-cost : goal.returns-clause-cost
 returns-clause-cost g c low high places is whole =
     let part = c.args.points.now in
     let rows = c.args.self.now in
-    let each = c.len-len.ensures.valid.each_place in
+    let each = c.requires.valid.each_place in
     let some : 0 < rows_to rows.height = omega (arith, is.row) in
     let ordered = span_ordered part rows each low high c.args.span is in
     let counted = span_counted part rows each c.requires.over low high c.args.span is c.requires.some some ordered in

@@ -10,12 +10,12 @@ use Rattle.range_ranks.proofs.rows.RangeTree.places_in.Goals as goal
 pub partition_point-from-requires-clause-up_to_some : goal.partition_point-from-requires-clause-up_to_some
 partition_point-from-requires-clause-up_to_some g c =
     PassesUpTo-abscissas (Below c.args.rect.now.x1) c.args.points.now.items c.args.self.now.abscissas.items 0 c.len.result c.requires.over.abscissas
-    c.len-len.ensures.valid.rising (omega (arith, c.len.ensures.value))
+    c.requires.valid.rising (omega (arith, c.len.ensures.value))
 
 pub partition_point-to-requires-clause-up_to_some : goal.partition_point-to-requires-clause-up_to_some
 partition_point-to-requires-clause-up_to_some g c =
     PassesUpTo-abscissas (UpTo c.args.rect.now.x2) c.args.points.now.items c.args.self.now.abscissas.items c.partition_point-from.result c.len-2.result
-    c.requires.over.abscissas c.len-len.ensures.valid.rising (omega (arith, c.len-2.ensures.value))
+    c.requires.over.abscissas c.requires.valid.rising (omega (arith, c.len-2.ensures.value))
 
 pub returns-clause-inside : goal.returns-clause-inside
 returns-clause-inside g c =

@@ -11,21 +11,21 @@ use Rattle.range_ranks.proofs.rows.RangeTree.span_in.Goals as goal
 pub partition_point-from-requires-clause-up_to_some : goal.partition_point-from-requires-clause-up_to_some
 partition_point-from-requires-clause-up_to_some g c =
     let top = c.args.self.now.top.items in
-    PassesUpTo-ordinates top (rises c.args.points.now top c.len-len.ensures.valid (c.requires.over.top c.requires.some)) (Below c.args.rect.now.y1) 0 c.len.result
+    PassesUpTo-ordinates top (rises c.args.points.now top c.requires.valid (c.requires.over.top c.requires.some)) (Below c.args.rect.now.y1) 0 c.len.result
     (omega (arith, c.len.ensures.value))
 
 pub partition_point-to-requires-clause-up_to_some : goal.partition_point-to-requires-clause-up_to_some
 partition_point-to-requires-clause-up_to_some g c =
     let top = c.args.self.now.top.items in
-    PassesUpTo-ordinates top (rises c.args.points.now top c.len-len.ensures.valid (c.requires.over.top c.requires.some)) (UpTo c.args.rect.now.y2) c.partition_point-from.result
+    PassesUpTo-ordinates top (rises c.args.points.now top c.requires.valid (c.requires.over.top c.requires.some)) (UpTo c.args.rect.now.y2) c.partition_point-from.result
     c.len-2.result (omega (arith, c.len-2.ensures.value))
 
 pub returns-clause-span : goal.returns-clause-span
 returns-clause-span g c =
     let part = c.args.points.now in
     let rows = c.args.self.now in
-    let each = c.len-len.ensures.valid.each_place in
-    let many = entry_each part rows.top.items c.len-len.ensures.valid (c.requires.over.top c.requires.some) in
+    let each = c.requires.valid.each_place in
+    let many = entry_each part rows.top.items c.requires.valid (c.requires.over.top c.requires.some) in
     let places = many_places part each in
     record {
       ordered = c.partition_point-to.ensures.from_low;
@@ -42,7 +42,7 @@ pub returns-clause-ordinates : goal.returns-clause-ordinates
 returns-clause-ordinates g c =
     let part = c.args.points.now in
     let top = c.args.self.now.top.items in
-    let valid = c.len-len.ensures.valid in
+    let valid = c.requires.valid in
     let is = c.requires.over.top c.requires.some in
     let many = entry_each part top valid is in
     record {
@@ -65,7 +65,7 @@ returns-clause-ordinates g c =
 
 pub returns-clause-cost : goal.returns-clause-cost
 returns-clause-cost g c h few =
-    let many = entry_each c.args.points.now c.args.self.now.top.items c.len-len.ensures.valid (c.requires.over.top c.requires.some) in
+    let many = entry_each c.args.points.now c.args.self.now.top.items c.requires.valid (c.requires.over.top c.requires.some) in
     let first : c.len.result - 0 ≤ 2 ^ h = omega (arith, many, c.len.ensures.value) in
     let second : c.len-2.result - c.partition_point-from.result ≤ 2 ^ h = omega (arith, many, c.len-2.ensures.value) in
     Spends-within

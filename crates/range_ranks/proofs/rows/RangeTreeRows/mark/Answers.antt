@@ -35,7 +35,7 @@ mark_rows-requires-clause-there g c =
     let behind = c.requires.behind in
     let part : Contents Point = record c.args.points.now { flags = behind.flags } in
     let height = ap (λ (r : RangeTree). r.height) c.strike_leaf.ensures.kept in
-    let dying = IsDying-before c.args.points.now behind.flags c.args.place c.args.item.now c.args.self.now c.len-len.ensures.valid behind.died behind.was_live c.requires.there
+    let dying = IsDying-before c.args.points.now behind.flags c.args.place c.args.item.now c.args.self.now c.requires.valid behind.died behind.was_live c.requires.there
     behind.done.tree (omega (arith, height, c.rows_for-rows.ensures, c.if-rows-eq0.false)) in (
       part,
       subst (λ (r : RangeTree). IsDying part c.args.place c.args.item.now r) (sym c.strike_leaf.ensures.kept)
@@ -49,7 +49,7 @@ returns-clause-done g c =
     let part : Contents Point = record c.args.points.now { flags = behind.flags } in
     let marked : Contents Point = record c.args.points.now { flags = set behind.flags c.args.place false } in
     let height = ap (λ (r : RangeTree). r.height) c.strike_leaf.ensures.kept in
-    let dying = IsDying-before c.args.points.now behind.flags c.args.place c.args.item.now c.args.self.now c.len-len.ensures.valid behind.died behind.was_live c.requires.there
+    let dying = IsDying-before c.args.points.now behind.flags c.args.place c.args.item.now c.args.self.now c.requires.valid behind.died behind.was_live c.requires.there
     behind.done.tree (omega (arith, height, c.rows_for-rows.ensures, c.if-rows-eq0.false)) in
     let here : IsDying part c.args.place c.args.item.now c.strike_leaf.new.self =
     subst (λ (r : RangeTree). IsDying part c.args.place c.args.item.now r) (sym c.strike_leaf.ensures.kept)
@@ -68,7 +68,7 @@ returns-clause-cost g c h few =
     let behind = c.requires.behind in
     let part : Contents Point = record c.args.points.now { flags = behind.flags } in
     let height = ap (λ (r : RangeTree). r.height) c.strike_leaf.ensures.kept in
-    let dying = IsDying-before c.args.points.now behind.flags c.args.place c.args.item.now c.args.self.now c.len-len.ensures.valid behind.died behind.was_live c.requires.there
+    let dying = IsDying-before c.args.points.now behind.flags c.args.place c.args.item.now c.args.self.now c.requires.valid behind.died behind.was_live c.requires.there
     behind.done.tree (omega (arith, height, c.rows_for-rows.ensures, c.if-rows-eq0.false)) in
     let here : IsDying part c.args.place c.args.item.now c.strike_leaf.new.self =
     subst (λ (r : RangeTree). IsDying part c.args.place c.args.item.now r) (sym c.strike_leaf.ensures.kept)
