@@ -1,7 +1,7 @@
 //! The memory for the ticks to come: levels, rooms for constructions, and builders for single items.
 ghost use Rattle.std.specs.Prelude.{◌≡◌, ℕ, ◌+◌, ◌-◌, ◌^◌, ◌<◌, ◌≤◌, true, false, List, ◌∷◌, All, IfOk, OnErr, None, length};
 ghost use Rattle.builder_trait.specs.Builders.{begun};
-ghost use Rattle.stack_levels.specs.Slots.{Slots, held_in};
+ghost use Rattle.stack_levels.specs.Slots.{Slots, HoldsFew};
 ghost use Rattle.stack_levels.specs.Levels.{weight_of, lowest_held};
 ghost use Rattle.stack_levels.specs.Towers.{IsDueSoon, HaveRoomsAbove, AreAllLevels};
 ghost use Rattle.level_slots.specs.Rooms.{rooms_in, kept_in, forecast_of};
@@ -238,7 +238,7 @@ pub(crate) fn builders_kept<B: Builder>(levels: &[Level<B>]) -> u64
     requires { AreRising levels.now }
     ensures value { result ≡ kept_in levels.now }
     ensures few { IsBounded 5 levels.now result }
-    ensures bounded { All (λ l. held_in l ≤ 5) levels.now }
+    ensures bounded { All HoldsFew levels.now }
 {
     match levels.split_first() {
         Some((level, above)) => level.kept_weight() + builders_kept(above),

@@ -2,10 +2,11 @@
 ghost use Rattle.std.specs.Prelude.{◌≡◌, ◌≢◌, ℕ, ◌+◌, ◌-◌, ◌*◌, ◌^◌, ◌<◌, ◌≤◌, true, false, [], ◌∷◌, All, Contains, IsTrue, IfOk, IsErr, OnOk, OnErr, length};
 ghost use Rattle.query_laws.specs.Permuted.{Permuted};
 ghost use Rattle.query_laws.specs.StepLedger.{Spends};
+ghost use Rattle.query_laws.specs.declared.item.Order.TheVariants.{First};
 ghost use Rattle.builder_trait.specs.Parts.{without, live_of};
 ghost use Rattle.builder_trait.specs.Builders.{begun};
 ghost use Rattle.partial_build.specs.Quota.{quota};
-ghost use Rattle.stack_levels.specs.Slots.{IsPartOf, held_in};
+ghost use Rattle.stack_levels.specs.Slots.{IsPartOf, HoldsFew};
 ghost use Rattle.stack_levels.specs.Levels.{live_items, all_items, weight_of, parts_of, asked, touches_of};
 ghost use Rattle.level_slots.specs.Stack.{Stacked, HaveSameItems, held_by_level};
 ghost use Rattle.level_slots.specs.Preparing.{AreKept, KeepMore, TakeMemory};
@@ -15,6 +16,7 @@ ghost use Rattle.stack_levels.specs.Asked.{AreThreeAtMost, HasAsked};
 ghost use Rattle.stack_levels.specs.Level.{IsOfLevel};
 ghost use Rattle.stack_levels.specs.Cost.{IsWithin, IsCostOfInsert, IsCostOfDelete};
 ghost use Rattle.stack_levels.specs.Towers.{AreOnTime, TakeTicks};
+ghost use Rattle.stack_levels.specs.Marking.{noted};
 ghost use Rattle.level_slots.specs.Rooms.{rooms_of, kept_in, forecast_of};
 
 use crate::preparing::{builders_kept, rooms_held, take_memory};
@@ -118,7 +120,9 @@ impl<B: Builder> Stack<B> {
         // Whichever bound g there is, as for an insert. The marks are one for each part that is asked, and one for each item that waited and waits
         // no longer.
         ensures cost { IsCostOfDelete B.SLOPE B.BASE B.Part.Part.mark_touches
-            (asked B.Part.Part.contents B.Item.stamp (B.Item.stamp item.now) self.old.levels) self.old.levels self.new.levels steps.old steps.new }
+            (asked B.Part.Part.contents B.Item.stamp (B.Item.stamp item.now) self.old.levels)
+            (noted (B.Item.before First) item.now B.Part.Part.contents B.Item.stamp self.old.levels)
+            self.old.levels self.new.levels steps.old steps.new }
 
         // At most three of each level up to g, and no part weighs more.
         ensures few_asked { (g : ℕ) → weight_of self.new.levels < 2 ^ (g + 1)
@@ -243,10 +247,10 @@ impl<B: Builder> Stack<B> {
     }
 
     /// The weight of the builders that are kept of retired parts: one of level i weighs `2^i`. Of each level at most five parts are in
-    /// memory, these included.
+    /// memory, these included, and the tables of at most two constructions.
     pub fn kept(&self) -> u64
         ensures value { result ≡ kept_in self.now.levels }
-        ensures bounded { All (λ l. held_in l ≤ 5) self.now.levels }
+        ensures bounded { All HoldsFew self.now.levels }
     {
         builders_kept(&self.levels)
     }

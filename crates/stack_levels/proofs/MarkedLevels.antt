@@ -1,7 +1,7 @@
 -- An item that is marked as dead in one of several levels.
-use Rattle.std.proofs.Common.{◌≡◌, ◌≢◌, ℕ, zero, suc, ◌+◌, ◌*◌, ◌^◌, ◌<◌, ◌≤◌, ◌==◌, ◌||◌, ◌∙◌, Bool, true, false, not, cond, if◌then◌else◌, Some, List, [], ◌∷◌, ◌++◌, length, map, get_or, Contains, slice_get, refl, sym, ap, subst, arith}
+use Rattle.std.proofs.Common.{◌≡◌, ◌≢◌, ℕ, zero, suc, ◌+◌, ◌*◌, ◌^◌, ◌<◌, ◌≤◌, ◌==◌, ◌||◌, ◌∙◌, Bool, true, false, not, cond, if◌then◌else◌, Option, Some, List, [], ◌∷◌, ◌++◌, length, map, get_or, take, nat_lt, Contains, slice_get, refl, sym, ap, subst, arith}
 use Rattle.std.specs.List.{flat_map, items_where_true}
-use Rattle.std.specs.Option.{is_some}
+use Rattle.std.specs.Option.{is_some, option_map_or}
 use Rattle.std.proofs.lemmas.Bool.Decides.{nat_tests}
 use Rattle.std.proofs.lemmas.List.Elements.{Contains-append_left}
 use Rattle.std.proofs.lemmas.List.Folds.{list_any_none}
@@ -13,15 +13,15 @@ use Rattle.builder_trait.specs.Builders.{PartKind}
 use Rattle.builder_trait.specs.Parts.{Contents, OwnsStamp, has_stamp, without, live_of}
 use Rattle.ordered_merge.proofs.Fronts.{All-permuted}
 use Rattle.partial_build.proofs.Stamps.{same_place}
-use Rattle.stack_levels.specs.Slots.{Slots, IsPartOf, ticks_of, waiting_in, live_in, items_in, asked_in, held_in, tables_in, in_memory, one_if}
-use Rattle.stack_levels.specs.Levels.{waiting_of, live_items, all_items, asked}
+use Rattle.stack_levels.specs.Slots.{Slots, IsPartOf, ticks_of, live_in, items_in, asked_in, held_in, tables_in, in_memory, one_if, read_by}
+use Rattle.stack_levels.specs.Levels.{live_items, all_items, asked}
 use Rattle.stack_levels.specs.Neighbours.{stays}
 use Rattle.stack_levels.specs.Towers.{IsTower, IsDue, IsDueSoon, HaveRooms, HaveRoomsAbove, AreLevels, AreAllLevels, AreHalfway, HaveRoomsNow, HaveRoomsNext}
-use Rattle.stack_levels.specs.Marking.{AreNoted, IsSameBelow}
+use Rattle.stack_levels.specs.Marking.{AreMarkedAt, AreNoted, IsSameBelow, read_into, noted_above}
 use Rattle.stack_levels.proofs.Held.{memory-same}
 use Rattle.stack_levels.proofs.Distinct.{AllStampsDiffer-part, IsPartOf-append, IsPartOf-permuted, none_same}
 use Rattle.stack_levels.proofs.Publishing.{doubled, higher}
-use Rattle.stack_levels.proofs.Marks.{stands, without-lacking}
+use Rattle.stack_levels.proofs.Marks.{stands, without-lacking, lacking-first, first-marked}
 use Rattle.stack_levels.proofs.Towers.{below-same, halfway-from_tower, rooms_above, ahead-from_soon}
 
 module _ {P Item : Type 0} where
@@ -229,20 +229,25 @@ light_below n k g rest two light =
 
 pub AreNoted-refl : {P Item : Type 0} (levels : List (Slots P Item)) → AreNoted levels levels
 AreNoted-refl [] = refl
-AreNoted-refl (l ∷ above) = (l, refl, refl, refl, refl, omega arith, omega arith)
+AreNoted-refl (l ∷ above) = (l, refl, refl, refl, refl)
 
--- one item more may wait, where one is noted
-pub waiting-noted : {P Item : Type 0} (above above' : List (Slots P Item)) → AreNoted above above'
-    → (waiting_of above ≤ waiting_of above') × (waiting_of above' ≤ waiting_of above + 1)
-waiting-noted [] above' noted = let same : waiting_of above' ≡ 0 = ap waiting_of noted in (omega (arith, same), omega (arith, same))
-waiting-noted (l ∷ rest) above' noted =
-    let same : waiting_of above' ≡ waiting_in noted.0 + waiting_of rest = ap waiting_of noted.1 in
-    (omega (arith, same, noted.5, noted.6), omega (arith, same, noted.5, noted.6))
+module _ {P Item : Type 0} (before : Item → Item → Bool) (x : Item) where
+  -- marks of parts don't change what a construction has read
+  pub read_into-same : (above above' : List (Slots P Item)) → IsSameBelow above above' → read_into before x above' ≡ read_into before x above
+  read_into-same [] above' same = ap (read_into before x) same
+  read_into-same (l ∷ above) above' same = ap (read_into before x) same.2 ∙ ap (read_by before x) same.3
 
-pub noted_if : {m n : ℕ} (found : Bool) → m ≤ n + 1 → (found ≡ false → m ≡ n) → m ≤ n + one_if found
-noted_if true few same = few
-noted_if false few same = omega (arith, same refl)
+  module _ (contents : P → Contents Item) (stamp : Item → ℕ) where
+    noted-where : (b : Bool) (l : Slots P Item) (above : List (Slots P Item)) → has_stamp stamp (stamp x) (flat_map (λ p. live_of (contents p)) (take 2 l.parts)) ≡ b
+        → noted_above before x contents stamp l above ≡ (if b then read_into before x above else 0)
+    noted-where b l above is = ap (λ v. if v then read_into before x above else 0) is
 
-pub one_at_most : (b : Bool) → one_if b ≤ 1
-one_at_most true = omega arith
-one_at_most false = omega arith
+    -- the item doesn't live in the level
+    pub noted-lacking : (l : Slots P Item) (above : List (Slots P Item)) → has_stamp stamp (stamp x) (live_in contents l) ≡ false
+        → noted_above before x contents stamp l above ≡ 0
+    noted-lacking l above off = noted-where false l above (lacking-first contents stamp (stamp x) 2 l.parts off)
+
+    -- it lives in the part at a place
+    pub noted-at : {place : Option ℕ} (l l' : Slots P Item) (above : List (Slots P Item)) → AreMarkedAt contents stamp x place l.parts l'.parts
+        → noted_above before x contents stamp l above ≡ (if option_map_or (λ k. nat_lt k 2) place false then read_into before x above else 0)
+    noted-at {place} l l' above marked = noted-where (option_map_or (λ k. nat_lt k 2) place false) l above (first-marked contents stamp x marked 2)

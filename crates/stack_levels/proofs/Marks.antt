@@ -1,6 +1,8 @@
 -- An item that is marked as dead, in lists of parts.
-use Rattle.std.proofs.Common.{◌≡◌, ◌≢◌, ℕ, zero, suc, ◌+◌, ◌*◌, ◌==◌, ◌||◌, Bool, true, false, not, cond, if◌then◌else◌, Option, Some, List, [], ◌∷◌, ◌++◌, ◌∙◌, length, get_or, All, slice_get, refl, sym, ap, ap₂, subst, arith}
+use Rattle.std.proofs.Common.{◌≡◌, ◌≢◌, ℕ, zero, suc, ◌+◌, ◌*◌, ◌==◌, ◌||◌, Bool, true, false, not, cond, if◌then◌else◌, Option, Some, None, List, [], ◌∷◌, ◌++◌, ◌∙◌, length, get_or, take, nat_lt, All, slice_get, refl, sym, ap, ap₂, subst, arith}
+use Rattle.std.specs.Option.{option_map_or}
 use Rattle.std.specs.List.{flat_map, items_where_true}
+use Rattle.std.proofs.Math.Bool.{or-true}
 use Rattle.std.proofs.lemmas.Bool.Decides.{nat_tests}
 use Rattle.std.proofs.lemmas.List.{get_or_append_left, get_or-append-add, length-append}
 use Rattle.std.proofs.lemmas.List.Elements.{All-cons, All-head, All-nil, All-tail, filter-append}
@@ -74,6 +76,32 @@ live_at (y ∷ xs) (true ∷ flags) zero x at = (0, at, refl)
 live_at (y ∷ xs) (true ∷ flags) (suc k) x at = let rest = live_at xs flags k x at in (suc rest.0, rest.1, rest.2)
 live_at (y ∷ xs) (false ∷ flags) k x at = let rest = live_at xs flags k x at in (suc rest.0, rest.1, rest.2)
 
+-- an item that stands live has its stamp among the live ones
+has_stamp-live : {Item : Type 0} (stamp : Item → ℕ) (x : Item) (xs : List Item) (flags : List Bool) (k : ℕ) → slice_get xs k ≡ Some x
+    → slice_get flags k ≡ Some true → has_stamp stamp (stamp x) (items_where_true flags xs) ≡ true
+has_stamp-live stamp x [] flags k there on = absurd cc
+has_stamp-live stamp x (y ∷ xs) [] k there on = absurd cc
+has_stamp-live stamp x (y ∷ xs) (true ∷ flags) zero there on =
+    let is : y ≡ x = cc in
+    let test : (stamp y == stamp x) ≡ true = ap (λ z. stamp z == stamp x) is ∙ grind (arith, nat_tests) in
+    ap (λ b. b || has_stamp stamp (stamp x) (items_where_true flags xs)) test
+has_stamp-live stamp x (y ∷ xs) (false ∷ flags) zero there on = absurd cc
+has_stamp-live stamp x (y ∷ xs) (true ∷ flags) (suc k) there on =
+    ap (λ b. (stamp y == stamp x) || b) (has_stamp-live stamp x xs flags k there on) ∙ or-true (stamp y == stamp x)
+has_stamp-live stamp x (y ∷ xs) (false ∷ flags) (suc k) there on = has_stamp-live stamp x xs flags k there on
+
+module _ {P Item : Type 0} (contents : P → Contents Item) (stamp : Item → ℕ) (s : ℕ) where
+  -- what isn't live in some parts isn't live in the first of them
+  pub lacking-first : (n : ℕ) (ps : List P) → has_stamp stamp s (flat_map (λ q. live_of (contents q)) ps) ≡ false
+      → has_stamp stamp s (flat_map (λ q. live_of (contents q)) (take n ps)) ≡ false
+  lacking-first zero ps off = refl
+  lacking-first (suc n) [] off = refl
+  lacking-first (suc n) (p ∷ ps) off =
+      let here = both_off (has_stamp stamp s (live_of (contents p))) (has_stamp stamp s (flat_map (λ q. live_of (contents q)) ps))
+      (sym (has_stamp-append stamp s (live_of (contents p)) (flat_map (λ q. live_of (contents q)) ps)) ∙ off) in
+      has_stamp-append stamp s (live_of (contents p)) (flat_map (λ q. live_of (contents q)) (take n ps))
+      ∙ ap₂ (λ b d. b || d) here.0 (lacking-first n ps here.1)
+
 module _ {P Item : Type 0} (contents : P → Contents Item) (stamp : Item → ℕ) (x : Item) where
   -- the part has it, and no other one of the list
   pub others_lack : (p : P) (ps : List P) → AllStampsDiffer stamp ((contents p).items ++ flat_map (λ q. (contents q).items) ps)
@@ -111,6 +139,25 @@ module _ {P Item : Type 0} (contents : P → Contents Item) (stamp : Item → �
   items-marked nowhere = refl
   items-marked (here p p' ps live same lacks) = ap (λ c. c.items ++ flat_map (λ q. (contents q).items) ps) same
   items-marked (later place p p' ps ps' lacks same rest) = ap₂ (λ c l. c.items ++ l) same (items-marked rest)
+
+  -- whether the part in which it lives is one of the first n
+  pub first-marked : {place : Option ℕ} {ps ps' : List P} → AreMarkedAt contents stamp x place ps ps' → (n : ℕ)
+      → has_stamp stamp (stamp x) (flat_map (λ q. live_of (contents q)) (take n ps)) ≡ option_map_or (λ k. nat_lt k n) place false
+  first-marked nowhere zero = refl
+  first-marked nowhere (suc n) = refl
+  first-marked (here p p' ps live same lacks) zero = refl
+  first-marked (here p p' ps live same lacks) (suc n) =
+      has_stamp-append stamp (stamp x) (live_of (contents p)) (flat_map (λ q. live_of (contents q)) (take n ps))
+      ∙ ap (λ b. b || has_stamp stamp (stamp x) (flat_map (λ q. live_of (contents q)) (take n ps))) (has_stamp-live stamp x (contents p).items (contents p).flags live.0 live.1 live.2)
+      ∙ grind (arith, nat_tests)
+  first-marked (later None p p' ps ps' lacks same rest) zero = refl
+  first-marked (later (Some k) p p' ps ps' lacks same rest) zero = grind (arith, nat_tests)
+  first-marked (later None p p' ps ps' lacks same rest) (suc n) =
+      has_stamp-append stamp (stamp x) (live_of (contents p)) (flat_map (λ q. live_of (contents q)) (take n ps))
+      ∙ ap₂ (λ b d. b || d) lacks (first-marked rest n)
+  first-marked (later (Some k) p p' ps ps' lacks same rest) (suc n) =
+      has_stamp-append stamp (stamp x) (live_of (contents p)) (flat_map (λ q. live_of (contents q)) (take n ps))
+      ∙ ap₂ (λ b d. b || d) lacks (first-marked rest n) ∙ grind (arith, nat_tests)
 
   pub length-marked : {place : Option ℕ} {ps ps' : List P} → AreMarkedAt contents stamp x place ps ps' → length ps' ≡ length ps
   length-marked nowhere = refl

@@ -32,10 +32,9 @@ module _ {P Item : Type 0} where
     pub within : (g : ℕ) → weight_of new < 2 ^ (g + 1) → IsWithin (quotas slope base from g) (2 * g) (touches g) before after
     pub drained : waiting_of new + after.marks ≡ waiting_of old + before.marks
 
-  -- What a delete costs in which so many parts are asked for the item, whichever bound g there is: beside one mark for each of these, the marks are
-  -- those of items that waited and wait no longer, where the item itself may have come to wait.
-  pub record IsCostOfDelete (slope base : ℕ) (touches : ℕ → ℕ) (asked : ℕ) (old new : List (Slots P Item)) (before after : Counts) : Type 0 where
+  -- What a delete costs in which so many parts are asked for the item, and so many constructions take note of it, whichever bound g there is: beside
+  -- one mark for each part that is asked, the marks are those of items that waited and wait no longer.
+  pub record IsCostOfDelete (slope base : ℕ) (touches : ℕ → ℕ) (asked noted : ℕ) (old new : List (Slots P Item)) (before after : Counts) : Type 0 where
     pub within : (g : ℕ) → weight_of new < 2 ^ (g + 1) → IsWithin (quotas slope base 1 g) (2 * g + asked) (touches g) before after
     pub all_asked : asked ≤ after.marks - before.marks
-    pub no_fewer : waiting_of old + asked + before.marks ≤ waiting_of new + after.marks
-    pub no_more : waiting_of new + after.marks ≤ waiting_of old + asked + 1 + before.marks
+    pub drained : waiting_of new + after.marks ≡ waiting_of old + noted + asked + before.marks

@@ -1,8 +1,9 @@
 -- An item that is marked as dead, in parts and levels.
-use Rattle.std.specs.Prelude.{◌≡◌, ℕ, ◌+◌, ◌≤◌, Bool, Option, Some, None, List, [], ◌∷◌, true, false, All, length, map, slice_get}
+use Rattle.std.specs.Prelude.{◌≡◌, ℕ, ◌+◌, Bool, Option, Some, None, List, [], ◌∷◌, true, false, if◌then◌else◌, All, length, map, slice_get, take}
+use Rattle.std.specs.List.{flat_map}
 use Rattle.std.specs.Option.{option_map, is_some}
 use Rattle.builder_trait.specs.Parts.{Contents, has_stamp, without, marked, live_of}
-use Rattle.stack_levels.specs.Slots.{Slots, one_if, ticks_of, clock_of, waiting_in, in_memory, live_in, items_in}
+use Rattle.stack_levels.specs.Slots.{Slots, ticks_of, clock_of, in_memory, live_in, items_in, read_by}
 use Rattle.stack_levels.specs.Levels.{waiting_of, weight_of, live_items, all_items}
 
 module _ {Item : Type 0} where
@@ -24,17 +25,32 @@ module _ {P Item : Type 0} where
         → contents p' ≡ marked stamp (stamp x) (contents p) → AreMarkedAt contents stamp x place ps ps'
         → AreMarkedAt contents stamp x (option_map (λ k. k + 1) place) (p ∷ ps) (p' ∷ ps')
 
-  -- levels are as they were, but that an item was noted in the construction into the lowest one, and may wait there
+  -- levels are as they were, but that an item was noted in the construction into the lowest one
   abbrev pub AreNoted : List (Slots P Item) → List (Slots P Item) → Type 0
   AreNoted [] new = new ≡ []
   AreNoted (l ∷ above) new = (l' : Slots P Item) × (new ≡ l' ∷ above) × (l' ≡ record l { construction = l'.construction })
       × (ticks_of l' ≡ ticks_of l) × (is_some l'.construction ≡ is_some l.construction)
-      × (waiting_in l ≤ waiting_in l') × (waiting_in l' ≤ waiting_in l + 1)
 
   -- the lowest level is as it was, but for its parts
   abbrev pub IsSameBelow : List (Slots P Item) → List (Slots P Item) → Type 0
   IsSameBelow [] new = new ≡ []
   IsSameBelow (l ∷ above) new = (l' : Slots P Item) × (above' : List (Slots P Item)) × (new ≡ l' ∷ above') × (l' ≡ record l { parts = l'.parts })
+
+  module _ (before : Item → Item → Bool) (x : Item) where
+    -- 1 where the construction into the lowest level has read an item
+    abbrev pub read_into : List (Slots P Item) → ℕ
+    read_into [] = 0
+    read_into (l ∷ above) = read_by before x l
+
+    -- How many constructions a live item comes to wait in where it dies: only the two oldest parts of a level are read, and by the construction into
+    -- the level above.
+    module _ (contents : P → Contents Item) (stamp : Item → ℕ) where
+      abbrev pub noted_above : Slots P Item → List (Slots P Item) → ℕ
+      noted_above l above = if has_stamp stamp (stamp x) (flat_map (λ p. live_of (contents p)) (take 2 l.parts)) then read_into above else 0
+
+      abbrev pub noted : List (Slots P Item) → ℕ
+      noted [] = 0
+      noted (l ∷ above) = noted above + noted_above l above
 
   module _ (contents : P → Contents Item) (stamp : Item → ℕ) (dead : ℕ) where
     -- the level is as it was, but that the item with a stamp isn't live
@@ -45,13 +61,12 @@ module _ {P Item : Type 0} where
       pub as_many : length new.parts ≡ length old.parts
 
     -- the item with a stamp isn't live in any of the levels; they have the same items, and the weight and what each holds are as they were,
-    -- and so are the clocks; and where it was found one item more may wait
-    pub record AreMarked (found : Bool) (old new : List (Slots P Item)) : Type 0 where
+    -- and so are the clocks; and so many items more wait
+    pub record AreMarked (more : ℕ) (old new : List (Slots P Item)) : Type 0 where
       pub live : live_items contents new ≡ without stamp dead (live_items contents old)
       pub items : all_items contents new ≡ all_items contents old
       pub weight : weight_of new ≡ weight_of old
       pub held : map in_memory new ≡ map in_memory old
       pub numbers : map (λ l. l.level) new ≡ map (λ l. l.level) old
       pub clocks : map clock_of new ≡ map clock_of old
-      pub none_lost : waiting_of old ≤ waiting_of new
-      pub one_noted : waiting_of new ≤ waiting_of old + one_if found
+      pub waiting : waiting_of new ≡ waiting_of old + more

@@ -33,6 +33,8 @@ module _ {P Item : Type 0} where
       pub arrived : new.parts ≡ old.parts ++ fresh ∷ []
       pub none : new.construction ≡ None
       pub retired : lower.parts ≡ first ∷ second ∷ lower'.parts
+      pub tables : new.tables ≡ old.tables + 1
+      pub kept : lower'.kept ≡ lower.kept + 2
       pub live : Permuted (live_of (contents fresh)) (live_of (contents first) ++ live_of (contents second))
       pub items : IsPartOf (contents fresh).items ((contents first).items ++ (contents second).items)
 

@@ -1,10 +1,11 @@
 -- What contracts see of one level of a stack.
-use Rattle.std.specs.Prelude.{◌≡◌, ℕ, ◌+◌, ◌-◌, ◌*◌, ◌^◌, Bool, List, [], ◌∷◌, ◌++◌, Option, None, if◌then◌else◌, length}
+use Rattle.std.specs.Prelude.{◌≡◌, ℕ, ◌+◌, ◌-◌, ◌*◌, ◌^◌, ◌≤◌, Bool, List, [], ◌∷◌, ◌++◌, Option, None, if◌then◌else◌, length}
 use Rattle.std.specs.List.{flat_map}
 use Rattle.std.specs.Option.{option_map, option_map_or, is_some}
 use Rattle.query_laws.specs.Permuted.{Permuted}
 use Rattle.builder_trait.specs.Parts.{Contents, has_stamp, live_of}
 use Rattle.builder_trait.specs.Builders.{PartKind}
+use Rattle.ordered_merge.specs.Merging.{is_passed}
 use Rattle.partial_build.specs.Construction.{Construction, turns_left}
 use Rattle.partial_build.specs.Quota.{quota}
 
@@ -44,6 +45,10 @@ module _ {P Item : Type 0} where
   abbrev pub waiting_in : Slots P Item → ℕ
   waiting_in l = option_map_or (λ c. length c.waiting) l.construction 0
 
+  -- 1 where the construction into a level has read an item, which waits there once it dies, and 0 where it hasn't
+  abbrev pub read_by : (Item → Item → Bool) → Item → Slots P Item → ℕ
+  read_by before x l = option_map_or (λ c. one_if (is_passed before c.merge.reached x)) l.construction 0
+
   -- the turns that a tick may take of it: those that it has left, and a quota where it begins
   abbrev pub turns_to_go : PartKind Item → Slots P Item → ℕ
   turns_to_go kind l = option_map_or (turns_left kind) l.construction (quota kind.slope kind.base l.level)
@@ -59,6 +64,11 @@ module _ {P Item : Type 0} where
 
   abbrev pub in_memory : Slots P Item → InMemory
   in_memory l = record { parts = held_in l; tables = tables_in l }
+
+  -- of a level at most five parts are in memory, and the tables of two constructions
+  pub record HoldsFew (l : Slots P Item) : Type 0 where
+    pub parts : held_in l ≤ 5
+    pub tables : tables_in l ≤ 2
 
   -- what is in memory of a level after a forecast: what was, and where a room is held now that wasn't, a part more if no builder was kept for it, and
   -- tables more if none were

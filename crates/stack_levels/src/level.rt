@@ -4,9 +4,10 @@ ghost use Rattle.std.specs.List.{flat_map};
 ghost use Rattle.std.specs.Option.{is_some};
 ghost use Rattle.query_laws.specs.Orders.{AllStampsDiffer};
 ghost use Rattle.query_laws.specs.StepLedger.{Spends};
+ghost use Rattle.query_laws.specs.declared.item.Order.TheVariants.{First};
 ghost use Rattle.builder_trait.specs.Parts.{OwnsStamp, has_stamp, marked, live_of};
 ghost use Rattle.partial_build.specs.Quota.{quota};
-ghost use Rattle.stack_levels.specs.Slots.{ticks_of, waiting_in, turns_to_go, held_in, tables_in, in_memory, live_in, items_in, asked_in, IsIdle};
+ghost use Rattle.stack_levels.specs.Slots.{ticks_of, waiting_in, read_by, turns_to_go, held_in, tables_in, in_memory, live_in, items_in, asked_in, IsIdle};
 ghost use Rattle.stack_levels.specs.Level.{IsOfLevel};
 ghost use Rattle.stack_levels.specs.Neighbours.{IsConstructionOf, IsFed, IsPunctual, IsPublication};
 ghost use Rattle.stack_levels.specs.Marking.{IsLiveIn, AreMarkedAt};
@@ -279,7 +280,7 @@ impl<B: Builder> Level<B> {
         ensures same { self.new ≡ record self.old { construction = self.new.construction } }
         ensures ticks { ticks_of self.new ≡ ticks_of self.old }
         ensures runs { is_some self.new.construction ≡ is_some self.old.construction }
-        ensures waiting { (waiting_in self.old ≤ waiting_in self.new) × (waiting_in self.new ≤ waiting_in self.old + 1) }
+        ensures waiting { waiting_in self.new ≡ waiting_in self.old + read_by (B.Item.before First) item.now self.old }
 
         // Whichever the parts are: with the one in which it stood live and is marked now.
         ensures of_a { (a b a' : B.Part) → IsLiveIn (B.Part.Part.contents a) item.now

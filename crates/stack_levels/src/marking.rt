@@ -3,13 +3,14 @@ ghost use Rattle.std.specs.Prelude.{◌≡◌, ℕ, ◌+◌, ◌-◌, ◌*◌, �
 ghost use Rattle.query_laws.specs.Orders.{AllStampsDiffer};
 ghost use Rattle.query_laws.specs.Permuted.{Permuted};
 ghost use Rattle.query_laws.specs.StepLedger.{Spends};
+ghost use Rattle.query_laws.specs.declared.item.Order.TheVariants.{First};
 ghost use Rattle.builder_trait.specs.Parts.{OwnsStamp, has_stamp, without, marked};
 ghost use Rattle.stack_levels.specs.Slots.{Slots, IsPartOf, ticks_of, in_memory, live_in, items_in, asked_in};
-ghost use Rattle.stack_levels.specs.Levels.{weight_of, live_items, all_items, asked};
+ghost use Rattle.stack_levels.specs.Levels.{weight_of, waiting_of, live_items, all_items, asked};
 ghost use Rattle.stack_levels.specs.Neighbours.{IsConstructionOf, IsPunctual};
 ghost use Rattle.stack_levels.specs.Towers.{IsDue, IsDueSoon, IsTower, HaveRoomsAbove, AreLevels, AreOnTime, TakeTicks};
 ghost use Rattle.stack_levels.specs.Cost.{IsCostOfDelete};
-ghost use Rattle.stack_levels.specs.Marking.{IsLiveIn, AreNoted, IsMarked, IsSameBelow, AreMarked};
+ghost use Rattle.stack_levels.specs.Marking.{IsLiveIn, AreNoted, IsMarked, IsSameBelow, AreMarked, read_into, noted_above, noted};
 
 use crate::level::Level;
 use crate::visiting::take_tick;
@@ -23,6 +24,7 @@ fn note_above<B: Builder>(above: &mut [Level<B>], place: usize, item: &B::Item)
     requires early { (l : Slots B.Part B.Item) (rest : List (Slots B.Part B.Item)) → above.old ≡ l ∷ rest
         → (ticks_of l < 2 ^ l.level) × IsPunctual ⟦<B as Kinded>⟧.kind l }
     ensures noted { AreNoted above.old above.new }
+    ensures waiting { place < 2 → waiting_of above.new ≡ waiting_of above.old + read_into (B.Item.before First) item.now above.old }
     ensures third { 2 ≤ place → above.new ≡ above.old }
     ensures of_a { place < 2 → (l l' : Slots B.Part B.Item) (rest : List (Slots B.Part B.Item)) → above.old ≡ l ∷ rest → above.new ≡ l' ∷ rest
         → (a b a' : B.Part) → IsLiveIn (B.Part.Part.contents a) item.now
@@ -58,6 +60,8 @@ fn mark_and_note<B: Builder, L: Ledger>(
     ensures tower { IsTower B.Part.Part.contents ⟦<B as Kinded>⟧.kind level.new above.new }
     ensures found { result ≡ has_stamp B.Item.stamp (B.Item.stamp item.now) (live_in B.Part.Part.contents level.old) }
     ensures noted { AreNoted above.old above.new }
+    ensures waiting { waiting_of above.new ≡ waiting_of above.old
+        + noted_above (B.Item.before First) item.now B.Part.Part.contents B.Item.stamp level.old above.old }
     ensures unfound { result ≡ false → above.new ≡ above.old }
     ensures marked { IsMarked B.Part.Part.contents B.Item.stamp (B.Item.stamp item.now) level.old level.new }
     ensures cost { (h : ℕ) → level.old.level ≤ h
@@ -90,7 +94,8 @@ fn mark_in<B: Builder, L: Ledger>(
     ensures same { IsSameBelow levels.old levels.new }
     ensures rooms { HaveRoomsAbove IsDue levels.old → HaveRoomsAbove IsDue levels.new }
     ensures rooms_ahead { HaveRoomsAbove IsDueSoon levels.old → HaveRoomsAbove IsDueSoon levels.new }
-    ensures marked { AreMarked B.Part.Part.contents B.Item.stamp (B.Item.stamp item.now) result levels.old levels.new }
+    ensures marked { AreMarked B.Part.Part.contents B.Item.stamp (B.Item.stamp item.now)
+        (noted (B.Item.before First) item.now B.Part.Part.contents B.Item.stamp levels.old) levels.old levels.new }
     ensures cost { (g : ℕ) → weight_of levels.old < 2 ^ (g + 1)
         → let marks = asked B.Part.Part.contents B.Item.stamp (B.Item.stamp item.now) levels.old in
         Spends steps.old steps.new 0 marks (marks * B.Part.Part.mark_touches g) }
@@ -125,7 +130,8 @@ pub fn take_out<B: Builder, L: Ledger>(
     ensures held { map in_memory levels.new ≡ map in_memory levels.old }
     ensures rooms { HaveRoomsAbove IsDueSoon levels.old → HaveRoomsAbove IsDue levels.new }
     ensures cost { IsCostOfDelete B.SLOPE B.BASE B.Part.Part.mark_touches
-        (asked B.Part.Part.contents B.Item.stamp (B.Item.stamp item.now) levels.old) levels.old levels.new steps.old steps.new }
+        (asked B.Part.Part.contents B.Item.stamp (B.Item.stamp item.now) levels.old)
+        (noted (B.Item.before First) item.now B.Part.Part.contents B.Item.stamp levels.old) levels.old levels.new steps.old steps.new }
 {
     mark_in(levels, item, steps);
     take_tick(levels, steps);

@@ -2,7 +2,7 @@
 ghost use Rattle.std.specs.Prelude.{◌≡◌, ◌+◌, ◌-◌, ◌*◌, ◌^◌, ◌<◌, ◌≤◌, true, false, None, IfOk, IfSome, IsNone, OnErr, nat_le, if◌then◌else◌};
 ghost use Rattle.std.specs.Option.{is_some};
 ghost use Rattle.builder_trait.specs.Builders.{begun};
-ghost use Rattle.stack_levels.specs.Slots.{ticks_of, held_in, tables_in, in_memory, memory_by_forecast};
+ghost use Rattle.stack_levels.specs.Slots.{ticks_of, held_in, tables_in, in_memory, memory_by_forecast, HoldsFew};
 
 use crate::level::Level;
 use builder_trait::Builder;
@@ -191,7 +191,7 @@ impl<B: Builder> Level<B> {
     pub fn kept_weight(&self) -> u64
         ensures value { result ≡ self.now.kept * 2 ^ self.now.level }
         ensures few { self.now.kept ≤ 5 }
-        ensures bounded { held_in self.now ≤ 5 }
+        ensures bounded { HoldsFew self.now }
         ensures most { self.now.level < 32 }
     {
         self.builders.len() as u64 * (1u64 << self.level)

@@ -1,7 +1,7 @@
 use Rattle.std.proofs.Common.{◌≡◌, ℕ, ◌+◌, ◌*◌, ◌^◌, ◌≤◌, All, refl, ap, sym, subst, arith, pow_mono}
 use Rattle.std.proofs.Math.Nat.{mul-le-mul_right}
 use Rattle.std.proofs.lemmas.List.Elements.{All-cons}
-use Rattle.stack_levels.specs.Slots.{held_in}
+use Rattle.stack_levels.specs.Slots.{HoldsFew}
 use Rattle.level_slots.specs.Rooms.{kept_in}
 use Rattle.level_slots.specs.Preparing.{AreRising, IsBounded}
 use Rattle.stack_levels.proofs.Publishing.{none_of}
@@ -33,8 +33,8 @@ returns-in-Some-clause-few g t c =
 
 pub returns-in-Some-clause-bounded : goal.returns-in-Some-clause-bounded
 returns-in-Some-clause-bounded g t c =
-    subst (All (λ l. held_in l ≤ 5)) (sym c.in-Some.ensures.cases.0)
-    (All-cons (λ l. held_in l ≤ 5) c.in-Some.level.now c.in-Some.above.now c.kept_weight.ensures.bounded c.builders_kept.ensures.bounded)
+    subst (All HoldsFew) (sym c.in-Some.ensures.cases.0)
+    (All-cons HoldsFew c.in-Some.level.now c.in-Some.above.now c.kept_weight.ensures.bounded c.builders_kept.ensures.bounded)
 
 pub returns-in-None-clause-value : goal.returns-in-None-clause-value
 returns-in-None-clause-value g t c = ap kept_in (sym (none_of c.args.levels.now (omega (arith, c.in-None.ensures.cases))))

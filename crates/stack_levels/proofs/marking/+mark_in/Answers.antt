@@ -1,22 +1,24 @@
-use Rattle.std.proofs.Common.{◌≡◌, ℕ, ◌+◌, ◌*◌, ◌^◌, ◌<◌, ◌||◌, ◌∙◌, ⊎_elim, true, false, ◌∷◌, ◌++◌, length, map, All, refl, sym, ap, ap₂, subst, arith}
+use Rattle.std.proofs.Common.{◌≡◌, ℕ, ◌+◌, ◌*◌, ◌^◌, ◌<◌, ◌||◌, ◌∙◌, ⊎_elim, true, false, if◌then◌else◌, ◌∷◌, ◌++◌, length, map, take, All, refl, sym, ap, ap₂, subst, arith}
 use Rattle.std.proofs.lemmas.Bool.{cases_lt}
 use Rattle.std.proofs.lemmas.List.Elements.{All-cons, All-head, All-tail}
+use Rattle.std.specs.List.{flat_map}
+use Rattle.query_laws.specs.declared.item.Order.TheVariants.{First}
 use Rattle.query_laws.specs.Orders.{AllStampsDiffer}
 use Rattle.query_laws.specs.StepLedger.{Spends}
 use Rattle.query_laws.proofs.Counting.{Spends-nothing, Spends-within}
 use Rattle.builder_trait.specs.Builders.{PartKind}
-use Rattle.builder_trait.specs.Parts.{OwnsStamp, has_stamp, without}
+use Rattle.builder_trait.specs.Parts.{OwnsStamp, has_stamp, without, live_of}
 use Rattle.stack_levels.specs.Slots.{Slots, one_if, clock_of, waiting_in, held_in, tables_in, in_memory, weight_in, live_in, items_in, asked_in}
 use Rattle.stack_levels.specs.Levels.{waiting_of, weight_of, live_items, all_items, asked}
 use Rattle.stack_levels.specs.Neighbours.{IsPunctual}
 use Rattle.stack_levels.specs.Towers.{IsDue, IsDueSoon, HaveRoomsAbove, AreLevels}
-use Rattle.stack_levels.specs.Marking.{IsSameBelow}
+use Rattle.stack_levels.specs.Marking.{IsSameBelow, noted_above}
 use Rattle.stack_levels.proofs.Clocks.{clocks-noted}
 use Rattle.stack_levels.proofs.Distinct.{AllStampsDiffer-front, AllStampsDiffer-back}
 use Rattle.stack_levels.proofs.Publishing.{none_of}
 use Rattle.stack_levels.proofs.Held.{memory-same}
 use Rattle.stack_levels.proofs.Marks.{All-first, All-second, has_stamp-append, without-append, without-lacking, Spends-both}
-use Rattle.stack_levels.proofs.MarkedLevels.{Follows-due, Follows-soon, rooms-over, rooms-marked, same-noted, held-noted, tower-over, lacks-below, asked-above, asked-both, light_level, levels_from_tower, waiting-noted, noted_if, one_at_most}
+use Rattle.stack_levels.proofs.MarkedLevels.{Follows-due, Follows-soon, rooms-over, rooms-marked, same-noted, held-noted, tower-over, lacks-below, asked-above, asked-both, light_level, levels_from_tower, read_into-same, noted-lacking}
 use Rattle.stack_levels.proofs.marking.+mark_in.Given.{Over}
 use Rattle.stack_levels.proofs.marking.+mark_in.Goals as goal
 
@@ -47,7 +49,9 @@ pub returns-then-mark_in : goal.returns-then-mark_in
 returns-then-mark_in g p c =
     let contents = g.B.Part.Part.contents in
     let stamp = g.B.Item.Item.stamp in
-    let s = stamp c.args.item.now in
+    let before = g.B.Item.Item.before First in
+    let x = c.args.item.now in
+    let s = stamp x in
     let level = c.in-Some.level.now in
     let above = c.in-Some.above.now in
     let split = c.in-Some.ensures.cases.0 in
@@ -71,8 +75,7 @@ returns-then-mark_in g p c =
         held = ap (λ ns. in_memory level ∷ ns) h.marked.held ∙ sym (ap (map in_memory) split);
         numbers = ap (λ ns. level.level ∷ ns) h.marked.numbers ∙ sym (ap (map (λ l. l.level)) split);
         clocks = ap (λ os. clock_of level ∷ os) h.marked.clocks ∙ sym (ap (map clock_of) split);
-        none_lost = rw split (omega (arith, h.marked.none_lost));
-        one_noted = rw split (omega (arith, h.marked.one_noted, one_at_most c.mark_in.result));
+        waiting = rw split (omega (arith, h.marked.waiting, noted-lacking before x contents stamp level above lacks));
       };
       cost = λ g' light. subst (λ n. Spends c.args.steps.now c.mark_in.new.steps 0 n (n * g.B.Part.Part.mark_touches g'))
           (sym (ap (asked contents stamp s) split ∙ asked-above contents stamp s level above on))
@@ -101,7 +104,9 @@ pub returns-else-mark_in : goal.returns-else-mark_in
 returns-else-mark_in g p c =
     let contents = g.B.Part.Part.contents in
     let stamp = g.B.Item.Item.stamp in
-    let s = stamp c.args.item.now in
+    let before = g.B.Item.Item.before First in
+    let x = c.args.item.now in
+    let s = stamp x in
     let level = c.in-Some.level.now in
     let above = c.in-Some.above.now in
     let split = c.in-Some.ensures.cases.0 in
@@ -116,7 +121,8 @@ returns-else-mark_in g p c =
     let marks = asked_in contents stamp s level.parts in
     let held = memory-same level level' (omega (arith, ap held_in m.same, m.as_many)) (ap tables_in m.same) in
     let here : waiting_in level' ≡ waiting_in level = ap waiting_in m.same in
-    let few = waiting-noted mid above' n.noted in
+    let seen : noted_above before x contents stamp level mid ≡ noted_above before x contents stamp level above =
+    ap (λ k. if has_stamp stamp s (flat_map (λ p. live_of (contents p)) (take 2 level.parts)) then k else 0) (read_into-same before x above mid h.same) in
     record {
       levels = n.tower;
       found = n.found ∙ sym (ap (λ ls. has_stamp stamp s (live_items contents ls)) split
@@ -146,14 +152,7 @@ returns-else-mark_in g p c =
             (same-noted (map (λ v. v.level)) (λ l l' rest same _. ap (λ v. v.level ∷ map (λ u. u.level) rest) same) mid above' n.noted ∙ h.marked.numbers)
             ∙ sym (ap (map (λ l. l.level)) split);
         clocks = ap₂ (λ o os. o ∷ os) (ap clock_of m.same) (clocks-noted mid above' n.noted ∙ h.marked.clocks) ∙ sym (ap (map clock_of) split);
-        none_lost = rw split (omega (arith, here, few.0, h.marked.none_lost));
-        one_noted = rw split (omega (
-          arith,
-          here,
-          h.marked.one_noted,
-          ap one_if c.if-mark_in.false,
-          noted_if c.mark_and_note.result few.1 (λ unfound. ap waiting_of (n.unfound unfound)),
-        ));
+        waiting = rw split (omega (arith, here, h.marked.waiting, n.waiting, seen));
       };
       cost = λ g' light.
           let t = g.B.Part.Part.mark_touches g' in
@@ -169,6 +168,11 @@ returns-else-mark_in g p c =
           Spends-both t (asked contents stamp s above) marks (asked contents stamp s c.args.levels.now)
           (h.cost g' (lighter (weight_in level) (weight_of above) light')) here (ap (asked contents stamp s) split ∙ asked-both contents stamp s level above off);
     }
+
+pub returns-in-None-clause-marked : goal.returns-in-None-clause-marked
+returns-in-None-clause-marked g p c =
+    rw (none_of c.args.levels.now (omega (arith, c.in-None.ensures.cases)))
+    (record { live = refl; items = refl; weight = refl; held = refl; numbers = refl; clocks = refl; waiting = refl })
 
 pub returns-in-None-clause-cost : goal.returns-in-None-clause-cost
 returns-in-None-clause-cost g p c g' light =

@@ -1,11 +1,17 @@
-use Rattle.std.proofs.Common.{◌≡◌, ℕ, ◌∙◌, Some, None, ◌∷◌, All, sym, ap, subst, arith}
+use Rattle.std.proofs.Common.{◌≡◌, ℕ, ◌+◌, ◌<◌, ◌≤◌, ◌∙◌, ⊎_elim, Bool, true, false, if◌then◌else◌, nat_lt, Some, None, ◌∷◌, All, sym, ap, subst, arith}
+use Rattle.std.specs.Option.{option_map_or}
+use Rattle.std.proofs.lemmas.Bool.{cases_lt}
+use Rattle.std.proofs.lemmas.Bool.Decides.{nat_tests}
 use Rattle.std.proofs.lemmas.List.Elements.{All-head}
+use Rattle.query_laws.specs.declared.item.Order.TheVariants.{First}
 use Rattle.builder_trait.specs.Builders.{PartKind}
 use Rattle.stack_levels.specs.Slots.{ticks_of}
+use Rattle.stack_levels.specs.Levels.{waiting_of}
+use Rattle.stack_levels.specs.Marking.{read_into}
 use Rattle.stack_levels.specs.Neighbours.{IsConstructionOf, IsPunctual}
 use Rattle.stack_levels.specs.Towers.{IsTower}
 use Rattle.stack_levels.proofs.Marks.{IsMarked-of}
-use Rattle.stack_levels.proofs.MarkedLevels.{AreNoted-refl}
+use Rattle.stack_levels.proofs.MarkedLevels.{AreNoted-refl, noted-at}
 use Rattle.stack_levels.proofs.Noting.{tower-marked}
 use Rattle.stack_levels.proofs.marking.mark_and_note.Given.{Over}
 use Rattle.stack_levels.proofs.marking.mark_and_note.Goals as goal
@@ -67,3 +73,31 @@ returns-in-Some-clause-marked g c = IsMarked-of g.B.Part.Part.contents g.B.Item.
 
 pub returns-in-None-clause-marked : goal.returns-in-None-clause-marked
 returns-in-None-clause-marked g c = IsMarked-of g.B.Part.Part.contents g.B.Item.Item.stamp c.args.item.now c.mark.ensures.same c.mark.ensures.marked
+
+below_two : (place : ℕ) → place < 2 → nat_lt place 2 ≡ true
+below_two place below = grind (arith, nat_tests)
+
+past_two : (place : ℕ) → 2 ≤ place → nat_lt place 2 ≡ false
+past_two place past = grind (arith, nat_tests)
+
+pub returns-in-Some-clause-waiting : goal.returns-in-Some-clause-waiting
+returns-in-Some-clause-waiting g c =
+    let before = g.B.Item.Item.before First in
+    let above = c.args.above.now in
+    let picked = λ (b : Bool). if b then read_into before c.args.item.now above else 0 in
+    let at = noted-at before c.args.item.now g.B.Part.Part.contents g.B.Item.Item.stamp c.args.level.now c.mark.new.self above c.mark.ensures.marked
+    ∙ ap (λ o. picked (option_map_or (λ k. nat_lt k 2) o false)) c.in-Some.is in
+    ⊎_elim
+    (λ read. c.note_above.ensures.waiting read ∙ sym (ap (λ n. waiting_of above + n) (at ∙ ap picked (below_two c.in-Some.place read))))
+    (λ past. ap waiting_of (c.note_above.ensures.third past) ∙ omega (arith, at ∙ ap picked (past_two c.in-Some.place past)))
+    (cases_lt c.in-Some.place 2)
+
+pub returns-in-None-clause-waiting : goal.returns-in-None-clause-waiting
+returns-in-None-clause-waiting g c =
+    let before = g.B.Item.Item.before First in
+    let above = c.args.above.now in
+    omega (
+      arith,
+      noted-at before c.args.item.now g.B.Part.Part.contents g.B.Item.Item.stamp c.args.level.now c.mark.new.self above c.mark.ensures.marked
+          ∙ ap (λ o. if option_map_or (λ k. nat_lt k 2) o false then read_into before c.args.item.now above else 0) c.in-None.is,
+    )

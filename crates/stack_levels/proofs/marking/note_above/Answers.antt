@@ -1,8 +1,10 @@
-use Rattle.std.proofs.Common.{◌≡◌, ◌∙◌, List, ◌∷◌, refl, sym, subst}
+use Rattle.std.proofs.Common.{◌≡◌, ◌∙◌, List, ◌∷◌, refl, sym, ap, subst, arith}
+use Rattle.query_laws.specs.declared.item.Order.TheVariants.{First}
 use Rattle.builder_trait.specs.Builders.{PartKind}
 use Rattle.stack_levels.specs.Slots.{Slots}
 use Rattle.stack_levels.specs.Neighbours.{IsConstructionOf}
-use Rattle.stack_levels.specs.Marking.{AreNoted}
+use Rattle.stack_levels.specs.Marking.{AreNoted, read_into}
+use Rattle.stack_levels.proofs.Publishing.{none_of}
 use Rattle.stack_levels.proofs.MarkedLevels.{AreNoted-refl}
 use Rattle.stack_levels.proofs.marking.note_above.Given.{Over}
 use Rattle.stack_levels.proofs.marking.note_above.Goals as goal
@@ -30,10 +32,15 @@ returns-then-place-ge2-clause-noted g c = AreNoted-refl c.args.above.now
 pub returns-in-None-clause-noted : goal.returns-in-None-clause-noted
 returns-in-None-clause-noted g c = AreNoted-refl c.args.above.now
 
+pub returns-in-None-clause-waiting : goal.returns-in-None-clause-waiting
+returns-in-None-clause-waiting g c read =
+    let none = none_of c.args.above.now (omega (arith, c.in-None.ensures.cases)) in
+    omega (arith, ap (read_into (g.B.Item.Item.before First) c.args.item.now) none)
+
 pub returns-in-Some-clause-noted : goal.returns-in-Some-clause-noted
 returns-in-Some-clause-noted g c =
     subst (λ ls. AreNoted ls (c.note.new.self ∷ c.in-Some._above.now)) (sym c.in-Some.ensures.cases.0)
-    (c.note.new.self, refl, c.note.ensures.same, c.note.ensures.ticks, c.note.ensures.runs, c.note.ensures.waiting.0, c.note.ensures.waiting.1)
+    (c.note.new.self, refl, c.note.ensures.same, c.note.ensures.ticks, c.note.ensures.runs)
 
 pub returns-in-Some-clause-of_a : goal.returns-in-Some-clause-of_a
 returns-in-Some-clause-of_a g c early l l' rest was is a b new live same =

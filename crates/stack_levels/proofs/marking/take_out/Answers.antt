@@ -6,7 +6,7 @@ use Rattle.stack_levels.specs.Levels.{weight_of, all_items, asked}
 use Rattle.stack_levels.specs.Cost.{IsWithin}
 use Rattle.stack_levels.proofs.Clocks.{TakeTicks-from}
 use Rattle.stack_levels.proofs.Spending.{below_power, IsWithin-more, IsWithin-of, IsWithin-then}
-use Rattle.stack_levels.proofs.MarkedLevels.{owned_live, levels-from_all, halfway-marked, rooms_now, rooms_next, some_live, one_at_most}
+use Rattle.stack_levels.proofs.MarkedLevels.{owned_live, levels-from_all, halfway-marked, rooms_now, rooms_next, some_live}
 use Rattle.stack_levels.proofs.marking.take_out.Given.{Over}
 use Rattle.stack_levels.proofs.marking.take_out.Goals as goal
 
@@ -59,6 +59,5 @@ returns-clause-cost g c =
           IsWithin-of (c.mark_in.ensures.cost g' light_old) (omega arith) (omega arith) (omega arith) in
           IsWithin-more (IsWithin-then first (c.take_tick.ensures.cost g' light_mid)) (omega arith) (omega arith) (omega arith);
       all_asked = omega (arith, asking, (c.take_tick.ensures.cost mid (below_power mid)).spent.marks_spent);
-      no_fewer = omega (arith, asking, c.mark_in.ensures.marked.none_lost, c.take_tick.ensures.waiting);
-      no_more = omega (arith, asking, c.mark_in.ensures.marked.one_noted, one_at_most c.mark_in.result, c.take_tick.ensures.waiting);
+      drained = omega (arith, asking, c.mark_in.ensures.marked.waiting, c.take_tick.ensures.waiting);
     }

@@ -1,6 +1,6 @@
 use Rattle.std.proofs.Common.{◌≤◌, ◌∙◌, All, sym, subst, ap}
 use Rattle.builder_trait.specs.Builders.{PartKind}
-use Rattle.stack_levels.specs.Slots.{held_in}
+use Rattle.stack_levels.specs.Slots.{HoldsFew}
 use Rattle.level_slots.specs.Rooms.{kept_in}
 use Rattle.level_slots.specs.Preparing.{AreRising}
 use Rattle.level_slots.proofs.Forecasting.{rising}
@@ -20,4 +20,4 @@ returns-clause-value g c = c.builders_kept.ensures.value ∙ ap kept_in c.deref.
 
 pub returns-clause-bounded : goal.returns-clause-bounded
 returns-clause-bounded g c =
-    subst (All (λ l. held_in l ≤ 5)) (c.deref.ensures.value ∙ ap (λ s. s.levels) c.self.view_is) c.builders_kept.ensures.bounded
+    subst (All HoldsFew) (c.deref.ensures.value ∙ ap (λ s. s.levels) c.self.view_is) c.builders_kept.ensures.bounded

@@ -1,11 +1,11 @@
-use Rattle.std.proofs.Common.{◌≡◌, ◌+◌, ◌≤◌, ◌∙◌, Bool, true, false, if◌then◌else◌, Option, Some, List, [], ◌∷◌, ◌++◌, length, ap, sym, subst, arith}
+use Rattle.std.proofs.Common.{◌≡◌, ◌+◌, ◌∙◌, Bool, true, false, if◌then◌else◌, Option, Some, List, [], ◌∷◌, ◌++◌, length, ap, sym, subst, arith}
 use Rattle.std.specs.Option.{option_map_or}
 use Rattle.std.proofs.lemmas.List.{length_push}
 use Rattle.query_laws.specs.declared.item.Order.TheVariants.{First}
 use Rattle.builder_trait.specs.Builders.{PartKind}
 use Rattle.ordered_merge.specs.Merging.{is_passed}
 use Rattle.partial_build.specs.Construction.{Construction, Builds}
-use Rattle.stack_levels.specs.Slots.{waiting_in}
+use Rattle.stack_levels.specs.Slots.{one_if}
 use Rattle.stack_levels.proofs.Held.{IsLevel-building, counted}
 use Rattle.stack_levels.proofs.level.Level.note.Given.{Over}
 use Rattle.stack_levels.proofs.level.Level.note.Goals as goal
@@ -14,19 +14,19 @@ abbrev kind : (g : Over) → PartKind g.row.B-Item.Denot
 kind g = record { stamp = g.B.Item.Item.stamp; before = g.B.Item.Item.before; slope = g.B.Builder.SLOPE; base = g.B.Builder.BASE }
 
 -- an item more waits, or none
-noted : {Item : Type 0} (b : Bool) (waiting : List Item) (x : Item)
-    → (length waiting ≤ length (if b then waiting ++ x ∷ [] else waiting)) × (length (if b then waiting ++ x ∷ [] else waiting) ≤ length waiting + 1)
-noted true waiting x = (omega (arith, length_push waiting x), omega (arith, length_push waiting x))
-noted false waiting x = (omega arith, omega arith)
+pushed : {Item : Type 0} (b : Bool) (waiting : List Item) (x : Item) → length (if b then waiting ++ x ∷ [] else waiting) ≡ length waiting + one_if b
+pushed true waiting x = omega (arith, length_push waiting x)
+pushed false waiting x = omega arith
 
 pub returns-clause-waiting : goal.returns-clause-waiting
 returns-clause-waiting g c =
-    let was : c.args.self.now.construction ≡ Some c.in-Some.construction = sym (ap (λ v. v.construction) c.self.view_is) ∙ c.in-Some.is in
-    let before : waiting_in c.args.self.now ≡ length c.in-Some.construction.waiting = ap (λ (o : Option (Construction g.row.B-Item.Denot)). option_map_or (λ v. length v.waiting) o 0) was in
-    let waiting = c.in-Some.construction.waiting in
-    subst (λ n. (n ≤ length c.note.new.self.waiting) × (length c.note.new.self.waiting ≤ n + 1)) (sym before)
-    (subst (λ l. (length waiting ≤ length l) × (length l ≤ length waiting + 1)) (sym (ap (λ v. v.waiting) c.note.ensures.noted))
-    (noted (is_passed (g.B.Item.Item.before First) c.in-Some.construction.merge.reached c.args.item.now) waiting c.args.item.now))
+    let before = g.B.Item.Item.before First in
+    let x = c.args.item.now in
+    let build = c.in-Some.construction in
+    let was : c.args.self.now.construction ≡ Some build = sym (ap (λ v. v.construction) c.self.view_is) ∙ c.in-Some.is in
+    ap (λ v. length v.waiting) c.note.ensures.noted ∙ pushed (is_passed before build.merge.reached x) build.waiting x
+    ∙ sym (ap (λ (o : Option (Construction g.row.B-Item.Denot)). option_map_or (λ v. length v.waiting) o 0
+    + option_map_or (λ v. one_if (is_passed before v.merge.reached x)) o 0) was)
 
 pub invariant_of-self-2 : goal.invariant_of-self-2
 invariant_of-self-2 g c =

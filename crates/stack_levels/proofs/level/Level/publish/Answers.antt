@@ -1,4 +1,4 @@
-use Rattle.std.proofs.Common.{◌≡◌, ◌^◌, ◌∙◌, [], ◌∷◌, ◌++◌, Option, None, length, drop, ap, sym, subst, arith}
+use Rattle.std.proofs.Common.{rules, ◌≡◌, ◌+◌, ◌^◌, ◌∙◌, [], ◌∷◌, ◌++◌, Option, None, length, drop, ap, sym, subst, arith}
 use Rattle.std.specs.Option.{option_map_or}
 use Rattle.partial_build.specs.Construction.{Construction, skipped_of}
 use Rattle.stack_levels.specs.Slots.{ticks_of, waiting_in}
@@ -45,6 +45,8 @@ returns-in-Some-clause-ends g c late =
       none = ap (λ v. v.construction) c.keep_tables.ensures ∙ ap (λ v. v.construction) c.arrive.ensures
           ∙ ap (λ v. v.construction) c.in-Some.ensures.taken;
       retired = o.3 ∙ ap (λ ps. o.0 ∷ o.1 ∷ ps) (sym (c.retire.ensures.retired ∙ ap (drop 2) o.3));
+      tables = ap (λ v. v.tables) c.keep_tables.ensures ∙ ap (λ v. v.tables + 1) c.arrive.ensures ∙ ap (λ v. v.tables + 1) c.in-Some.ensures.taken;
+      kept = search rules;
       live = p.live;
       items = (
         skipped_of c.in-Some.construction.merge.a.table (g.B.Part.Part.contents o.0).items
