@@ -1,15 +1,14 @@
 -- Stacks that are put out of use, and one of their parts that is given up.
-use Rattle.std.proofs.Common.{◌≡◌, ℕ, zero, suc, ◌+◌, ◌-◌, ◌^◌, ◌<◌, ◌≤◌, ◌==◌, ◌∙◌, ◌⊎◌, inl, inr, false, true, ⊎_elim, if◌then◌else◌, nat_lt, List, [], ◌∷◌, ◌++◌, Option, Some, None, All, Contains, length, sum_by, refl, ap, sym, subst, arith}
+use Rattle.std.proofs.Common.{◌≡◌, ℕ, zero, suc, ◌+◌, ◌-◌, ◌<◌, ◌≤◌, ◌==◌, ◌∙◌, ◌⊎◌, inl, inr, false, true, ⊎_elim, nat_lt, List, [], ◌∷◌, ◌++◌, Contains, sum_by, refl, ap, sym, subst, arith}
 use Rattle.std.proofs.lemmas.Bool.{cases_lt}
 use Rattle.std.proofs.lemmas.Bool.Decides.{nat_tests}
 use Rattle.std.proofs.lemmas.Grind.{common_steps}
 use Rattle.std.proofs.lemmas.List.Sums.{sum_by_push}
-use Rattle.std.proofs.lemmas.List.Elements.{All-pop, All-push}
 use Rattle.builder_trait.specs.Parts.{Contents}
-use Rattle.stack_levels.specs.Slots.{Slots, one_if, held_in}
+use Rattle.stack_levels.specs.Slots.{Slots}
 use Rattle.stack_levels.specs.Levels.{held_of}
 use Rattle.level_slots.specs.Stack.{Stacked, memory_of}
-use Rattle.level_slots.specs.Retired.{held_at, parts_at, top_of, IsTakenOver}
+use Rattle.level_slots.specs.Retired.{held_at, parts_at, IsTakenOver}
 use Rattle.global_rebuild.specs.Retiring.{with_retired, IsGivenUp, empty, given}
 
 -- the last of a list is one of it
@@ -50,13 +49,6 @@ module _ {P Item : Type 0} where
   pub with-parts : (k : ℕ) (retired : List (Stacked P Item)) (s : Stacked P Item)
       → sum_by (parts_at k) (with_retired retired s) ≡ sum_by (parts_at k) retired + parts_at k s
   with-parts k retired s = with-both retired s (parts_at k) (parts_at-none k s) refl
-
-  pub with-left : (retired : List (Stacked P Item)) (s : Stacked P Item) → All (λ x. 0 < memory_of x) retired → All (λ x. 0 < memory_of x) (with_retired retired s)
-  with-left retired s left = ⊎_elim
-      (λ some. let yes : nat_lt 0 (memory_of s) ≡ true = grind (arith, nat_tests, some) in
-      rw yes (All-push (λ x. 0 < memory_of x) retired (record s { spare = 0 }) left some))
-      (λ none. let no : nat_lt 0 (memory_of s) ≡ false = grind (arith, nat_tests, none) in rw no left)
-      (cases_lt 0 (memory_of s))
 
   pub with-some : (retired : List (Stacked P Item)) (s s' : Stacked P Item) → s' ≡ record s { spare = 0 } → (memory_of s' == 0) ≡ false
       → retired ++ s' ∷ [] ≡ with_retired retired s

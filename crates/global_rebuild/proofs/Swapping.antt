@@ -1,23 +1,40 @@
 -- A preparation: a walk, a swap where all items are handed over, and memory.
 use Rattle.std.proofs.Common.{◌≡◌, ◌≢◌, ℕ, ◌+◌, ◌-◌, ◌≤◌, ◌∙◌, ◌⊎◌, true, false, ⊎_elim, length, nat_le, Option, Some, None, List, sum_by, refl, ap, sym, subst, arith}
-use Rattle.std.specs.Option.{is_some}
 use Rattle.std.proofs.lemmas.Bool.Decides.{nat_tests}
 use Rattle.builder_trait.specs.Parts.{Contents}
 use Rattle.id_chain.specs.Chain.{Entry}
 use Rattle.stack_levels.specs.Levels.{live_items, weight_of}
 use Rattle.level_slots.specs.Stack.{Stacked, memory_of}
-use Rattle.global_rebuild.specs.Index.{Shadow, Indexed, IsKept, IsIndexOf, IsInTime, live_in, retired_parts, IsWalkedOn, HasPaused}
+use Rattle.global_rebuild.specs.Index.{Shadow, Indexed, HandsOver, IsKept, IsIndexOf, IsInTime, live_in, parts_in, retired_parts, IsWalkedOn, HasPaused}
 use Rattle.global_rebuild.specs.Retiring.{with_retired}
 use Rattle.global_rebuild.proofs.Retiring.{with-memory}
 use Rattle.global_rebuild.proofs.Weights.{walked_few, ended_all}
 
-none_before : {A : Type 0} (a b : Option A) → is_some a ≡ is_some b → a ≡ None → b ≡ None
-none_before a None same none = refl
-none_before a (Some y) same none = let wrong : true ≡ false = sym same ∙ ap is_some none in absurd cc
+-- what was before a walk, in which a shadow was there where one is
+module _ {P Item : Type 0} {contents : P → Contents Item} {most : ℕ} {old i : Indexed P Item} (p : HasPaused contents most old i) where
+  was_none : i.shadow ≡ None → old.shadow ≡ None
+  was_none none = cases old.shadow refl
+    where
+      cases : (o : Option (Shadow P Item)) → old.shadow ≡ o → old.shadow ≡ None
+      cases None is = is
+      cases (Some x) is = let wrong : None ≡ Some (p.going x is).0 = sym none ∙ (p.going x is).1 in absurd cc
 
-some_before : {A : Type 0} {x : A} (a b : Option A) → is_some a ≡ is_some b → a ≡ Some x → (y : A) × (b ≡ Some y)
-some_before {x = x} a None same some = let wrong : true ≡ false = sym (ap is_some some) ∙ same in absurd cc
-some_before a (Some y) same some = (y, refl)
+  pub was_some : (r : Shadow P Item) → i.shadow ≡ Some r → (x : Shadow P Item) × (old.shadow ≡ Some x) × HandsOver contents most x r
+  was_some r there = cases old.shadow refl
+    where
+      cases : (o : Option (Shadow P Item)) → old.shadow ≡ o → (x : Shadow P Item) × (old.shadow ≡ Some x) × HandsOver contents most x r
+      cases None is = let wrong : None ≡ Some r = sym (p.none is) ∙ there in absurd cc
+      cases (Some x) is =
+          let n = p.going x is in
+          let one : n.0 ≡ r = let both : Some n.0 ≡ Some r = sym n.1 ∙ there in cc in (x, is, subst (HandsOver contents most x) one n.2)
+
+  -- it frees nothing
+  pub walked_parts : (k : ℕ) → parts_in k old ≤ parts_in k i
+  walked_parts k = cases old.shadow refl
+    where
+      cases : (o : Option (Shadow P Item)) → old.shadow ≡ o → parts_in k old ≤ parts_in k i
+      cases None is = rw (p.main, p.retired, is, p.none is) (omega arith)
+      cases (Some x) is = let n = p.going x is in rw (p.main, p.retired, is, n.1) (omega (arith, n.2.no_less k))
 
 -- what a swap makes of an index: a shadow that has all items takes the place of the main stack, and nothing else changes anything
 pub data IsSwapped {P Item : Type 0} (i : Indexed P Item) (main : Stacked P Item) (shadow : Option (Shadow P Item)) (retired : List (Stacked P Item)) : Type 0 where
@@ -43,12 +60,8 @@ pub record IsMade {P Item : Type 0} (contents : P → Contents Item) (old new : 
 -- the walk makes `i` of the index, the swap puts three fields in it, and then a retired part is given up and memory is taken
 module _ {P Item : Type 0} {contents : P → Contents Item} {stamp : Item → ℕ} {i : Indexed P Item} {es : List (Entry Item)} {stamps : ℕ}
     {main : Stacked P Item} {shadow : Option (Shadow P Item)} {retired : List (Stacked P Item)} (old new : Indexed P Item) (h : IsIndexOf contents stamp i es stamps) (s : IsSwapped i main shadow retired)
-    (main_is : i.main ≡ old.main) (retired_is : i.retired ≡ old.retired) (runs : is_some i.shadow ≡ is_some old.shadow)
+    (p : HasPaused contents 4 old i)
     (taken : (x r : Shadow P Item) → old.shadow ≡ Some x → i.shadow ≡ Some r → (r.cursor ≡ None) ⊎ (live_in contents r.stack ≡ live_in contents x.stack + 4))
-    (at_most : (x r : Shadow P Item) → old.shadow ≡ Some x → i.shadow ≡ Some r → live_in contents r.stack ≤ live_in contents x.stack + 4)
-    (no_fewer : (x r : Shadow P Item) → old.shadow ≡ Some x → i.shadow ≡ Some r → live_in contents x.stack ≤ live_in contents r.stack)
-    (dead : (x r : Shadow P Item) → old.shadow ≡ Some x → i.shadow ≡ Some r
-    → weight_of r.stack.levels + live_in contents x.stack ≡ weight_of x.stack.levels + live_in contents r.stack)
     (in_time : (r : Shadow P Item) → i.shadow ≡ Some r → r.cursor ≢ None → IsInTime contents 4 i.main r)
     (one : retired_parts new ≡ sum_by memory_of retired - 1)
     (live : live_items contents new.main.levels ≡ live_items contents main.levels) (weight : weight_of new.main.levels ≡ weight_of main.levels)
@@ -58,15 +71,15 @@ module _ {P Item : Type 0} {contents : P → Contents Item} {stamp : Item → �
   gone over r there = let wrong : None ≡ Some r = sym (none over) ∙ there in absurd cc
 
   same_weight : main ≡ i.main → weight_of new.main.levels ≡ weight_of old.main.levels
-  same_weight same = weight ∙ ap (λ m. weight_of m.levels) (same ∙ main_is)
+  same_weight same = weight ∙ ap (λ m. weight_of m.levels) (same ∙ p.main)
 
   one_fewer : retired ≡ i.retired → retired_parts new ≡ retired_parts old - 1
-  one_fewer put = one ∙ ap (λ rs. sum_by memory_of rs - 1) (put ∙ retired_is)
+  one_fewer put = one ∙ ap (λ rs. sum_by memory_of rs - 1) (put ∙ p.retired)
 
   pub made : IsMade contents old new
   made = elim s [
     | quiet at same over put ↦
-        let was = none_before i.shadow old.shadow runs at in
+        let was = was_none p at in
         record {
           on = record {
             walked = rw (none over, was);
@@ -77,20 +90,20 @@ module _ {P Item : Type 0} {contents : P → Contents Item} {stamp : Item → �
           ahead = gone over;
         }
     | going r is at same same' put ↦
-        let x = some_before i.shadow old.shadow runs is in
+        let x = was_some p r is in
         let k = some r same' in
         let fewer = walked_few contents stamp i es h r (h.shadow r is) at in
         let four : live_in contents r.stack ≡ live_in contents x.0.stack + 4 = ⊎_elim (λ over. absurd (at over)) (λ four. four) (taken x.0 r x.1 is) in
         let all : live_in contents new.main ≡ live_in contents i.main = ap length live ∙ ap (live_in contents) same in
         let kept = ap length k.2.live in
-        let total = ap (live_in contents) main_is in
+        let total = ap (live_in contents) p.main in
         let many : nat_le (live_in contents old.main - live_in contents x.0.stack) 4 ≡ false = grind (arith, nat_tests, fewer, four, total) in
         let t = in_time r is at in
         record {
           on = record {
             walked = rw (k.1, x.1, many) (ap Some (omega (arith, all, total, kept, four)));
             weight = rw (x.1, many) (same_weight same);
-            shadow_weight = rw (k.1, x.1, many) (omega (arith, k.2.weight, dead x.0 r x.1 is, four));
+            shadow_weight = rw (k.1, x.1, many) (omega (arith, k.2.weight, x.2.weight, four));
             retired = rw (x.1, many) (one_fewer put);
           };
           ahead = λ r' there.
@@ -105,33 +118,17 @@ module _ {P Item : Type 0} {contents : P → Contents Item} {stamp : Item → �
               );
         }
     | ended r is at same over put ↦
-        let x = some_before i.shadow old.shadow runs is in
+        let x = was_some p r is in
         let all = ended_all contents stamp i es h r (h.shadow r is) at in
-        let total = ap (live_in contents) main_is in
-        let few : nat_le (live_in contents old.main - live_in contents x.0.stack) 4 ≡ true = grind (arith, nat_tests, all, at_most x.0 r x.1 is, total) in
+        let total = ap (live_in contents) p.main in
+        let few : nat_le (live_in contents old.main - live_in contents x.0.stack) 4 ≡ true = grind (arith, nat_tests, all, x.2.at_most, total) in
         record {
           on = record {
             walked = rw (none over, x.1, few);
-            weight = rw (x.1, few)
-                (omega (arith, weight, ap (λ m. weight_of m.levels) same, dead x.0 r x.1 is, no_fewer x.0 r x.1 is, all, total));
+            weight = rw (x.1, few) (omega (arith, weight, ap (λ m. weight_of m.levels) same, x.2.weight, x.2.no_fewer, all, total));
             shadow_weight = rw (none over, x.1, few);
-            retired = rw (x.1, few) (omega (arith, one, ap (sum_by memory_of) put, with-memory i.retired i.main, ap memory_of main_is, ap (sum_by memory_of) retired_is));
+            retired = rw (x.1, few) (omega (arith, one, ap (sum_by memory_of) put, with-memory i.retired i.main, ap memory_of p.main, ap (sum_by memory_of) p.retired));
           };
           ahead = gone over;
         }
   ]
-
--- the walk was refused memory
-pub paused : {P Item : Type 0} {contents : P → Contents Item} (old new : Indexed P Item)
-    → (new.main ≡ old.main) × (new.retired ≡ old.retired) × (is_some new.shadow ≡ is_some old.shadow)
-    → ((r r' : Shadow P Item) → old.shadow ≡ Some r → new.shadow ≡ Some r'
-    → (live_in contents r.stack ≤ live_in contents r'.stack) × (live_in contents r'.stack ≤ live_in contents r.stack + 4))
-    → HasPaused contents old new
-paused old new same handed = record {
-  main = same.0;
-  retired = same.1;
-  none = none_before old.shadow new.shadow (sym same.2);
-  going = λ r there.
-      let x = some_before old.shadow new.shadow (sym same.2) there in
-      let n = handed r x.0 there x.1 in (x.0, x.1, n.0, n.1);
-}

@@ -10,7 +10,8 @@ use Rattle.builder_trait.specs.Parts.{Contents}
 use Rattle.id_chain.specs.Chain.{Entry, is_linked, before, IsCursor, before_cursor}
 use Rattle.stack_levels.specs.Levels.{weight_of}
 use Rattle.level_slots.specs.Stack.{Stacked, memory_of}
-use Rattle.global_rebuild.specs.Index.{Shadow, Indexed, IsShadowOf, IsIndexOf, IsIndex, IsInTime, live_in}
+use Rattle.level_slots.specs.Retired.{parts_at}
+use Rattle.global_rebuild.specs.Index.{Shadow, Indexed, HandsOver, HasPaused, IsShadowOf, IsIndexOf, IsIndex, IsInTime, live_in}
 use Rattle.global_rebuild.proofs.Walking.{item_of}
 
 module _ {Item : Type 0} where
@@ -26,11 +27,7 @@ module _ {Item : Type 0} where
 
 module _ {P Item : Type 0} (contents : P → Contents Item) where
   pub IsIndex-empty : IsIndex contents (record { main = record { levels = []; spare = 0; starters = 0 }; shadow = None; retired = [] })
-  IsIndex-empty = record {
-    quiet = λ none. omega arith;
-    in_time = λ r is. absurd cc;
-    left = All-nil (λ s. 0 < memory_of s);
-  }
+  IsIndex-empty = record { quiet = λ none. omega arith; in_time = λ r is. absurd cc; left = All-nil (λ s. 0 < memory_of s) }
 
   -- only the shadow is another
   pub IsIndex-shadow : (i : Indexed P Item) (r : Shadow P Item) → IsIndex contents i → IsInTime contents 0 i.main r → IsIndex contents (record i { shadow = Some r })
@@ -38,6 +35,17 @@ module _ {P Item : Type 0} (contents : P → Contents Item) where
     quiet = λ none. absurd cc;
     in_time = λ r' is. let one : r ≡ r' = cc in subst (IsInTime contents 0 i.main) one t;
     left = v.left;
+  }
+
+  -- and has taken items
+  pub paused : (i : Indexed P Item) (r r' : Shadow P Item) {most : ℕ} → i.shadow ≡ Some r → HandsOver contents most r r'
+      → HasPaused contents most i (record i { shadow = Some r' })
+  paused i r r' {most} there h = record {
+    main = refl;
+    retired = refl;
+    none = λ none. let wrong : Some r ≡ None = sym there ∙ none in absurd cc;
+    going = λ x is.
+        let one : r ≡ x = let both : Some r ≡ Some x = sym there ∙ is in cc in (r', refl, subst (λ y. HandsOver contents most y r') one h);
   }
 
 module _ {P Item : Type 0} (contents : P → Contents Item) (stamp : Item → ℕ) where
@@ -78,33 +86,38 @@ module _ {P Item : Type 0} (contents : P → Contents Item) (stamp : Item → �
         | inr some ↦ omega (arith, as_walked, as_many, some.1)
       ]
 
+module _ {P Item : Type 0} {contents : P → Contents Item} {r r' : Shadow P Item} {most : ℕ} where
+  pub handed_over : (n : ℕ) → live_in contents r'.stack ≡ live_in contents r.stack + n → weight_of r'.stack.levels ≡ weight_of r.stack.levels + n
+      → ((k : ℕ) → parts_at k r.stack ≤ parts_at k r'.stack) → n ≤ most → HandsOver contents most r r'
+  handed_over n live weight no_less few = record { no_fewer = omega arith; at_most = omega arith; weight = omega arith; no_less = no_less }
+
+  -- a stack that gets items weighs no less
+  pub lighter : {bound : ℕ} → HandsOver contents most r r' → weight_of r'.stack.levels < bound → weight_of r.stack.levels < bound
+  lighter h light = omega arith
+
+  -- some items, and then some more
+  pub handed_then : {a b : ℕ} {mid : Shadow P Item} → HandsOver contents a r mid → HandsOver contents b mid r' → a + b ≤ most → HandsOver contents most r r'
+  handed_then first second few =
+      record { no_fewer = omega arith; at_most = omega arith; weight = omega arith; no_less = λ k. omega (arith, first.no_less k, second.no_less k) }
+
 -- a shadow that is in time
 module _ {P Item : Type 0} {contents : P → Contents Item} {main : Stacked P Item} {r : Shadow P Item} (t : IsInTime contents 0 main r) where
   pub shadow_light : live_in contents main < 2 ^ 29 → weight_of r.stack.levels + 4 ≤ 2 ^ 31
   shadow_light few = omega (arith, t.few, t.shadow_light, few)
 
-  module _ (r' : Shadow P Item) (dead : weight_of r'.stack.levels + live_in contents r.stack ≡ weight_of r.stack.levels + live_in contents r'.stack) where
+  module _ {r' : Shadow P Item} {most : ℕ} (h : HandsOver contents most r r') where
     -- it doesn't weigh much more after some more inserts
-    pub shadow_within : (g most : ℕ) → most ≤ 4 → live_in contents r'.stack ≤ live_in contents r.stack + most → 2 * live_in contents main + 10 < 2 ^ (g + 1)
-        → weight_of r'.stack.levels < 2 ^ (g + 1)
-    shadow_within g most little few light = omega (arith, little, t.few, t.shadow_light, few, dead, light)
+    pub shadow_within : (g : ℕ) → most ≤ 4 → 2 * live_in contents main + 10 < 2 ^ (g + 1) → weight_of r'.stack.levels < 2 ^ (g + 1)
+    shadow_within g little light = omega arith
 
     -- it stays in time while it takes items
-    pub in_time-walked : live_in contents r'.stack ≤ live_in contents main → weight_of r.stack.levels ≤ weight_of r'.stack.levels → IsInTime contents 0 main r'
-    in_time-walked few heavier = record {
-      few = few;
-      main_light = omega (arith, t.main_light, dead, heavier);
-      shadow_light = omega (arith, t.shadow_light, dead, heavier, few);
-    }
+    pub in_time-walked : live_in contents r'.stack ≤ live_in contents main → IsInTime contents 0 main r'
+    in_time-walked few = record { few = few; main_light = omega arith; shadow_light = omega arith }
 
     -- and is ahead some inserts later, where items are left
-    pub in_time-ahead : (most : ℕ) → live_in contents r'.stack < live_in contents main → live_in contents r'.stack ≡ live_in contents r.stack + most
+    pub in_time-ahead : live_in contents r'.stack < live_in contents main → live_in contents r'.stack ≡ live_in contents r.stack + most
         → IsInTime contents most main r'
-    in_time-ahead most left all = record {
-      few = omega (arith, left);
-      main_light = omega (arith, t.main_light, all, left);
-      shadow_light = omega (arith, t.shadow_light, all, left, dead);
-    }
+    in_time-ahead left all = record { few = omega arith; main_light = omega arith; shadow_light = omega arith }
 
 module _ {P Item : Type 0} {contents : P → Contents Item} {i now : Indexed P Item} (view : i ≡ now) (v : IsIndex contents i) where
   -- the main stack weighs at most twice its live items, and nine

@@ -3,10 +3,11 @@ use Rattle.std.specs.Prelude.{◌≡◌, ℕ, ◌+◌, ◌-◌, ◌*◌, ◌^◌
 use Rattle.std.specs.Option.{is_some, option_map, option_map_or}
 use Rattle.query_laws.specs.Permuted.{Permuted}
 use Rattle.builder_trait.specs.Parts.{Contents}
-use Rattle.id_chain.specs.Chain.{Entry, HandlesDiffer, item_at, IsCursor, before_cursor}
+use Rattle.id_chain.specs.Chain.{Entry, HandlesDiffer, is_linked, item_at, IsCursor, before_cursor}
 use Rattle.id_chain.specs.StampsRise.{StampsRise}
 use Rattle.stack_levels.specs.Slots.{Slots, one_if}
-use Rattle.stack_levels.specs.Levels.{live_items, all_items, weight_of}
+use Rattle.stack_levels.specs.Levels.{live_items, all_items, weight_of, waiting_of, asked}
+use Rattle.stack_levels.specs.Marking.{noted}
 use Rattle.level_slots.specs.Stack.{Stacked, held_by_level, memory_of}
 use Rattle.level_slots.specs.Rooms.{rooms_of, forecast_of}
 use Rattle.level_slots.specs.Retired.{parts_at, top_of, complete_at}
@@ -49,6 +50,10 @@ shadow_weight i = option_map_or (λ r. weight_of r.stack.levels) i.shadow 0
 abbrev pub shadow_rooms : {P Item : Type 0} → Indexed P Item → ℕ
 shadow_rooms i = option_map_or (λ r. rooms_of r.stack) i.shadow 0
 
+-- the items that wait to be marked, in the constructions of either stack
+abbrev pub waiting_of_both : {P Item : Type 0} → Indexed P Item → ℕ
+waiting_of_both i = waiting_of i.main.levels + option_map_or (λ r. waiting_of r.stack.levels) i.shadow 0
+
 -- no memory was taken and none was freed: each stack holds what it held on each level, a shadow that is new holds none, and the
 -- retired stacks are as they were
 pub record HoldsAsMuch {P Item : Type 0} (old new : Indexed P Item) : Type 0 where
@@ -71,6 +76,13 @@ module _ {P Item : Type 0} (contents : P → Contents Item) where
     pub live : live_items contents r'.stack.levels ≡ live_items contents r.stack.levels
     pub items : all_items contents r'.stack.levels ≡ all_items contents r.stack.levels
     pub weight : weight_of r'.stack.levels ≡ weight_of r.stack.levels
+
+  -- a walk handed over so many items at most: each is live and weighs one, and of each level no less is in memory
+  pub record HandsOver (most : ℕ) (old new : Shadow P Item) : Type 0 where
+    pub no_fewer : live_in old.stack ≤ live_in new.stack
+    pub at_most : live_in new.stack ≤ live_in old.stack + most
+    pub weight : weight_of new.stack.levels + live_in old.stack ≡ weight_of old.stack.levels + live_in new.stack
+    pub no_less : (k : ℕ) → parts_at k old.stack ≤ parts_at k new.stack
 
   -- how much of the weight is dead
   abbrev pub dead_in : Stacked P Item → ℕ
@@ -100,13 +112,12 @@ module _ {P Item : Type 0} (contents : P → Contents Item) where
     pub shadow_weight : shadow_weight new ≡ shadow_weight_on old
     pub retired : retired_parts new ≡ retired_parts_on old
 
-  -- a walk that was refused memory: some items were handed over, four at most, and nothing else changed
-  pub record HasPaused (old new : Indexed P Item) : Type 0 where
+  -- a walk that pauses: some items were handed over, so many at most, and nothing else changed
+  pub record HasPaused (most : ℕ) (old new : Indexed P Item) : Type 0 where
     pub main : new.main ≡ old.main
     pub retired : new.retired ≡ old.retired
     pub none : old.shadow ≡ None → new.shadow ≡ None
-    pub going : (r : Shadow P Item) → old.shadow ≡ Some r → (r' : Shadow P Item) × (new.shadow ≡ Some r')
-        × (live_in r.stack ≤ live_in r'.stack) × (live_in r'.stack ≤ live_in r.stack + 4)
+    pub going : (r : Shadow P Item) → old.shadow ≡ Some r → (r' : Shadow P Item) × (new.shadow ≡ Some r') × HandsOver most r r'
 
   -- one part was freed at most, of the highest level t of these levels, and none of another level. None that was complete there had more than 2 ^ t items.
   pub record FreesOneOf (levels : List (Slots P Item)) (old new : Indexed P Item) : Type 0 where
@@ -146,6 +157,15 @@ module _ {P Item : Type 0} (contents : P → Contents Item) where
     pub left : All (λ s. 0 < memory_of s) i.retired
 
   module _ (stamp : Item → ℕ) where
+    -- what a delete asks of a stack that has the item: a mark of each part up to the one in which it lives, and of each construction in which it comes to wait
+    abbrev pub asked_of : (Item → Item → Bool) → Item → Stacked P Item → ℕ
+    asked_of first x s = asked contents stamp (stamp x) s.levels + noted first x contents stamp s.levels
+
+    -- the same of both stacks: of the shadow where the item was handed over, since it stands before the cursor
+    abbrev pub asked_of_both : (Item → Item → Bool) → Item → ℕ → List (Entry Item) → Indexed P Item → ℕ
+    asked_of_both first x handle es i = asked_of first x i.main
+        + option_map_or (λ r. if is_linked handle (before_cursor r.cursor es) then asked_of first x r.stack else 0) i.shadow 0
+
     -- a shadow has the items of a chain before the cursor; those that are dead in it were before the cursor too
     pub record IsShadowOf (r : Shadow P Item) (es : List (Entry Item)) (stamps : ℕ) : Type 0 where
       pub cursor : IsCursor r.cursor es

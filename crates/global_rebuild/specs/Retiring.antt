@@ -1,5 +1,5 @@
 -- Stacks that are put out of use, and one of their parts that is given up.
-use Rattle.std.specs.Prelude.{◌≡◌, ℕ, ◌+◌, ◌-◌, ◌^◌, ◌<◌, ◌≤◌, ◌==◌, ◌++◌, ◌∷◌, [], List, All, if◌then◌else◌, nat_lt, length, sum_by}
+use Rattle.std.specs.Prelude.{◌≡◌, ℕ, ◌+◌, ◌^◌, ◌≤◌, ◌==◌, ◌++◌, ◌∷◌, [], List, All, if◌then◌else◌, nat_lt, length, sum_by}
 use Rattle.builder_trait.specs.Parts.{Contents}
 use Rattle.stack_levels.specs.Slots.{one_if}
 use Rattle.level_slots.specs.Stack.{Stacked, memory_of}

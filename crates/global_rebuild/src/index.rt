@@ -1,7 +1,8 @@
 //! The index.
 ghost use Rattle.std.specs.Prelude.{◌≡◌, ℕ, ◌+◌, ◌-◌, ◌*◌, ◌^◌, ◌<◌, ◌≤◌, ◌⊎◌, ◌++◌, ◌∷◌, [], All, List, None, Some, true, false, if◌then◌else◌, IfOk, IsTrue, IsErr, OnErr, length, vec_capacity, map};
-ghost use Rattle.std.specs.Option.{is_some, option_map, option_map_or};
+ghost use Rattle.std.specs.Option.{option_map, option_map_or};
 ghost use Rattle.query_laws.specs.StepLedger.{Spends};
+ghost use Rattle.query_laws.specs.declared.item.Order.TheVariants.{First};
 ghost use Rattle.id_chain.specs.Chain.{Entry, HandlesDiffer, is_linked, item_at, IsCursor, before_cursor, without_handle};
 ghost use Rattle.stack_levels.specs.Levels.{live_items, all_items, waiting_of, weight_of, parts_of, touches_of};
 ghost use Rattle.level_slots.specs.Stack.{memory_of};
@@ -10,7 +11,7 @@ ghost use Rattle.level_slots.specs.Retired.{parts_at};
 ghost use Rattle.level_slots.specs.Height.{HaveAtMost, AreFew, size_of};
 ghost use Rattle.stack_levels.specs.Cost.{IsWithin, quotas};
 ghost use Rattle.stack_levels.specs.Towers.{AreOnTime, TakeTicks};
-ghost use Rattle.global_rebuild.specs.Index.{Shadow as Walked, live_in, unwalked, shadow_weight, shadow_rooms, parts_in, is_heavy, IsForecast, IsKept, IsInTime, IsIndex, IsIndexOf, IsPrepared, HoldsAsMuch, IsWalkedOn, HasPaused, FreesOne};
+ghost use Rattle.global_rebuild.specs.Index.{Shadow as Walked, live_in, unwalked, shadow_weight, shadow_rooms, is_heavy, IsForecast, IsKept, IsInTime, IsIndex, IsIndexOf, IsPrepared, HoldsAsMuch, HandsOver, IsWalkedOn, HasPaused, FreesOne, waiting_of_both, asked_of_both};
 ghost use Rattle.global_rebuild.specs.Retiring.{with_retired, IsGivenUp};
 
 use crate::shadow::Shadow;
@@ -69,6 +70,7 @@ impl<B: Builder> Index<B> {
     ///
     /// `NoMemory` where it isn't given. The items are as before; some may be handed over, and the rebuild may have ended. Refused or not, no
     /// more than one part is freed.
+    #[tactic(auto, using(crate::proofs::Freeing::paused_frees))]
     pub fn prepare<L: Ledger>(
         &mut self,
         chain: &Chain<B::Item>,
@@ -83,7 +85,7 @@ impl<B: Builder> Index<B> {
         ensures walked { IfOk result (λ _. IsWalkedOn B.Part.Part.contents self.old self.new) }
 
         // No rebuild begins, and none that runs is given up.
-        ensures refused { OnErr result (IsWalkedOn B.Part.Part.contents self.old self.new ⊎ HasPaused B.Part.Part.contents self.old self.new) }
+        ensures refused { OnErr result (IsWalkedOn B.Part.Part.contents self.old self.new ⊎ HasPaused B.Part.Part.contents 4 self.old self.new) }
         ensures frees { FreesOne B.Part.Part.contents self.old self.new }
         ensures quiet { self.old.shadow ≡ None → steps.new ≡ steps.old }
         ensures cost { (g : ℕ) → 2 * live_in B.Part.Part.contents self.old.main + 10 < 2 ^ (g + 1)
@@ -141,10 +143,13 @@ impl<B: Builder> Index<B> {
         requires linked { IsTrue (is_linked handle chain.now.entries) }
         ensures chain { (stamps : ℕ) → IsIndexOf B.Part.Part.contents B.Item.stamp self.old chain.now.entries stamps
             → IsIndexOf B.Part.Part.contents B.Item.stamp self.new (without_handle handle chain.now.entries) stamps }
-        ensures weight { weight_of self.new.main.levels ≡ weight_of self.old.main.levels }
-        ensures shadow_weight { shadow_weight self.new ≡ shadow_weight self.old }
+        ensures weights { (weight_of self.new.main.levels ≡ weight_of self.old.main.levels) × (shadow_weight self.new ≡ shadow_weight self.old) }
         ensures held { HoldsAsMuch self.old self.new }
         ensures ticks { TakeTicks self.old.main.levels self.new.main.levels }
+
+        // A mark for each part that is asked, and for each item that waited and waits no longer.
+        ensures waiting { (item : B.Item) → item_at handle chain.now.entries ≡ Some item → waiting_of_both self.new + steps.new.marks ≡ waiting_of_both self.old
+            + asked_of_both B.Part.Part.contents B.Item.stamp (B.Item.before First) item handle chain.now.entries self.old + steps.old.marks }
         ensures starts { self.old.shadow ≡ None → unwalked B.Part.Part.contents self.new
             ≡ (if is_heavy B.Part.Part.contents self.new.main then Some (live_in B.Part.Part.contents self.new.main) else None) }
         ensures goes_on { (r : Walked B.Part B.Item) → self.old.shadow ≡ Some r → unwalked B.Part.Part.contents self.new
@@ -281,16 +286,10 @@ impl<B: Builder> Index<B> {
         requires chain { (stamps : ℕ) × IsIndexOf B.Part.Part.contents B.Item.stamp self.old chain.now.entries stamps }
         ensures chain { (stamps : ℕ) → IsIndexOf B.Part.Part.contents B.Item.stamp self.old chain.now.entries stamps
             → IsIndexOf B.Part.Part.contents B.Item.stamp self.new chain.now.entries stamps }
-        ensures same { (self.new.main ≡ self.old.main) × (self.new.retired ≡ self.old.retired) × (is_some self.new.shadow ≡ is_some self.old.shadow) }
+        ensures paused { HasPaused B.Part.Part.contents most self.old self.new }
         ensures taken { IfOk result (λ _. (r r' : Walked B.Part B.Item) → self.old.shadow ≡ Some r → self.new.shadow ≡ Some r'
             → (r'.cursor ≡ None) ⊎ (live_in B.Part.Part.contents r'.stack ≡ live_in B.Part.Part.contents r.stack + most)) }
-        ensures handed { (r r' : Walked B.Part B.Item) → self.old.shadow ≡ Some r → self.new.shadow ≡ Some r'
-            → (live_in B.Part.Part.contents r.stack ≤ live_in B.Part.Part.contents r'.stack)
-            × (live_in B.Part.Part.contents r'.stack ≤ live_in B.Part.Part.contents r.stack + most) }
-        ensures no_less { (k : ℕ) → parts_in k self.old ≤ parts_in k self.new }
         ensures quiet { self.old.shadow ≡ None → steps.new ≡ steps.old }
-        ensures dead { (r r' : Walked B.Part B.Item) → self.old.shadow ≡ Some r → self.new.shadow ≡ Some r'
-            → weight_of r'.stack.levels + live_in B.Part.Part.contents r.stack ≡ weight_of r.stack.levels + live_in B.Part.Part.contents r'.stack }
         ensures in_time { IfOk result (λ _. (r' : Walked B.Part B.Item) → self.new.shadow ≡ Some r' → (r'.cursor ≡ None → ⊥)
             → IsInTime B.Part.Part.contents most self.new.main r') }
         ensures cost { (g : ℕ) → 2 * live_in B.Part.Part.contents self.old.main + 10 < 2 ^ (g + 1)

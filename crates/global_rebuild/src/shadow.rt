@@ -1,16 +1,17 @@
 //! The stack that is being made.
 ghost use Rattle.std.specs.Prelude.{◌≡◌, ℕ, ◌+◌, ◌*◌, ◌^◌, ◌<◌, ◌≤◌, [], None, ◌⊎◌, IfOk, IsTrue, Contains, true, false};
 ghost use Rattle.query_laws.specs.Permuted.{Permuted};
+ghost use Rattle.query_laws.specs.declared.item.Order.TheVariants.{First};
 ghost use Rattle.builder_trait.specs.Parts.{without};
 ghost use Rattle.id_chain.specs.Chain.{is_linked, IsCursor, before_cursor};
 ghost use Rattle.id_chain.specs.StampsRise.{StampsRise};
 ghost use Rattle.stack_levels.specs.Slots.{IsPartOf};
-ghost use Rattle.stack_levels.specs.Levels.{weight_of, live_items, all_items};
+ghost use Rattle.stack_levels.specs.Levels.{weight_of, waiting_of, live_items, all_items};
 ghost use Rattle.stack_levels.specs.Cost.{IsWithin, quotas};
 ghost use Rattle.level_slots.specs.Stack.{held_by_level};
 ghost use Rattle.level_slots.specs.Rooms.{rooms_of};
 ghost use Rattle.level_slots.specs.Retired.{parts_at};
-ghost use Rattle.global_rebuild.specs.Index.{live_in, IsForecast, IsShadowOf};
+ghost use Rattle.global_rebuild.specs.Index.{live_in, IsForecast, HandsOver, IsShadowOf, asked_of};
 
 use builder_trait::{Builder, Part};
 use id_chain::{Chain, Handle};
@@ -64,12 +65,7 @@ impl<B: Builder> Shadow<B> {
         ensures ended { self.old.cursor ≡ None → self.new ≡ self.old }
         ensures taken { IfOk result (λ _. (self.new.cursor ≡ None) ⊎ (live_in B.Part.Part.contents self.new.stack
             ≡ live_in B.Part.Part.contents self.old.stack + 1)) }
-        ensures at_most { live_in B.Part.Part.contents self.new.stack ≤ live_in B.Part.Part.contents self.old.stack + 1 }
-        ensures weight { weight_of self.new.stack.levels ≤ weight_of self.old.stack.levels + 1 }
-        ensures no_lighter { weight_of self.old.stack.levels ≤ weight_of self.new.stack.levels }
-        ensures no_less { (k : ℕ) → parts_at k self.old.stack ≤ parts_at k self.new.stack }
-        ensures dead { weight_of self.new.stack.levels + live_in B.Part.Part.contents self.old.stack
-            ≡ weight_of self.old.stack.levels + live_in B.Part.Part.contents self.new.stack }
+        ensures handed { HandsOver B.Part.Part.contents 1 self.old self.new }
         ensures cost { (g : ℕ) → weight_of self.new.stack.levels < 2 ^ (g + 1)
             → IsWithin (quotas B.SLOPE B.BASE 0 g) (2 * g) (B.Part.Part.mark_touches g) steps.old steps.new }
     {
@@ -99,11 +95,7 @@ impl<B: Builder> Shadow<B> {
             → IsShadowOf B.Part.Part.contents B.Item.stamp self.new chain.now.entries stamps }
         ensures taken { IfOk result (λ _. (self.new.cursor ≡ None) ⊎ (live_in B.Part.Part.contents self.new.stack
             ≡ live_in B.Part.Part.contents self.old.stack + most)) }
-        ensures at_most { live_in B.Part.Part.contents self.new.stack ≤ live_in B.Part.Part.contents self.old.stack + most }
-        ensures dead { weight_of self.new.stack.levels + live_in B.Part.Part.contents self.old.stack
-            ≡ weight_of self.old.stack.levels + live_in B.Part.Part.contents self.new.stack }
-        ensures no_lighter { weight_of self.old.stack.levels ≤ weight_of self.new.stack.levels }
-        ensures no_less { (k : ℕ) → parts_at k self.old.stack ≤ parts_at k self.new.stack }
+        ensures handed { HandsOver B.Part.Part.contents most self.old self.new }
         ensures cost { (g : ℕ) → weight_of self.new.stack.levels < 2 ^ (g + 1)
             → IsWithin (most * quotas B.SLOPE B.BASE 0 g) (most * (2 * g)) (B.Part.Part.mark_touches g) steps.old steps.new }
     {
@@ -120,6 +112,8 @@ impl<B: Builder> Shadow<B> {
         requires live { Contains (live_items B.Part.Part.contents self.old.stack.levels) item.now }
         ensures live { Permuted (live_items B.Part.Part.contents self.new.stack.levels)
             (without B.Item.stamp (B.Item.stamp item.now) (live_items B.Part.Part.contents self.old.stack.levels)) }
+        ensures waiting { waiting_of self.new.stack.levels + steps.new.marks ≡ waiting_of self.old.stack.levels
+            + asked_of B.Part.Part.contents B.Item.stamp (B.Item.before First) item.now self.old.stack + steps.old.marks }
         ensures items { IsPartOf (all_items B.Part.Part.contents self.new.stack.levels) (all_items B.Part.Part.contents self.old.stack.levels) }
         ensures weight { weight_of self.new.stack.levels ≡ weight_of self.old.stack.levels }
         ensures cursor { self.new.cursor ≡ self.old.cursor }

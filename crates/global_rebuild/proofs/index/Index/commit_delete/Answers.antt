@@ -1,4 +1,4 @@
-use Rattle.std.proofs.Common.{rules, ◌≡◌, ℕ, ◌+◌, ◌-◌, ◌*◌, ◌^◌, ◌<◌, ◌∙◌, nat_lt, true, Option, Some, None, [], ◌∷◌, ap, sym, arith}
+use Rattle.std.proofs.Common.{rules, ◌≡◌, ℕ, ◌+◌, ◌-◌, ◌*◌, ◌^◌, ◌<◌, ◌∙◌, nat_lt, true, false, Option, Some, None, [], ◌∷◌, ap, sym, arith}
 use Rattle.std.proofs.lemmas.Bool.Decides.{nat_tests}
 use Rattle.id_chain.specs.Chain.{is_linked, before_cursor}
 use Rattle.stack_levels.specs.Levels.{weight_of}
@@ -178,3 +178,33 @@ returns-then-weight-live-clause-starts g c none =
     is_over (weight_of c.delete.new.self.levels) (live_in g.B.Part.Part.contents c.delete.new.self)
     (omega (arith, c.if-weight-live.true, c.weight.ensures.value, c.live.ensures)) in
     rw (c.start.ensures.started, c.new.ensures, heavy) (ap Some (omega arith))
+
+pub returns-then-weight-live-clause-waiting : goal.returns-then-weight-live-clause-waiting
+returns-then-weight-live-clause-waiting g c item at =
+    let is : item ≡ c.item-item.result = cc in
+    let none : c.self.inside.shadow ≡ None = search rules in
+    rw (c.start.ensures.started, c.new.ensures, ← c.self.view_is, none, is) (omega (arith, c.delete.ensures.cost.drained))
+
+pub returns-else-weight-live-clause-waiting : goal.returns-else-weight-live-clause-waiting
+returns-else-weight-live-clause-waiting g c item at =
+    let is : item ≡ c.item-item.result = cc in
+    let none : c.self.inside.shadow ≡ None = search rules in
+    rw (← c.self.view_is, none, is) (omega (arith, c.delete.ensures.cost.drained))
+
+pub returns-then-was_handed_over-clause-waiting : goal.returns-then-was_handed_over-clause-waiting
+returns-then-was_handed_over-clause-waiting g c item at =
+    let is : item ≡ c.item-item.result = cc in
+    let walked : is_linked c.args.handle (before_cursor c.in-Some.shadow.cursor c.args.chain.now.entries) ≡ true = search rules in
+    rw (← c.self.view_is, c.in-Some.is, is, walked) (omega (arith, c.delete.ensures.cost.drained, c.delete-then-was_handed_over.ensures.waiting))
+
+pub returns-then-eq-clause-waiting : goal.returns-then-eq-clause-waiting
+returns-then-eq-clause-waiting g c item at =
+    let is : item ≡ c.item-item.result = cc in
+    let later : is_linked c.args.handle (before_cursor c.in-Some.shadow.cursor c.args.chain.now.entries) ≡ false = search rules in
+    rw (← c.self.view_is, c.in-Some.is, is, later, c.go_to.ensures) (omega (arith, c.delete.ensures.cost.drained))
+
+pub returns-else-eq-clause-waiting : goal.returns-else-eq-clause-waiting
+returns-else-eq-clause-waiting g c item at =
+    let is : item ≡ c.item-item.result = cc in
+    let later : is_linked c.args.handle (before_cursor c.in-Some.shadow.cursor c.args.chain.now.entries) ≡ false = search rules in
+    rw (← c.self.view_is, c.in-Some.is, is, later) (omega (arith, c.delete.ensures.cost.drained))

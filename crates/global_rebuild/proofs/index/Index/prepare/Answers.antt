@@ -1,11 +1,10 @@
-use Rattle.std.proofs.Common.{rules, ◌≡◌, None, ◌<◌, ◌∙◌, Some, All, inl, inr, refl, ap, sym, subst, arith}
+use Rattle.std.proofs.Common.{rules, ◌≡◌, None, ◌∙◌, Some, inl, refl, ap, arith}
 use Rattle.level_slots.proofs.Forecasting.{when_ok, anyway_ok, anyway_err, both_ok}
-use Rattle.level_slots.specs.Stack.{memory_of}
-use Rattle.global_rebuild.specs.Index.{Shadow, FreesOne, none}
+use Rattle.global_rebuild.specs.Index.{Shadow}
 use Rattle.global_rebuild.specs.Retiring.{with_retired}
 use Rattle.global_rebuild.proofs.Retiring.{one_less}
-use Rattle.global_rebuild.proofs.Freeing.{frees, swapped-left}
-use Rattle.global_rebuild.proofs.Swapping.{IsSwapped, ended, not_swapped, IsMade, made, paused}
+use Rattle.global_rebuild.proofs.Freeing.{frees}
+use Rattle.global_rebuild.proofs.Swapping.{IsSwapped, ended, not_swapped, IsMade, made}
 use Rattle.global_rebuild.proofs.index.Index.prepare.Given.{Over}
 use Rattle.global_rebuild.proofs.index.Index.prepare.Goals.{then-has_walked+in_ok-reserve, else-has_walked}
 use Rattle.global_rebuild.proofs.index.Index.prepare.Goals as goal
@@ -31,8 +30,7 @@ made_of : (g : Over) (c : goal.After-take_memory g) → IsMade g.B.Part.Part.con
 made_of g c =
     let w = c.walk.ensures in
     let e = c.take_memory.ensures in
-    made _ _ (w.chain c.requires.chain.0 c.requires.chain.1) (is_swapped g c) w.same.0 w.same.1 w.same.2 c.in_ok-walk.ensures.taken
-    (λ x r was is. (w.handed x r was is).1) (λ x r was is. (w.handed x r was is).0) w.dead c.in_ok-walk.ensures.in_time
+    made _ _ (w.chain c.requires.chain.0 c.requires.chain.1) (is_swapped g c) w.paused (search rules) (search rules)
     (one_less c.give_up.ensures.given) (e.live ∙ c.give_up.ensures.live) (e.weight ∙ c.give_up.ensures.weight) e.none e.some
 
 pub returns-clause-prepared : goal.returns-clause-prepared
@@ -55,15 +53,8 @@ returns-clause-walked g c = anyway_ok c.take_memory.result (made_of g c).on
 pub returns-clause-refused : goal.returns-clause-refused
 returns-clause-refused g c = anyway_err c.take_memory.result (inl (made_of g c).on)
 
-pub returns-in_err-walk-clause-refused : goal.returns-in_err-walk-clause-refused
-returns-in_err-walk-clause-refused g c = anyway_err _ (inr (paused _ _ c.walk.ensures.same c.walk.ensures.handed))
-
 pub returns-clause-frees : goal.returns-clause-frees
 returns-clause-frees g c =
-    let w = c.walk.ensures in
     frees c.args.self.now c.walk.new.self
     (record { main = c.take_memory.new.main; shadow = c.take_memory.new.shadow; retired = c.give_up.new.retired.items }) (is_swapped g c)
-    w.no_less w.same.0 w.same.1 c.give_up.ensures.given refl c.take_memory.ensures.no_less w.same.2 c.take_memory.ensures.none
-
-pub returns-in_err-walk-clause-frees : goal.returns-in_err-walk-clause-frees
-returns-in_err-walk-clause-frees g c = none c.walk.ensures.no_less
+    c.walk.ensures.paused c.give_up.ensures.given refl c.take_memory.ensures.no_less c.take_memory.ensures.none

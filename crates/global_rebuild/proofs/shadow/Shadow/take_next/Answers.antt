@@ -7,6 +7,7 @@ use Rattle.level_slots.specs.Retired.{parts_at}
 use Rattle.level_slots.proofs.GivingUp.{memory-at, same-at}
 use Rattle.global_rebuild.specs.Index.{live_in}
 use Rattle.global_rebuild.proofs.Walking.{IsShadowOf-next}
+use Rattle.global_rebuild.proofs.Weights.{handed_over}
 use Rattle.global_rebuild.proofs.shadow.Shadow.take_next.Given.{Over}
 use Rattle.global_rebuild.proofs.shadow.Shadow.take_next.Goals as goal
 
@@ -15,15 +16,28 @@ more : (g : Over) (c : goal.After-self-1 g) → live_in g.B.Part.Part.contents c
 more g c =
     omega (arith, Permuted-length c.insert.ensures.live, ap length c.in_ok-prepare.ensures.same.live, ap (λ r. live_in g.B.Part.Part.contents r.stack) c.self.view_is)
 
-pub returns-clause-dead : goal.returns-clause-dead
-returns-clause-dead g c =
-    omega (arith, more g c, c.insert.ensures.weight, c.in_ok-prepare.ensures.same.weight, ap (λ r. weight_of r.stack.levels) c.self.view_is)
-
 pub returns-clause-taken : goal.returns-clause-taken
 returns-clause-taken g c = inr (more g c)
 
-pub returns-clause-at_most : goal.returns-clause-at_most
-returns-clause-at_most g c = omega (arith, more g c)
+pub returns-clause-handed : goal.returns-clause-handed
+returns-clause-handed g c =
+    handed_over 1 (more g c)
+    (omega (arith, c.insert.ensures.weight, c.in_ok-prepare.ensures.same.weight, ap (λ r. weight_of r.stack.levels) c.self.view_is))
+    (λ k. omega (
+      arith,
+      memory-at c.self.inside.stack c.prepare.new.self c.in_ok-prepare.ensures.memory k,
+      same-at c.prepare.new.self c.insert.new.self c.insert.ensures.each_level k,
+      ap (λ r. parts_at k r.stack) c.self.view_is,
+    ))
+    (omega arith)
+
+pub returns-in_err-prepare-clause-handed : goal.returns-in_err-prepare-clause-handed
+returns-in_err-prepare-clause-handed g c =
+    let same = c.in_err-prepare.ensures.same in
+    handed_over 0 (omega (arith, ap length same.live, ap (λ r. live_in g.B.Part.Part.contents r.stack) c.self.view_is))
+    (omega (arith, same.weight, ap (λ r. weight_of r.stack.levels) c.self.view_is))
+    (λ k. omega (arith, memory-at c.self.inside.stack c.prepare.new.self c.in_err-prepare.ensures.memory k, ap (λ r. parts_at k r.stack) c.self.view_is))
+    (omega arith)
 
 pub returns-clause-shadow : goal.returns-clause-shadow
 returns-clause-shadow g c stamps rise h =
@@ -36,10 +50,3 @@ returns-clause-shadow g c stamps rise h =
 
 pub returns-clause-cost : goal.returns-clause-cost
 returns-clause-cost g c g' light = c.insert.ensures.cost.within g' light
-
-pub returns-clause-no_less : goal.returns-clause-no_less
-returns-clause-no_less g c k =
-    omega (arith, memory-at c.self.inside.stack c.prepare.new.self c.in_ok-prepare.ensures.memory k, same-at c.prepare.new.self c.insert.new.self c.insert.ensures.each_level k, ap (λ r. parts_at k r.stack) c.self.view_is)
-
-pub returns-in_err-prepare-clause-no_less : goal.returns-in_err-prepare-clause-no_less
-returns-in_err-prepare-clause-no_less g c k = omega (arith, memory-at c.self.inside.stack c.prepare.new.self c.in_err-prepare.ensures.memory k, ap (λ r. parts_at k r.stack) c.self.view_is)

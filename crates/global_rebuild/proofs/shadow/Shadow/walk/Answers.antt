@@ -1,11 +1,9 @@
-use Rattle.std.proofs.Common.{◌≡◌, ℕ, ◌+◌, ◌*◌, ◌<◌, ◌≤◌, ◌∙◌, ⊎_elim, inl, inr, ap, subst, arith}
+use Rattle.std.proofs.Common.{◌≡◌, ℕ, ◌+◌, ◌*◌, ◌≤◌, ◌∙◌, ⊎_elim, inl, inr, ap, subst, arith}
 use Rattle.stack_levels.specs.Cost.{IsWithin, quotas}
 use Rattle.query_laws.specs.StepLedger.{Counts}
 use Rattle.stack_levels.proofs.Spending.{IsWithin-more, IsWithin-then}
+use Rattle.global_rebuild.proofs.Weights.{handed_then, lighter}
 use Rattle.global_rebuild.proofs.shadow.Shadow.walk.Goals as goal
-
-lighter : {a b m : ℕ} → a ≤ b → b < m → a < m
-lighter le lt = omega (arith, le, lt)
 
 times_more : {k m : ℕ} (q : ℕ) → k ≤ m → k * q ≤ m * q
 times_more {k} {m} q few = grind (arith, few)
@@ -26,19 +24,17 @@ loop-taken-preserved g c =
       shadow = λ stamps rise h. e.shadow stamps rise (before.shadow stamps rise h);
       taken = ⊎_elim (λ none. inl (ap (λ r. r.cursor) (e.ended none) ∙ none))
           (λ so_far. ⊎_elim (λ none. inl none) (λ one. inr (omega (arith, one, so_far))) c.in_ok-take_next.ensures.taken) before.taken;
-      at_most = omega (arith, before.at_most, e.at_most);
-      dead = omega (arith, before.dead, e.dead);
-      no_lighter = omega (arith, before.no_lighter, e.no_lighter);
-      no_less = λ k. omega (arith, before.no_less k, e.no_less k);
-      cost = λ g' light. within_then c.loop-taken._taken (quotas g.B.Builder.SLOPE g.B.Builder.BASE 0 g') (2 * g') (before.cost g' (lighter e.no_lighter light)) (e.cost g' light);
+      handed = handed_then before.handed e.handed (omega arith);
+      cost = λ g' light. within_then c.loop-taken._taken (quotas g.B.Builder.SLOPE g.B.Builder.BASE 0 g') (2 * g') (before.cost g' (lighter e.handed light)) (e.cost g' light);
     }
 
 pub returns-in_err-take_next-clause-cost : goal.returns-in_err-take_next-clause-cost
 returns-in_err-take_next-clause-cost g c g' light =
     let e = c.take_next.ensures in
     let few : c.loop-taken._taken + 1 ≤ c.args.most = omega (arith, c.loop-taken-test.true) in
-    IsWithin-more (within_then c.loop-taken._taken (quotas g.B.Builder.SLOPE g.B.Builder.BASE 0 g') (2 * g') (c.loop-taken.invariant.cost g' (lighter e.no_lighter light)) (e.cost g' light))
+    IsWithin-more (within_then c.loop-taken._taken (quotas g.B.Builder.SLOPE g.B.Builder.BASE 0 g') (2 * g') (c.loop-taken.invariant.cost g' (lighter e.handed light)) (e.cost g' light))
     (times_more (quotas g.B.Builder.SLOPE g.B.Builder.BASE 0 g') few) (times_more (2 * g') few) (omega arith)
 
-pub returns-in_err-take_next-clause-no_less : goal.returns-in_err-take_next-clause-no_less
-returns-in_err-take_next-clause-no_less g c k = omega (arith, c.loop-taken.invariant.no_less k, c.take_next.ensures.no_less k)
+pub returns-in_err-take_next-clause-handed : goal.returns-in_err-take_next-clause-handed
+returns-in_err-take_next-clause-handed g c =
+    handed_then c.loop-taken.invariant.handed c.take_next.ensures.handed (omega (arith, c.loop-taken-test.true))

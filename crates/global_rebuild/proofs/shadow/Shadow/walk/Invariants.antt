@@ -1,9 +1,8 @@
-use Rattle.std.proofs.Common.{◌≡◌, ℕ, ◌+◌, ◌*◌, ◌^◌, ◌<◌, ◌≤◌, ◌⊎◌, None}
+use Rattle.std.proofs.Common.{◌≡◌, ℕ, ◌+◌, ◌*◌, ◌^◌, ◌<◌, ◌⊎◌, None}
 use Rattle.id_chain.specs.StampsRise.{StampsRise}
 use Rattle.stack_levels.specs.Levels.{weight_of}
 use Rattle.stack_levels.specs.Cost.{IsWithin, quotas}
-use Rattle.level_slots.specs.Retired.{parts_at}
-use Rattle.global_rebuild.specs.Index.{live_in, IsShadowOf}
+use Rattle.global_rebuild.specs.Index.{live_in, HandsOver, IsShadowOf}
 use Rattle.global_rebuild.proofs.shadow.Shadow.walk.Given as goal
 
 abbrev pub invariant-loop-taken : goal.invariant-loop-taken
@@ -14,10 +13,7 @@ invariant-loop-taken g l =
       shadow : (stamps : ℕ) → StampsRise stamp 0 l.initial.chain.entries stamps
           → IsShadowOf contents stamp l.initial.self l.initial.chain.entries stamps → IsShadowOf contents stamp l.self l.initial.chain.entries stamps;
       taken : (l.self.cursor ≡ None) ⊎ (live_in contents l.self.stack ≡ live_in contents l.initial.self.stack + l._taken);
-      at_most : live_in contents l.self.stack ≤ live_in contents l.initial.self.stack + l._taken;
-      dead : weight_of l.self.stack.levels + live_in contents l.initial.self.stack ≡ weight_of l.initial.self.stack.levels + live_in contents l.self.stack;
-      no_lighter : weight_of l.initial.self.stack.levels ≤ weight_of l.self.stack.levels;
-      no_less : (k : ℕ) → parts_at k l.initial.self.stack ≤ parts_at k l.self.stack;
+      handed : HandsOver contents l._taken l.initial.self l.self;
       cost : (g' : ℕ) → weight_of l.self.stack.levels < 2 ^ (g' + 1)
           → IsWithin (l._taken * quotas g.B.Builder.SLOPE g.B.Builder.BASE 0 g') (l._taken * (2 * g')) (g.B.Part.Part.mark_touches g') l.initial.steps l.steps;
     }
