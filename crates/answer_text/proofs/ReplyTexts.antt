@@ -77,9 +77,9 @@ answer_behind : (answer : AnyAnswer) → answer_word answer ++ ((answer_numbers 
 answer_behind (answers.Counted n) = no_list (codes "count") (spaced_all (n ∷ [])) _ (one (codes "count") n)
 answer_behind (answers.Summed n) = no_list (codes "sum") (spaced_all (n ∷ [])) _ (one (codes "sum") n)
 answer_behind (answers.Listed ids) = ap (λ (z : List ℕ). codes "list" ++ z) (ids_or_none ids)
-answer_behind (answers.Nearest None) = refl
-answer_behind (answers.Nearest (Some found)) = no_list (codes "near") (found_text found) _ refl
-answer_behind (answers.NearestFew found) =
+answer_behind (answers.NearestOne None) = refl
+answer_behind (answers.NearestOne (Some found)) = no_list (codes "near") (found_text found) _ refl
+answer_behind (answers.NearestOnes found) =
     ap (λ (z : List ℕ). codes "nearest" ++ (z ++ none_of found)) (append-nil (flat_map found_text found))
     ∙ ap (λ (z : List ℕ). codes "nearest" ++ z) (founds_or_none found)
 answer_behind (answers.ListedAbove ids) = ap (λ (z : List ℕ). codes "above" ++ z) (ids_or_none ids)

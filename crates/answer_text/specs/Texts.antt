@@ -34,8 +34,8 @@ abbrev pub answer_word : AnyAnswer → List ℕ
 answer_word (answers.Counted n) = codes "count"
 answer_word (answers.Summed n) = codes "sum"
 answer_word (answers.Listed ids) = codes "list"
-answer_word (answers.Nearest found) = codes "near"
-answer_word (answers.NearestFew found) = codes "nearest"
+answer_word (answers.NearestOne found) = codes "near"
+answer_word (answers.NearestOnes found) = codes "nearest"
 answer_word (answers.ListedAbove ids) = codes "above"
 answer_word (answers.Highest peak) = codes "top"
 answer_word (answers.Stabbed ids) = codes "stab"
@@ -67,9 +67,9 @@ abbrev pub answer_numbers : AnyAnswer → List ℕ
 answer_numbers (answers.Counted n) = spaced_all (n ∷ [])
 answer_numbers (answers.Summed n) = spaced_all (n ∷ [])
 answer_numbers (answers.Listed ids) = []
-answer_numbers (answers.Nearest None) = []
-answer_numbers (answers.Nearest (Some found)) = found_text found
-answer_numbers (answers.NearestFew found) = flat_map found_text found
+answer_numbers (answers.NearestOne None) = []
+answer_numbers (answers.NearestOne (Some found)) = found_text found
+answer_numbers (answers.NearestOnes found) = flat_map found_text found
 answer_numbers (answers.ListedAbove ids) = []
 answer_numbers (answers.Highest None) = []
 answer_numbers (answers.Highest (Some peak)) = spaced_all (peak.id ∷ peak.y ∷ [])
@@ -99,8 +99,8 @@ listed_ids _ = []
 -- whether it lists nothing or found nothing
 abbrev pub answers_none : AnyAnswer → Bool
 answers_none (answers.Listed ids) = length ids == 0
-answers_none (answers.Nearest found) = is_none found
-answers_none (answers.NearestFew found) = length found == 0
+answers_none (answers.NearestOne found) = is_none found
+answers_none (answers.NearestOnes found) = length found == 0
 answers_none (answers.ListedAbove ids) = length ids == 0
 answers_none (answers.Highest peak) = is_none peak
 answers_none (answers.Stabbed ids) = length ids == 0

@@ -1,7 +1,7 @@
 // What a command is answered.
 use crate::Refusal;
 use map_questions::AnyAnswer;
-use map_shapes::{Asked, Recent, Shape, Spent};
+use map_shapes::{QuestionCost, Recent, Shape, Spent};
 
 /// What a command is answered, with what it cost.
 #[derive(Drop)]
@@ -9,14 +9,27 @@ pub enum Reply {
     /// A layer was made.
     Made,
     /// An item was added or dropped.
-    Updated { spent: Spent },
+    Updated {
+        spent: Spent,
+    },
     /// An index answered a question.
-    Answered { answer: AnyAnswer, asked: Asked },
-    Got { shape: Shape },
-    Size { n: u64 },
+    Answered {
+        answer: AnyAnswer,
+        asked: QuestionCost,
+    },
+    Got {
+        shape: Shape,
+    },
+    Size {
+        n: u64,
+    },
     /// The newest first.
-    Recent { ids: Recent },
-    Refused { cause: Refusal },
+    Recent {
+        ids: Recent,
+    },
+    Refused {
+        cause: Refusal,
+    },
 }
 
 impl Reply {

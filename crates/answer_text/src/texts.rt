@@ -35,8 +35,8 @@ fn answer_word(answer: &AnyAnswer) -> &'static [u8]
         AnyAnswer::Counted(_) => b"count",
         AnyAnswer::Summed(_) => b"sum",
         AnyAnswer::Listed(_) => b"list",
-        AnyAnswer::Nearest(_) => b"near",
-        AnyAnswer::NearestFew(_) => b"nearest",
+        AnyAnswer::NearestOne(_) => b"near",
+        AnyAnswer::NearestOnes(_) => b"nearest",
         AnyAnswer::ListedAbove(_) => b"above",
         AnyAnswer::Highest(_) => b"top",
         AnyAnswer::Stabbed(_) => b"stab",
@@ -92,8 +92,8 @@ fn answer_ids(answer: &AnyAnswer) -> &[u64]
         }
         AnyAnswer::Counted(_)
         | AnyAnswer::Summed(_)
-        | AnyAnswer::Nearest(_)
-        | AnyAnswer::NearestFew(_)
+        | AnyAnswer::NearestOne(_)
+        | AnyAnswer::NearestOnes(_)
         | AnyAnswer::Highest(_)
         | AnyAnswer::StabCounted(_) => &[],
     }
@@ -128,8 +128,8 @@ fn answers_none(answer: &AnyAnswer) -> bool
         AnyAnswer::Listed(ids) | AnyAnswer::ListedAbove(ids) | AnyAnswer::Stabbed(ids) => {
             ids.as_slice().is_empty()
         }
-        AnyAnswer::Nearest(found) => found.is_none(),
-        AnyAnswer::NearestFew(found) => found.as_slice().is_empty(),
+        AnyAnswer::NearestOne(found) => found.is_none(),
+        AnyAnswer::NearestOnes(found) => found.as_slice().is_empty(),
         AnyAnswer::Highest(peak) => peak.is_none(),
         AnyAnswer::Counted(_) | AnyAnswer::Summed(_) | AnyAnswer::StabCounted(_) => false,
     }

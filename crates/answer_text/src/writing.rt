@@ -13,7 +13,7 @@ use crate::texts::{labelled, listed_ids, none_text, out_of, reply_word, spaced};
 use crate::{Refusal, Reply};
 use map_io::{Sink, WriteFault};
 use map_questions::AnyAnswer;
-use map_shapes::{Asked, Found, Shape, Spent};
+use map_shapes::{Found, QuestionCost, Shape, Spent};
 
 /// Writes a reply's line with its line feed; with the ledger, what it cost stands at its end.
 ///
@@ -68,12 +68,12 @@ fn put_answer_numbers<K: Sink>(
         AnyAnswer::Counted(n) | AnyAnswer::Summed(n) | AnyAnswer::StabCounted(n) => {
             put_numbers(piece, &[*n], sink)
         }
-        AnyAnswer::Nearest(Some(found)) => put_numbers(piece, &[found.id, found.dist], sink),
-        AnyAnswer::NearestFew(found) => put_pairs(piece, found.as_slice(), sink),
+        AnyAnswer::NearestOne(Some(found)) => put_numbers(piece, &[found.id, found.dist], sink),
+        AnyAnswer::NearestOnes(found) => put_pairs(piece, found.as_slice(), sink),
         AnyAnswer::Highest(Some(peak)) => {
             put_numbers(piece, &[peak.id, u64::from(peak.y)], sink)
         }
-        AnyAnswer::Nearest(None)
+        AnyAnswer::NearestOne(None)
         | AnyAnswer::Highest(None)
         | AnyAnswer::Listed(_)
         | AnyAnswer::ListedAbove(_)
@@ -165,7 +165,11 @@ fn put_spent<K: Sink>(piece: &mut Piece, spent: Spent, sink: &mut K) -> Result<(
     put_out_of(piece, b" marks", spent.marks, spent.mark_bound, sink)
 }
 
-fn put_asked<K: Sink>(piece: &mut Piece, asked: Asked, sink: &mut K) -> Result<(), WriteFault>
+fn put_asked<K: Sink>(
+    piece: &mut Piece,
+    asked: QuestionCost,
+    sink: &mut K,
+) -> Result<(), WriteFault>
     requires { length piece.old.items < 64 }
     ensures gathered { OnOk result (Gathers (K.told sink.old) (K.told sink.new) piece.old.items piece.new.items (costs.cost_text (costs.Asking (asked_of asked)))) }
     ensures cut_off { OnErr result (CutOffInPieces (K.told sink.old) (K.told sink.new) (piece.old.items ++ costs.cost_text (costs.Asking (asked_of asked)))) }

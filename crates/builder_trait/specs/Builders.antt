@@ -64,7 +64,7 @@ module _ {Item : Type 0} where
   }
 
 -- what the theorems on parts in levels rest on: the stamps and the two orders of the items, and the slope and the base of the kind
-pub record PartKind (Item : Type 0) : Type 0 where
+pub record PartProfile (Item : Type 0) : Type 0 where
   pub stamp : Item → ℕ
   pub before : Order → Item → Item → Bool
   pub slope : ℕ

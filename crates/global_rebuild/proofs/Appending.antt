@@ -7,9 +7,9 @@ use Rattle.id_chain.specs.Chain.{Entry, HandlesDiffer, item_at, IsCursor}
 use Rattle.id_chain.proofs.Cursors.{before-append, others-append}
 use Rattle.id_chain.proofs.Entries.{Apart-parts, item_at-linked, item_at-split, linked_head}
 use Rattle.id_chain.proofs.Stamps.{StampsRise-append}
-use Rattle.stack_levels.specs.Slots.{IsPartOf}
-use Rattle.stack_levels.specs.Levels.{live_items, all_items, weight_of}
-use Rattle.level_slots.specs.Stack.{Stacked}
+use Rattle.log_levels.specs.Slots.{IsPartOf}
+use Rattle.log_levels.specs.Levels.{live_items, all_items, weight_of}
+use Rattle.log_method.specs.Stack.{Stacked}
 use Rattle.global_rebuild.specs.Index.{Shadow, Indexed, IsShadowOf, IsIndexOf, IsIndex, IsPrepared}
 use Rattle.global_rebuild.proofs.Walking.{Permuted-appended, below-appended, stamp_at-item}
 use Rattle.global_rebuild.proofs.Weights.{IsSoundOf, ended_all}

@@ -11,11 +11,11 @@ use Rattle.id_chain.specs.Chain.{Entry, HandlesDiffer, is_linked, item_at, befor
 use Rattle.id_chain.specs.StampsRise.{StampsRise}
 use Rattle.id_chain.proofs.Entries.{Apart-parts, Apart-without, HandlesDiffer-append, split_at}
 use Rattle.id_chain.proofs.Stamps.{StampsRise-without}
-use Rattle.stack_levels.specs.Slots.{IsPartOf}
-use Rattle.stack_levels.specs.Levels.{live_items, all_items, weight_of}
-use Rattle.level_slots.specs.Stack.{Stacked}
-use Rattle.stack_levels.specs.Cost.{IsWithin}
-use Rattle.stack_levels.proofs.Spending.{IsWithin-more, IsWithin-then}
+use Rattle.log_levels.specs.Slots.{IsPartOf}
+use Rattle.log_levels.specs.Levels.{live_items, all_items, weight_of}
+use Rattle.log_method.specs.Stack.{Stacked}
+use Rattle.log_levels.specs.Cost.{IsWithin}
+use Rattle.log_levels.proofs.Spending.{IsWithin-more, IsWithin-then}
 use Rattle.global_rebuild.specs.Index.{Shadow, Indexed, IsShadowOf, IsIndexOf, IsIndex, IsPrepared, IsInTime, IsQuiet, live_in, stamp_at, unwalked}
 use Rattle.global_rebuild.proofs.Walking.{item_of, All-part}
 use Rattle.global_rebuild.proofs.Forgetting.{items_without, length-without_handle, IsShadowOf-deleted, IsShadowOf-moved, IsShadowOf-after, one_fewer, walked_live}

@@ -13,9 +13,9 @@ use Rattle.id_chain.specs.Chain.{Entry, HandlesDiffer, is_linked, item_at, befor
 use Rattle.id_chain.specs.StampsRise.{StampsRise}
 use Rattle.id_chain.proofs.Entries.{item_at-linked, split_at}
 use Rattle.id_chain.proofs.Cursors.{before-without, before_cursor_next, IsCursor_next, next-without, others-without, up_to_split, without_handle-other}
-use Rattle.stack_levels.specs.Slots.{IsPartOf}
-use Rattle.stack_levels.specs.Levels.{live_items, all_items}
-use Rattle.level_slots.specs.Stack.{Stacked}
+use Rattle.log_levels.specs.Slots.{IsPartOf}
+use Rattle.log_levels.specs.Levels.{live_items, all_items}
+use Rattle.log_method.specs.Stack.{Stacked}
 use Rattle.global_rebuild.specs.Index.{Shadow, IsShadowOf, live_in, stamp_at}
 use Rattle.global_rebuild.proofs.Walking.{item_of, All-part, stamp_at-item, stamp_at-next}
 

@@ -2,8 +2,8 @@
 use Rattle.std.proofs.Common.{◌≡◌, ℕ, ◌+◌, ◌≤◌, ◌∙◌, ◌⊎◌, inl, inr, true, false, List, [], ◌∷◌, ◌++◌, Option, None, Contains, sum_by, refl, ap, sym, subst, arith}
 use Rattle.std.specs.Option.{is_some, option_map_or}
 use Rattle.builder_trait.specs.Parts.{Contents}
-use Rattle.level_slots.specs.Stack.{Stacked}
-use Rattle.level_slots.specs.Retired.{parts_at}
+use Rattle.log_method.specs.Stack.{Stacked}
+use Rattle.log_method.specs.Retired.{parts_at}
 use Rattle.global_rebuild.specs.Index.{Shadow, Indexed, HasPaused, parts_in, FreesOneOf, FreesOne, none, of_main, of_retired}
 use Rattle.global_rebuild.specs.Retiring.{with_retired, IsGivenUp, empty, given}
 use Rattle.global_rebuild.proofs.Retiring.{last-in, with-parts, which}

@@ -5,10 +5,10 @@ use Rattle.std.proofs.lemmas.Bool.Decides.{nat_tests}
 use Rattle.std.proofs.lemmas.Grind.{common_steps}
 use Rattle.std.proofs.lemmas.List.Sums.{sum_by_push}
 use Rattle.builder_trait.specs.Parts.{Contents}
-use Rattle.stack_levels.specs.Slots.{Slots}
-use Rattle.stack_levels.specs.Levels.{held_of}
-use Rattle.level_slots.specs.Stack.{Stacked, memory_of}
-use Rattle.level_slots.specs.Retired.{held_at, parts_at, IsTakenOver}
+use Rattle.log_levels.specs.Slots.{Slots}
+use Rattle.log_levels.specs.Levels.{held_of}
+use Rattle.log_method.specs.Stack.{Stacked, memory_of}
+use Rattle.log_method.specs.Retired.{held_at, parts_at, IsTakenOver}
 use Rattle.global_rebuild.specs.Retiring.{with_retired, IsGivenUp, empty, given}
 
 -- the last of a list is one of it

@@ -3,8 +3,8 @@ use Rattle.std.proofs.Common.{◌≡◌, ◌≢◌, ℕ, ◌+◌, ◌-◌, ◌�
 use Rattle.std.proofs.lemmas.Bool.Decides.{nat_tests}
 use Rattle.builder_trait.specs.Parts.{Contents}
 use Rattle.id_chain.specs.Chain.{Entry}
-use Rattle.stack_levels.specs.Levels.{live_items, weight_of}
-use Rattle.level_slots.specs.Stack.{Stacked, memory_of}
+use Rattle.log_levels.specs.Levels.{live_items, weight_of}
+use Rattle.log_method.specs.Stack.{Stacked, memory_of}
 use Rattle.global_rebuild.specs.Index.{Shadow, Indexed, HandsOver, IsKept, IsIndexOf, IsInTime, live_in, parts_in, retired_parts, IsWalkedOn, HasPaused}
 use Rattle.global_rebuild.specs.Retiring.{with_retired}
 use Rattle.global_rebuild.proofs.Retiring.{with-memory}

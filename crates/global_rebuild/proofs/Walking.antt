@@ -13,9 +13,9 @@ use Rattle.std.proofs.lemmas.List.Sorted.{All-permutation}
 use Rattle.query_laws.specs.Permuted.{Permuted, same_head, composed}
 use Rattle.query_laws.proofs.Permutations.{IsPermutation-from_Permuted, Permuted-append_comm, Permuted-sym}
 use Rattle.builder_trait.specs.Parts.{Contents}
-use Rattle.stack_levels.specs.Slots.{IsPartOf}
-use Rattle.stack_levels.specs.Levels.{live_items, all_items}
-use Rattle.stack_levels.proofs.Marks.{All-first}
+use Rattle.log_levels.specs.Slots.{IsPartOf}
+use Rattle.log_levels.specs.Levels.{live_items, all_items}
+use Rattle.log_levels.proofs.Marks.{All-first}
 use Rattle.global_rebuild.specs.Index.{Shadow, IsShadowOf, stamp_at}
 
 abbrev pub item_of : {Item : Type 0} → Entry Item → Item

@@ -8,9 +8,9 @@ use Rattle.query_laws.specs.Permuted.{nothing}
 use Rattle.query_laws.proofs.Permutations.{Permuted-length}
 use Rattle.builder_trait.specs.Parts.{Contents}
 use Rattle.id_chain.specs.Chain.{Entry, is_linked, before, IsCursor, before_cursor}
-use Rattle.stack_levels.specs.Levels.{weight_of}
-use Rattle.level_slots.specs.Stack.{Stacked, memory_of}
-use Rattle.level_slots.specs.Retired.{parts_at}
+use Rattle.log_levels.specs.Levels.{weight_of}
+use Rattle.log_method.specs.Stack.{Stacked, memory_of}
+use Rattle.log_method.specs.Retired.{parts_at}
 use Rattle.global_rebuild.specs.Index.{Shadow, Indexed, HandsOver, HasPaused, IsShadowOf, IsIndexOf, IsIndex, IsInTime, live_in}
 use Rattle.global_rebuild.proofs.Walking.{item_of}
 

@@ -5,12 +5,12 @@ use Rattle.query_laws.specs.Permuted.{Permuted}
 use Rattle.builder_trait.specs.Parts.{Contents}
 use Rattle.id_chain.specs.Chain.{Entry, HandlesDiffer, is_linked, item_at, IsCursor, before_cursor}
 use Rattle.id_chain.specs.StampsRise.{StampsRise}
-use Rattle.stack_levels.specs.Slots.{Slots, one_if}
-use Rattle.stack_levels.specs.Levels.{live_items, all_items, weight_of, waiting_of, asked}
-use Rattle.stack_levels.specs.Marking.{noted}
-use Rattle.level_slots.specs.Stack.{Stacked, held_by_level, memory_of}
-use Rattle.level_slots.specs.Rooms.{rooms_of, forecast_of}
-use Rattle.level_slots.specs.Retired.{parts_at, top_of, complete_at}
+use Rattle.log_levels.specs.Slots.{Slots, one_if}
+use Rattle.log_levels.specs.Levels.{live_items, all_items, weight_of, waiting_of, parts_asked}
+use Rattle.log_levels.specs.Marking.{noted}
+use Rattle.log_method.specs.Stack.{Stacked, held_by_level, memory_of}
+use Rattle.log_method.specs.Rooms.{rooms_of, forecast_of}
+use Rattle.log_method.specs.Retired.{parts_at, top_of, complete_at}
 
 -- the stack that is being made, and the cursor of the walk along the chain: the handle of the item that comes next
 pub record Shadow (P Item : Type 0) : Type 0 where
@@ -159,7 +159,7 @@ module _ {P Item : Type 0} (contents : P → Contents Item) where
   module _ (stamp : Item → ℕ) where
     -- what a delete asks of a stack that has the item: a mark of each part up to the one in which it lives, and of each construction in which it comes to wait
     abbrev pub asked_of : (Item → Item → Bool) → Item → Stacked P Item → ℕ
-    asked_of first x s = asked contents stamp (stamp x) s.levels + noted first x contents stamp s.levels
+    asked_of first x s = parts_asked contents stamp (stamp x) s.levels + noted first x contents stamp s.levels
 
     -- the same of both stacks: of the shadow where the item was handed over, since it stands before the cursor
     abbrev pub asked_of_both : (Item → Item → Bool) → Item → ℕ → List (Entry Item) → Indexed P Item → ℕ

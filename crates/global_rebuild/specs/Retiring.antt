@@ -1,9 +1,9 @@
 -- Stacks that are put out of use, and one of their parts that is given up.
 use Rattle.std.specs.Prelude.{◌≡◌, ℕ, ◌+◌, ◌^◌, ◌≤◌, ◌==◌, ◌++◌, ◌∷◌, [], List, All, if◌then◌else◌, nat_lt, length, sum_by}
 use Rattle.builder_trait.specs.Parts.{Contents}
-use Rattle.stack_levels.specs.Slots.{one_if}
-use Rattle.level_slots.specs.Stack.{Stacked, memory_of}
-use Rattle.level_slots.specs.Retired.{parts_at, top_of, complete_at}
+use Rattle.log_levels.specs.Slots.{one_if}
+use Rattle.log_method.specs.Stack.{Stacked, memory_of}
+use Rattle.log_method.specs.Retired.{parts_at, top_of, complete_at}
 
 module _ {P Item : Type 0} where
   -- a stack is put out of use after others, where a part of it is in memory

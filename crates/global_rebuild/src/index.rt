@@ -4,20 +4,20 @@ ghost use Rattle.std.specs.Option.{option_map, option_map_or};
 ghost use Rattle.query_laws.specs.StepLedger.{Spends};
 ghost use Rattle.query_laws.specs.declared.item.Order.TheVariants.{First};
 ghost use Rattle.id_chain.specs.Chain.{Entry, HandlesDiffer, is_linked, item_at, IsCursor, before_cursor, without_handle};
-ghost use Rattle.stack_levels.specs.Levels.{live_items, all_items, waiting_of, weight_of, parts_of, touches_of};
-ghost use Rattle.level_slots.specs.Stack.{memory_of};
-ghost use Rattle.level_slots.specs.Rooms.{rooms_of};
-ghost use Rattle.level_slots.specs.Retired.{parts_at};
-ghost use Rattle.level_slots.specs.Height.{HaveAtMost, AreFew, size_of};
-ghost use Rattle.stack_levels.specs.Cost.{IsWithin, quotas};
-ghost use Rattle.stack_levels.specs.Towers.{AreOnTime, TakeTicks};
+ghost use Rattle.log_levels.specs.Levels.{live_items, all_items, waiting_of, weight_of, parts_of, touches_of};
+ghost use Rattle.log_method.specs.Stack.{memory_of};
+ghost use Rattle.log_method.specs.Rooms.{rooms_of};
+ghost use Rattle.log_method.specs.Retired.{parts_at};
+ghost use Rattle.log_method.specs.Height.{HaveAtMost, AreFew, size_of};
+ghost use Rattle.log_levels.specs.Cost.{IsWithin, quotas};
+ghost use Rattle.log_levels.specs.Towers.{AreOnTime, TakeTicks};
 ghost use Rattle.global_rebuild.specs.Index.{Shadow as Walked, live_in, unwalked, shadow_weight, shadow_rooms, is_heavy, IsForecast, IsKept, IsInTime, IsIndex, IsIndexOf, IsPrepared, HoldsAsMuch, HandsOver, IsWalkedOn, HasPaused, FreesOne, waiting_of_both, asked_of_both};
 ghost use Rattle.global_rebuild.specs.Retiring.{with_retired, IsGivenUp};
 
 use crate::shadow::Shadow;
-use builder_trait::{Answers, Asking, Builder, Kinded, Part};
+use builder_trait::{Answers, Asking, Builder, Part, Profiled};
 use id_chain::{Chain, Handle};
-use level_slots::{Retired, Stack};
+use log_method::{Retired, Stack};
 use query_laws::step_ledger::Steps;
 use query_laws::{Item, NoMemory, Question};
 use std::alloc::Global;
@@ -246,7 +246,7 @@ impl<B: Builder> Index<B> {
         ensures value { result ≡ parts_of self.now.main.levels }
 
         // The levels stand as between two ticks, each construction on time, and with at most three parts each.
-        ensures on_time { AreOnTime B.Part.Part.contents ⟦<B as Kinded>⟧.kind self.now.main.levels }
+        ensures on_time { AreOnTime B.Part.Part.contents ⟦<B as Profiled>⟧.profile self.now.main.levels }
         ensures three { All (λ l. length l.parts ≤ 3) self.now.main.levels }
         ensures few { (g : ℕ) → 2 * live_in B.Part.Part.contents self.now.main + 10 < 2 ^ (g + 1) → parts_of self.now.main.levels ≤ 3 * (g + 1) }
         ensures sizes { (g : ℕ) → 2 * live_in B.Part.Part.contents self.now.main + 10 < 2 ^ (g + 1) → HaveAtMost B.Part.Part.contents (2 ^ g) self.now.main.levels }

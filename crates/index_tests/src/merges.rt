@@ -6,7 +6,7 @@ ghost use Rattle.ordered_merge.specs.Merging.{MergesInto};
 use crate::item::Pair;
 use crate::pairs::sealed;
 use builder_trait::flat::FlatBuilder;
-use builder_trait::{Builder, Kinded, Part, part_of_one};
+use builder_trait::{Builder, Part, Profiled, part_of_one};
 use ordered_merge::Merge;
 use query_laws::step_ledger::{SHARES, Steps, blank};
 use query_laws::{Item, NoMemory, Order};
@@ -26,7 +26,7 @@ fn run<B: Builder, L: Ledger>(
 ) -> [bool; 2]
     requires more { 0 < merge.old.left }
     requires valid { (IsPart B.Item.before (B.Part.Part.contents a.now)) × (IsPart B.Item.before (B.Part.Part.contents b.now)) }
-    requires merges { MergesInto B.Part.Part.contents B.progress ⟦<B as Kinded>⟧.kind merge.old a.now b.now builder.old }
+    requires merges { MergesInto B.Part.Part.contents B.progress ⟦<B as Profiled>⟧.profile merge.old a.now b.now builder.old }
     ensures open { (B.progress builder.new).is_sealed ≡ false }
     ensures complete { length (B.progress builder.new).reordered ≡ length (B.progress builder.new).items }
 {

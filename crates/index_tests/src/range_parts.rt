@@ -1,5 +1,5 @@
 //! A part of two points, one of which lies at the last coordinates and dies, and a part of one on its memory.
-ghost use Rattle.range_ranks.specs.Tree.{before};
+ghost use Rattle.range_tree.specs.Tree.{before};
 ghost use Rattle.std.specs.Prelude.{◌≡◌, ◌≢◌, ◌≤◌, ◌<◌, ◌^◌, ◌∷◌, [], IsTrue, IfOk};
 ghost use Rattle.query_laws.specs.declared.item.Order.TheVariants.{First, Second};
 
@@ -8,7 +8,7 @@ use builder_trait::{Answers, Asking, Builder, Part, part_of_one};
 use map_shapes::{CountIn, ListIn, Point, Rect, SumIn};
 use query_laws::step_ledger::{SHARES, Steps, blank};
 use query_laws::{NoMemory, Question};
-use range_ranks::RangeBuilder;
+use range_tree::RangeBuilder;
 use std::alloc::Global;
 use std::marker::Brand;
 use std::sync::ledger::{Blank, Ledger};

@@ -1,11 +1,11 @@
 //! Twelve inserts, a delete after five, and the rooms that are held.
 ghost use Rattle.std.specs.Prelude.{◌≡◌, ◌<◌, ◌≤◌, ◌^◌, [], Contains, IfOk, OnOk};
-ghost use Rattle.stack_levels.specs.Levels.{weight_of, live_items};
+ghost use Rattle.log_levels.specs.Levels.{weight_of, live_items};
 
 use crate::item::Pair;
 use builder_trait::flat::FlatBuilder;
 use builder_trait::{Builder, Part};
-use level_slots::{Retired, Stack};
+use log_method::{Retired, Stack};
 use query_laws::NoMemory;
 use query_laws::step_ledger::{SHARES, Steps, blank};
 use std::alloc::Global;

@@ -4,10 +4,10 @@ use Rattle.std.specs.Option.{option_map_or}
 use Rattle.std.proofs.lemmas.List.Sums.{sum_by-append}
 use Rattle.query_laws.specs.StepLedger.{Counts}
 use Rattle.query_laws.proofs.Counting.{Spends-nothing}
-use Rattle.stack_levels.specs.Cost.{IsWithin}
-use Rattle.stack_levels.proofs.Spending.{IsWithin-of, IsWithin-more, IsWithin-then}
+use Rattle.log_levels.specs.Cost.{IsWithin}
+use Rattle.log_levels.proofs.Spending.{IsWithin-of, IsWithin-more, IsWithin-then}
 use Rattle.global_rebuild.specs.Index.{Indexed}
-use Rattle.map_kinds.specs.Touches.{touches_at}
+use Rattle.map_structures.specs.Touches.{touches_at}
 use Rattle.layer_kinds.specs.Shares.{Rate, Rates, share, IsShared, CostsShares}
 use Rattle.layer_kinds.specs.Indexing.{rates_of}
 

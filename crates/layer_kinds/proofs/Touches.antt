@@ -11,17 +11,17 @@ use Rattle.query_laws.proofs.Permutations.{Permuted-filter, Permuted-length}
 use Rattle.query_laws.specs.StepLedger.{Counts, Spends, AtLapStart, lap_of}
 use Rattle.builder_trait.specs.Parts.{Contents, live_of}
 use Rattle.id_chain.specs.Chain.{Entry}
-use Rattle.stack_levels.specs.Slots.{Slots}
-use Rattle.stack_levels.specs.Slots as slots
-use Rattle.stack_levels.specs.Levels.{parts_of, live_items, touches_of}
-use Rattle.level_slots.specs.Height.{HaveAtMost, AreFew, size_of}
+use Rattle.log_levels.specs.Slots.{Slots}
+use Rattle.log_levels.specs.Slots as slots
+use Rattle.log_levels.specs.Levels.{parts_of, live_items, touches_of}
+use Rattle.log_method.specs.Height.{HaveAtMost, AreFew, size_of}
 use Rattle.global_rebuild.specs.Index.{Indexed, IsIndexOf, live_in}
 use Rattle.global_rebuild.proofs.Weights.{as_many}
-use Rattle.map_kinds.specs.Touches.{PartTouches}
-use Rattle.map_kinds.specs.Touches as kinds
+use Rattle.map_structures.specs.Touches.{PartTouches}
+use Rattle.map_structures.specs.Touches as kinds
 use Rattle.map_model.specs.Cost.{greatest_level, halvings, bounds_at}
 use Rattle.map_model.proofs.Levels.{IsLog-halvings}
-use Rattle.map_shapes.specs.declared.asked.Asked.{Asked}
+use Rattle.map_shapes.specs.declared.question_cost.QuestionCost.{QuestionCost}
 use Rattle.map_model.specs.State as state
 use Rattle.layer_kinds.specs.Indexing.{IsOf}
 use Rattle.layer_kinds.specs.declared.faults.AskFault.{AskFault}
@@ -243,7 +243,7 @@ module _ {Item : Type 0} (stamp : Item → ℕ) (hits : Item → Bool) (touches 
   touching index refusable (Err (ask.Unknown id)) refused of parts spent nothing = absurd refused
   touching index refusable (Err ask.NoMemory) refused of parts spent nothing = few_touches index of parts spent nothing
 
-  pub asked_told : {old new : Counts} (index : Option (Indexed (Contents Item) Item)) (asked : Asked) (most : ℕ) → IsOf (λ part. part) stamp index es stamps
+  pub asked_told : {old new : Counts} (index : Option (Indexed (Contents Item) Item)) (asked : QuestionCost) (most : ℕ) → IsOf (λ part. part) stamp index es stamps
       → is_some index ≡ true → MayBeFew index → MaySpend touches index old new → IfSome index (λ i. asked.parts ≡ parts_of i.main.levels)
       → asked.part_bound ≡ (bounds_at (length es)).parts
       → AtLapStart old → asked.touches ≡ lap_of new.lap_start.touches new.touches

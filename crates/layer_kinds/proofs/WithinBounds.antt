@@ -6,9 +6,9 @@ use Rattle.std.proofs.lemmas.List.Elements.{All-head, All-tail}
 use Rattle.std.proofs.lemmas.List.Sums.{sum_by-cons}
 use Rattle.query_laws.specs.StepLedger.{Counts, AtLapStart, lap_of}
 use Rattle.partial_build.specs.Quota.{quota}
-use Rattle.stack_levels.specs.Cost.{IsWithin, quotas}
-use Rattle.stack_levels.proofs.Spending.{IsWithin-more, IsWithin-then, quotas-first, quotas-fewer}
-use Rattle.map_kinds.specs.Touches.{touches_at}
+use Rattle.log_levels.specs.Cost.{IsWithin, quotas}
+use Rattle.log_levels.proofs.Spending.{IsWithin-more, IsWithin-then, quotas-first, quotas-fewer}
+use Rattle.map_structures.specs.Touches.{touches_at}
 use Rattle.map_model.specs.Cost.{greatest_level, turns_up_to, marks_up_to}
 use Rattle.map_model.proofs.Levels.{IsLog-halvings}
 use Rattle.map_shapes.specs.declared.spent.Spent.{Spent}

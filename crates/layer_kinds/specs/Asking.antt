@@ -1,11 +1,11 @@
 -- What a question to a layer meets and costs.
 use Rattle.std.specs.Prelude.{◌≡◌, ℕ, ◌+◌, ◌*◌, ◌<◌, ◌≤◌, All, Option, None, Some, Result, Ok, Err, length}
 use Rattle.query_laws.specs.StepLedger.{Counts}
-use Rattle.stack_levels.specs.Levels.{parts_of}
+use Rattle.log_levels.specs.Levels.{parts_of}
 use Rattle.global_rebuild.specs.Index.{Indexed}
-use Rattle.map_kinds.specs.Touches.{PartTouches}
+use Rattle.map_structures.specs.Touches.{PartTouches}
 use Rattle.map_model.specs.Cost.{bounds_at}
-use Rattle.map_shapes.specs.declared.asked.Asked.{Asked}
+use Rattle.map_shapes.specs.declared.question_cost.QuestionCost.{QuestionCost}
 use Rattle.layer_kinds.specs.declared.faults.AskFault.{AskFault}
 use Rattle.layer_kinds.specs.declared.faults.AskFault.TheVariants.{NoLayer, WrongKind, NoIndex, Unknown, NoMemory}
 
@@ -19,7 +19,7 @@ abbrev pub most_of : PartTouches → ℕ → ℕ
 most_of touches n = (bounds_at n).parts * touches.part + touches.hit * n + touches.item * (2 * n + 9)
 
 -- A question to n items that is answered costs so many touches at most, and no turn and no mark; how many parts and touches is told.
-pub record IsAsking (n most : ℕ) (asked : Asked) (old new : Counts) : Type 0 where
+pub record IsAsking (n most : ℕ) (asked : QuestionCost) (old new : Counts) : Type 0 where
   pub part_bound : asked.part_bound ≡ (bounds_at n).parts
   pub few_parts : asked.parts ≤ asked.part_bound
   pub some_part : 0 < n → 1 ≤ asked.parts

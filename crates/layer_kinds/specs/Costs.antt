@@ -1,8 +1,8 @@
 -- What a call on a layer costs, by how many indexes it has and how many items.
 use Rattle.std.specs.Prelude.{◌≡◌, ℕ, ◌+◌, ◌*◌, ◌≤◌, Bool, true, Result, Ok, Err}
 use Rattle.query_laws.specs.StepLedger.{Counts}
-use Rattle.stack_levels.specs.Cost.{IsWithin}
-use Rattle.map_kinds.specs.Touches.{touches_at}
+use Rattle.log_levels.specs.Cost.{IsWithin}
+use Rattle.map_structures.specs.Touches.{touches_at}
 use Rattle.map_model.specs.Cost.{bounds_at}
 use Rattle.map_shapes.specs.declared.spent.Spent.{Spent}
 use Rattle.layer_kinds.specs.declared.faults.UpdateFault.{UpdateFault}

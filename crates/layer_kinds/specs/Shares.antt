@@ -2,8 +2,8 @@
 use Rattle.std.specs.Prelude.{ℕ, ◌+◌, ◌*◌, ◌^◌, ◌<◌, ◌≤◌, All, List, Option, IfSome, count_by, sum_by}
 use Rattle.std.specs.Option.{is_some, option_map_or}
 use Rattle.query_laws.specs.StepLedger.{Counts}
-use Rattle.stack_levels.specs.Cost.{IsWithin, quotas}
-use Rattle.map_kinds.specs.Touches.{touches_at}
+use Rattle.log_levels.specs.Cost.{IsWithin, quotas}
+use Rattle.map_structures.specs.Touches.{touches_at}
 
 -- the slope and the base of a kind
 pub record Rate : Type 0 where

@@ -13,8 +13,8 @@ use builder_trait::{Builder, Part};
 use global_rebuild::Index;
 pub use has::{First, Has, Next};
 use id_chain::{Chain, Handle};
-use map_kinds::MapKind;
 use map_shapes::Shaped;
+use map_structures::MapStructure;
 use query_laws::NoMemory;
 use query_laws::step_ledger::Steps;
 use std::alloc::Global;
@@ -81,11 +81,11 @@ pub trait Indexes: Drop + Sized {
 
 /// One index of a layer, where it was named.
 #[derive(Drop)]
-pub struct LayerIndex<B: MapKind> {
+pub struct LayerIndex<B: MapStructure> {
     index: Option<Index<B>>,
 }
 
-impl<B: MapKind> Model for LayerIndex<B> {
+impl<B: MapStructure> Model for LayerIndex<B> {
     ghost use Rattle.std.specs.Prelude.{Option};
     ghost use Rattle.global_rebuild.specs.Index.{Indexed};
 
@@ -94,7 +94,7 @@ impl<B: MapKind> Model for LayerIndex<B> {
     ghost view = { λ l. l.index };
 }
 
-impl<B: MapKind> LayerIndex<B> {
+impl<B: MapStructure> LayerIndex<B> {
     /// An index without items, where it is wanted. It takes no memory.
     pub fn new(alloc: Global, wanted: bool) -> LayerIndex<B>
         ensures there { is_some result ≡ wanted }
@@ -109,7 +109,7 @@ impl<B: MapKind> LayerIndex<B> {
     }
 }
 
-impl<B: MapKind> Indexes for LayerIndex<B>
+impl<B: MapStructure> Indexes for LayerIndex<B>
 where
     B::Item: Shaped,
 {

@@ -9,22 +9,22 @@ use Rattle.map_model.specs.Cost.{bounds_at}
 use Rattle.map_model.specs.Machine.{is_same_kind}
 use Rattle.map_model.specs.Shape.{Kind, Points, Segments}
 use Rattle.map_model.specs.State.{Layer, live_count}
-use Rattle.map_shapes.specs.declared.asked.Asked.{Asked}
+use Rattle.map_shapes.specs.declared.question_cost.QuestionCost.{QuestionCost}
 use Rattle.layer_kinds.specs.declared.faults.AskFault.{AskFault}
 use Rattle.layer_kinds.specs.declared.faults.AskFault.TheVariants as ask
 use Rattle.layer_kinds.specs.Asking as kinds
 use Rattle.layer_kinds.specs.Layered.{IsAskRefusal}
 use Rattle.map_model.specs.Answer.{Question, index_of}
 use Rattle.map_model.specs.Command.{lists_ids}
-use Rattle.stack_levels.specs.Levels.{parts_of}
-use Rattle.stack_levels.specs.Slots.{Slots}
+use Rattle.log_levels.specs.Levels.{parts_of}
+use Rattle.log_levels.specs.Slots.{Slots}
 use Rattle.global_rebuild.specs.Index.{Indexed}
 use Rattle.map_model.specs.Index.{Index, Range, Near, Top, Stab, has}
 use Rattle.map_layers.specs.Costs.{IsAskingIn}
 use Rattle.map_layers.specs.Questions.{IsOfKind, IsRefusal}
 use Rattle.map_layers.specs.Layer.{Held, held_by, parts_held, set_of, IsEveryPart}
 
-pub IsAskingIn-of : (o : Option Layer) (layer : Layer) (found : o ≡ Some layer) {old new : Counts} (most : ℕ → ℕ → ℕ) (asked : Asked)
+pub IsAskingIn-of : (o : Option Layer) (layer : Layer) (found : o ≡ Some layer) {old new : Counts} (most : ℕ → ℕ → ℕ) (asked : QuestionCost)
     → kinds.IsAsking (live_count layer) (most (bounds_at (live_count layer)).level (live_count layer)) asked old new → kinds.IsReading old new → IsAskingIn o most asked old new
 IsAskingIn-of o layer found {old} {new} most asked h reads = subst (λ l. IsAskingIn l most asked old new) (sym found) (record {
   bounds = record {

@@ -8,7 +8,7 @@ use Rattle.std.proofs.Math.Seq.{map-set_same}
 use Rattle.std.proofs.lemmas.List.Folds.{list_any-append}
 use Rattle.std.proofs.lemmas.List.Sums.{sum_by-set}
 use Rattle.std.proofs.lemmas.Slice.Eq.{bytes_eq-Decides}
-use Rattle.stack_levels.proofs.Held.{written}
+use Rattle.log_levels.proofs.Held.{written}
 use Rattle.map_model.specs.State.{Item, layer_named, changed, with_items}
 use Rattle.map_model.specs.Machine.{is_taken}
 use Rattle.map_layers.specs.Layer.{LayerState, name_in, adds_in, items_in, layer_of}

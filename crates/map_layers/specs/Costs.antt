@@ -1,13 +1,13 @@
 -- What a call on the layer of a name costs, where there is one.
 use Rattle.std.specs.Prelude.{◌≡◌, ℕ, ◌+◌, ◌≤◌, Bool, Option, None, Some, Result, length}
 use Rattle.query_laws.specs.StepLedger.{Counts}
-use Rattle.map_kinds.specs.Touches.{PartTouches}
+use Rattle.map_structures.specs.Touches.{PartTouches}
 use Rattle.map_model.specs.State as state
 use Rattle.map_model.specs.State.{live_count}
 use Rattle.map_model.specs.Index.{Index, index_count}
 use Rattle.map_model.specs.Cost.{bounds_at, IsSpent, IsAsked}
 use Rattle.map_shapes.specs.Cost.{spent_of, asked_of}
-use Rattle.map_shapes.specs.declared.asked.Asked.{Asked}
+use Rattle.map_shapes.specs.declared.question_cost.QuestionCost.{QuestionCost}
 use Rattle.map_shapes.specs.declared.spent.Spent.{Spent}
 use Rattle.layer_kinds.specs.declared.faults.AskFault.{AskFault}
 use Rattle.layer_kinds.specs.declared.faults.UpdateFault.{UpdateFault}
@@ -26,7 +26,7 @@ pub record IsTold (layer : state.Layer) (adds : Bool) (spent : Spent) (old new :
   pub marks : new.marks ≡ old.marks + spent.marks
 
 -- A question that is answered costs so many touches at most, and no turn and no mark; how many parts and touches is told.
-pub record IsAsking (layer : state.Layer) (most : ℕ) (asked : Asked) (old new : Counts) : Type 0 where
+pub record IsAsking (layer : state.Layer) (most : ℕ) (asked : QuestionCost) (old new : Counts) : Type 0 where
   pub bounds : IsAsked layer (asked_of asked)
   pub touches : new.touches ≡ old.touches + asked.touches
   pub few_touches : asked.touches ≤ most
@@ -47,7 +47,7 @@ abbrev pub IsToldIn : Option state.Layer → Bool → Spent → Counts → Count
 IsToldIn None adds spent old new = ⊥
 IsToldIn (Some layer) adds spent old new = IsTold layer adds spent old new
 
-abbrev pub IsAskingIn : Option state.Layer → (ℕ → ℕ → ℕ) → Asked → Counts → Counts → Type 0
+abbrev pub IsAskingIn : Option state.Layer → (ℕ → ℕ → ℕ) → QuestionCost → Counts → Counts → Type 0
 IsAskingIn None most asked old new = ⊥
 IsAskingIn (Some layer) most asked old new = IsAsking layer (most_in layer most) asked old new
 

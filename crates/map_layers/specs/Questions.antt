@@ -1,7 +1,7 @@
 -- The questions to a layer, and what they touch.
 use Rattle.std.specs.Prelude.{◌≡◌, ℕ, Bool, true, false, length, Result, Ok, Err, IfOk}
 use Rattle.query_laws.specs.StepLedger.{Counts}
-use Rattle.map_kinds.specs.Touches.{PartTouches}
+use Rattle.map_structures.specs.Touches.{PartTouches}
 use Rattle.map_model.specs.Answer as answers
 use Rattle.map_model.specs.Answer.{Question, Answer, answer_over, index_of, kind_asked}
 use Rattle.map_model.specs.Command.{lists_ids}
@@ -9,17 +9,17 @@ use Rattle.map_model.specs.Cost.{bounds_at}
 use Rattle.map_model.specs.Index.{Index, Range, Near, Top, Stab, has}
 use Rattle.map_model.specs.Machine.{is_same_kind}
 use Rattle.map_model.specs.State as state
-use Rattle.map_shapes.specs.declared.asked.Asked.{Asked}
+use Rattle.map_shapes.specs.declared.question_cost.QuestionCost.{QuestionCost}
 use Rattle.layer_kinds.specs.declared.faults.AskFault.{AskFault}
 use Rattle.layer_kinds.specs.declared.faults.AskFault.TheVariants.{NoLayer, WrongKind, NoIndex, Unknown, NoMemory}
 use Rattle.layer_kinds.specs.Asking.{IsAsking, IsReading, IsTouching, most_of}
-use Rattle.range_ranks.specs.Costs as range
-use Rattle.range_ranks.specs.QuestionLaws as ranges
-use Rattle.kd_nearest.specs.Costs as near
-use Rattle.priority_search.specs.Costs as top
-use Rattle.priority_search.specs.QuestionLaws as tops
-use Rattle.interval_stab.specs.Costs as stab
-use Rattle.interval_stab.specs.QuestionLaws as stabs
+use Rattle.range_tree.specs.Costs as range
+use Rattle.range_tree.specs.QuestionLaws as ranges
+use Rattle.kd_tree.specs.Costs as near
+use Rattle.priority_tree.specs.Costs as top
+use Rattle.priority_tree.specs.QuestionLaws as tops
+use Rattle.interval_tree.specs.Costs as stab
+use Rattle.interval_tree.specs.QuestionLaws as stabs
 use Rattle.map_layers.specs.Layer.{LayerState, items_in, held_by, IsEveryPart}
 
 -- a question, its answer, how many parts were consulted, and how many live items they have
@@ -68,7 +68,7 @@ IsRefusal layer question (Err (Unknown id)) = ⊥
 IsRefusal layer question (Err NoMemory) = IsOfKind layer question true × IsThere layer question true × (lists_ids question ≡ true)
 
 -- A question to a layer is answered over all its items by every complete part of one index, or refused, and so much is touched.
-pub record Asks (layer : LayerState) (question : Question) (result : Result (AnsweredState × Asked) AskFault) (old new : Counts) : Type 0 where
+pub record Asks (layer : LayerState) (question : Question) (result : Result (AnsweredState × QuestionCost) AskFault) (old new : Counts) : Type 0 where
   pub refused : IsRefusal layer.layer question result
   pub answer : IfOk result (λ given. (given.0.question ≡ question) × (given.0.answer ≡ answer_over (items_in layer) question))
   pub every_part : IfOk result (λ given. IsEveryPart (held_by layer.held (index_of question)) given.1.parts

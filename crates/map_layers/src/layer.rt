@@ -19,7 +19,7 @@ ghost use Rattle.map_layers.specs.Costs.{IsCost, IsTold};
 use crate::{Answered, AskFault, NamedIndexes, OverPoints, OverSegments, UpdateFault};
 use layer_kinds::KindLayer;
 use map_questions::AnyQuestion;
-use map_shapes::{Asked, IndexSet, Kind, Name, Recent, Shape, Spent};
+use map_shapes::{IndexSet, Kind, Name, QuestionCost, Recent, Shape, Spent};
 use query_laws::step_ledger::Steps;
 use std::alloc::Global;
 use std::default::MadeWith;
@@ -125,7 +125,7 @@ impl<P: OverPoints, S: OverSegments> Layer<P, S> {
         alloc: Global,
         question: &AnyQuestion,
         steps: &mut Steps<L>,
-    ) -> Result<(Answered, Asked), AskFault>
+    ) -> Result<(Answered, QuestionCost), AskFault>
         requires lap { AtLapStart steps.old }
         ensures { Asks self.now (question_of question.now) result steps.old steps.new }
     {

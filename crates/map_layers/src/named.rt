@@ -16,9 +16,9 @@ ghost use Rattle.map_layers.specs.Questions.{touches_for, most_for, Asks};
 use crate::Answered;
 use builder_trait::{AnsweringRows, Rows};
 use layer_kinds::{AskFault, Has, Indexes, KindLayer, ask_layer};
-use map_kinds::{MapQuestion, MapRows};
 use map_questions::AnyQuestion;
-use map_shapes::{Asked, IndexSet, Shape, Shaped};
+use map_shapes::{IndexSet, QuestionCost, Shape, Shaped};
+use map_structures::{MapQuestion, MapRows};
 use query_laws::step_ledger::Steps;
 use std::alloc::Global;
 use std::sync::ledger::Ledger;
@@ -66,7 +66,7 @@ pub trait AnsweringIndexes: NamedIndexes {
         alloc: Global,
         question: &AnyQuestion,
         steps: &mut Steps<L>,
-    ) -> Result<(Answered, Asked), AskFault>
+    ) -> Result<(Answered, QuestionCost), AskFault>
         requires lap { AtLapStart steps.old }
         ensures { Asks (seen Self.Item.kind Self.Item.item_of Self.held layer.now) (question_of question.now) result steps.old steps.new };
 }
@@ -77,7 +77,7 @@ pub fn ask_of<R: MapRows, At, X: NamedIndexes + Has<R, At>, Q: MapQuestion<R>, L
     alloc: Global,
     question: &Q,
     steps: &mut Steps<L>,
-) -> Result<(Answered, Asked), AskFault>
+) -> Result<(Answered, QuestionCost), AskFault>
 where
     R: AnsweringRows<Q>,
     R::Item: Shaped,

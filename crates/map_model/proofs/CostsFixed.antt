@@ -7,7 +7,7 @@ use Rattle.std.proofs.lemmas.List.{append_cancel_left}
 use Rattle.std.proofs.Math.Nat.{mul-le-mul_left, mul-le-mul_right}
 use Rattle.map_model.specs.Index.{IndexSet, one_if, index_count}
 use Rattle.map_model.specs.State.{Layer, live_count}
-use Rattle.map_model.specs.Cost.{Spent, Asked, Cost, Untold, Updating, Asking, Fits64, IsSpent, IsAsked, out_of, cost_text, greatest_level, bounds_at, turn_bound, mark_bound, part_bound}
+use Rattle.map_model.specs.Cost.{Spent, QuestionCost, Cost, Untold, Updating, Asking, Fits64, IsSpent, IsAsked, out_of, cost_text, greatest_level, bounds_at, turn_bound, mark_bound, part_bound}
 use Rattle.map_model.proofs.Levels.{greatest_level-le}
 use Rattle.map_model.specs.Reply.{Reply, reply_text, reply_line}
 use Rattle.map_model.proofs.RoundTrip.{Is64, own}
@@ -69,13 +69,13 @@ spent_fixed s t hs ht e =
     λ i. record { turns = turns.0 i; turn_bound = turns.1 i; marks = marks.0 i; mark_bound = marks.1 i }
 
 -- what comes behind a question's parts
-abbrev touches_text : Asked → List ℕ
+abbrev touches_text : QuestionCost → List ℕ
 touches_text a = codes "touches " ++ (decimal a.touches ++ 10 ∷ [])
 
-ended_question : (a : Asked) → ended (Asking a) ≡ codes " parts" ++ (out_of a.parts a.part_bound ++ 32 ∷ touches_text a)
+ended_question : (a : QuestionCost) → ended (Asking a) ≡ codes " parts" ++ (out_of a.parts a.part_bound ++ 32 ∷ touches_text a)
 ended_question a = append_assoc (codes " parts" ++ out_of a.parts a.part_bound) (codes " touches " ++ decimal a.touches) (10 ∷ [])
 
-asked_fixed : (a b : Asked) → Fits64 (Asking a) → Fits64 (Asking b) → ended (Asking a) ≡ ended (Asking b) → a ≡ b
+asked_fixed : (a b : QuestionCost) → Fits64 (Asking a) → Fits64 (Asking b) → ended (Asking a) ≡ ended (Asking b) → a ≡ b
 asked_fixed a b ha hb e =
     let opened : out_of a.parts a.part_bound ++ 32 ∷ touches_text a ≡ out_of b.parts b.part_bound ++ 32 ∷ touches_text b = ap (drop 6) (sym (ended_question a) ∙ e ∙ ended_question b) in
     let parts = out_of_end 32 (omega arith) a.parts a.part_bound b.parts b.part_bound (touches_text a) (touches_text b) ha.0 ha.1 hb.0 hb.1 opened in
@@ -129,7 +129,7 @@ spent_fits layer adds spent h =
     let marks : mark_bound layer < 2 ^ 64 = omega (arith, times_at_most (index_count layer.indexes) (bounds_at n).marks few, (bounds_small n).1) in
     (omega (arith, turns, h.turn_bound_told, h.turns_bounded), omega (arith, turns, h.turn_bound_told), omega (arith, marks, h.mark_bound_told, h.marks_bounded), omega (arith, marks, h.mark_bound_told))
 
-pub asked_fits : (layer : Layer) (asked : Asked) → IsAsked layer asked → asked.touches < 2 ^ 64 → Fits64 (Asking asked)
+pub asked_fits : (layer : Layer) (asked : QuestionCost) → IsAsked layer asked → asked.touches < 2 ^ 64 → Fits64 (Asking asked)
 asked_fits layer asked h small =
     let parts : part_bound layer < 2 ^ 64 = omega (arith, (bounds_small (live_count layer)).2) in
     (omega (arith, parts, h.part_bound_told, h.parts_bounded), omega (arith, parts, h.part_bound_told), small)

@@ -11,7 +11,7 @@ pub record Spent : Type 0 where
   pub mark_bound : ℕ
 
 -- of a question: parts asked, with their bound, and touches
-pub record Asked : Type 0 where
+pub record QuestionCost : Type 0 where
   pub parts : ℕ
   pub part_bound : ℕ
   pub touches : ℕ
@@ -19,7 +19,7 @@ pub record Asked : Type 0 where
 pub data Cost : Type 0 where
   Untold : Cost
   Updating : Spent → Cost
-  Asking : Asked → Cost
+  Asking : QuestionCost → Cost
 
 -- ` A/B`
 abbrev pub out_of : ℕ → ℕ → List ℕ
@@ -92,7 +92,7 @@ pub record IsSpent (layer : Layer) (adds : Bool) (spent : Spent) : Type 0 where
   pub add_takes_turns : adds ≡ true → 3 * index_count layer.indexes ≤ spent.turns
 
 -- what a question to a layer may have asked; where the layer has items, at least one part
-pub record IsAsked (layer : Layer) (asked : Asked) : Type 0 where
+pub record IsAsked (layer : Layer) (asked : QuestionCost) : Type 0 where
   pub part_bound_told : asked.part_bound ≡ part_bound layer
   pub parts_bounded : asked.parts ≤ asked.part_bound
   pub some_part : 0 < live_count layer → 1 ≤ asked.parts

@@ -10,7 +10,7 @@ ghost use Rattle.std.specs.List.{starts_with};
 ghost use Rattle.map_model.specs.Text.{lines, one_line};
 ghost use Rattle.map_model.specs.State.{Layer, State, HasDistinctKeys, empty_map};
 ghost use Rattle.map_model.specs.Machine.{step};
-ghost use Rattle.map_model.specs.Cost.{Cost, Spent, Asked, Updating, Asking, Fits64, IsSpent, IsAsked, greatest_level};
+ghost use Rattle.map_model.specs.Cost.{Cost, Spent, QuestionCost, Updating, Asking, Fits64, IsSpent, IsAsked, greatest_level};
 ghost use Rattle.map_model.specs.Reply.{Reply, reply_text, reply_line, is_refusal};
 ghost use Rattle.map_model.specs.Command.{Command};
 ghost use Rattle.map_model.specs.Grammar.{parse};
@@ -84,7 +84,7 @@ pub fn costs_are_fixed()
     ensures fixed { (reply : Reply) (first second : Cost) → Fits64 first → Fits64 second →
         reply_line true reply first ≡ reply_line true reply second → first ≡ second }
     ensures updates { (layer : Layer) (adds : Bool) (spent : Spent) → IsSpent layer adds spent → Fits64 (Updating spent) }
-    ensures questions { (layer : Layer) (asked : Asked) → IsAsked layer asked → asked.touches < 2 ^ 64 → Fits64 (Asking asked) }
+    ensures questions { (layer : Layer) (asked : QuestionCost) → IsAsked layer asked → asked.touches < 2 ^ 64 → Fits64 (Asking asked) }
 {}
 
 /// A command is read from its own line, whatever its numbers within their limits. Made scripts stand on it.

@@ -23,8 +23,8 @@ abbrev pub answer_of : AnyAnswer → model.Answer
 answer_of (answers.Counted n) = model.Counted n
 answer_of (answers.Summed n) = model.Summed n
 answer_of (answers.Listed ids) = model.Listed ids
-answer_of (answers.Nearest found) = model.NearestOne (option_map found_of found)
-answer_of (answers.NearestFew found) = model.NearestOnes (map found_of found)
+answer_of (answers.NearestOne found) = model.NearestOne (option_map found_of found)
+answer_of (answers.NearestOnes found) = model.NearestOnes (map found_of found)
 answer_of (answers.ListedAbove ids) = model.ListedAbove ids
 answer_of (answers.Highest peak) = model.Highest (option_map peak_of peak)
 answer_of (answers.Stabbed ids) = model.Stabbed ids

@@ -11,9 +11,9 @@ pub enum AnyAnswer {
     /// Their identifiers, ascending.
     Listed(IdList),
     /// The point nearest to a place.
-    Nearest(Option<Found>),
+    NearestOne(Option<Found>),
     /// The nearest points, the nearest first.
-    NearestFew(FoundList),
+    NearestOnes(FoundList),
     /// The identifiers of the points that are high enough, ascending.
     ListedAbove(IdList),
     /// The highest point.

@@ -79,7 +79,7 @@ impl OneQuestion for Near {
     }
 
     fn answer(answer: Option<Found>) -> AnyAnswer {
-        AnyAnswer::Nearest(answer)
+        AnyAnswer::NearestOne(answer)
     }
 }
 
@@ -93,7 +93,7 @@ impl OneQuestion for NearK {
     }
 
     fn answer(answer: FoundList) -> AnyAnswer {
-        AnyAnswer::NearestFew(answer)
+        AnyAnswer::NearestOnes(answer)
     }
 }
 

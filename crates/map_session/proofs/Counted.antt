@@ -2,7 +2,7 @@
 use Rattle.std.proofs.Common.{◌≡◌, ◌∙◌, ℕ, ◌+◌, ◌-◌, ◌*◌, ◌≤◌, Bool, true, false, not, ◌&&◌, Option, Some, None, Result, Ok, Err, if◌then◌else◌, refl, sym, ap, subst, arith}
 use Rattle.std.specs.Prelude.{⊤, IfOk}
 use Rattle.query_laws.specs.StepLedger.{Counts, lap_begun}
-use Rattle.map_kinds.specs.Touches.{touches_at}
+use Rattle.map_structures.specs.Touches.{touches_at}
 use Rattle.layer_kinds.specs.declared.faults.AskFault.{AskFault}
 use Rattle.layer_kinds.specs.declared.faults.AskFault.TheVariants as ask
 use Rattle.layer_kinds.specs.declared.faults.UpdateFault.{UpdateFault}
@@ -16,7 +16,7 @@ use Rattle.map_model.specs.Index.{index_count}
 use Rattle.map_model.specs.Machine.{Outcome, step}
 use Rattle.map_model.specs.Reply.{Answered, is_refusal}
 use Rattle.map_model.specs.State.{Layer, State, layer_named, live_count}
-use Rattle.map_shapes.specs.declared.asked.Asked.{Asked}
+use Rattle.map_shapes.specs.declared.question_cost.QuestionCost.{QuestionCost}
 use Rattle.map_shapes.specs.declared.spent.Spent.{Spent}
 use Rattle.map_layers.specs.Costs.{IsCostIn, IsToldIn, IsAskingIn, IsTouchingIn}
 use Rattle.map_layers.specs.Replies.{updated, asked, IsAnswered}
@@ -139,8 +139,8 @@ module _ (old new : State) (command : Command) {before after : Counts} where
         → IfOk result (λ spent. IsToldIn (layer_named (name_of command) old) adding spent (lap_begun before) after) → IsCounted (work_of old command) (update_cost result) before after
     update_counted result is cost told = update_by (layer_named (name_of command) old) refl result (update_accepted old new command result is) cost told
 
-  module _ {T : Type 0} (question : Question) (takes : (layer : Option Layer) → work_in command layer ≡ asking_in question layer) (most : T × Asked → ℕ → ℕ → ℕ) (answer : T × Asked → Answer) where
-    question_by : (o : Option Layer) → layer_named (name_of command) old ≡ o → (result : Result (T × Asked) AskFault) → IsAnswered old command old (asked (λ given. Answered (answer given)) result)
+  module _ {T : Type 0} (question : Question) (takes : (layer : Option Layer) → work_in command layer ≡ asking_in question layer) (most : T × QuestionCost → ℕ → ℕ → ℕ) (answer : T × QuestionCost → Answer) where
+    question_by : (o : Option Layer) → layer_named (name_of command) old ≡ o → (result : Result (T × QuestionCost) AskFault) → IsAnswered old command old (asked (λ given. Answered (answer given)) result)
         → IsTouchingIn o (touches_for question) result (lap_begun before) after → IsReading (lap_begun before) after
         → IfOk result (λ given. IsAskingIn o (most given) given.1 (lap_begun before) after) → IsCounted (work_of old command) (question_cost result) before after
     question_by None is (Ok given) answered touching reads told = absurd told
@@ -158,7 +158,7 @@ module _ (old new : State) (command : Command) {before after : Counts} where
         (sym (accepted_work old new command (Some layer) is (unrefused (takes_memory command) (is_refusal (step old command).reply) answered.0) ∙ takes (Some layer)))
         (reading question layer Untold touching reads tt)
 
-    pub question_counted : (result : Result (T × Asked) AskFault) → IsAnswered old command old (asked (λ given. Answered (answer given)) result)
+    pub question_counted : (result : Result (T × QuestionCost) AskFault) → IsAnswered old command old (asked (λ given. Answered (answer given)) result)
         → IsTouchingIn (layer_named (name_of command) old) (touches_for question) result (lap_begun before) after → IsReading (lap_begun before) after
         → IfOk result (λ given. IsAskingIn (layer_named (name_of command) old) (most given) given.1 (lap_begun before) after) → IsCounted (work_of old command) (question_cost result) before after
     question_counted result answered touching reads told = question_by (layer_named (name_of command) old) refl result answered touching reads told

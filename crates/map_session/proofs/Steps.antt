@@ -10,7 +10,7 @@ use Rattle.map_model.specs.Cost.{Cost, Untold, Asking}
 use Rattle.map_model.specs.Reply.{Reply, Answered, Refused}
 use Rattle.map_model.specs.Machine.{Outcome, step}
 use Rattle.map_model.specs.Output.{Told, AnswersTo, IsCost, adds}
-use Rattle.map_shapes.specs.declared.asked.Asked.{Asked}
+use Rattle.map_shapes.specs.declared.question_cost.QuestionCost.{QuestionCost}
 use Rattle.map_shapes.specs.declared.spent.Spent.{Spent}
 use Rattle.map_shapes.specs.Cost.{asked_of}
 use Rattle.answer_text.specs.declared.reply.Reply as replies
@@ -54,7 +54,7 @@ update_allowed layer adding (Err fault) c c' told = refl
 
 -- ---- questions
 
-asking_allowed : (layer : Option Layer) (most : ℕ → ℕ → ℕ) (c c' : Counts) (answer : Answer) (asked : Asked) (parts : ℕ) → IsAskingIn layer most asked c c'
+asking_allowed : (layer : Option Layer) (most : ℕ → ℕ → ℕ) (c c' : Counts) (answer : Answer) (asked : QuestionCost) (parts : ℕ) → IsAskingIn layer most asked c c'
     → (asked.parts ≤ asked.part_bound → parts ≤ asked.part_bound) → (1 ≤ asked.parts → asked.parts ≤ asked.part_bound → 1 ≤ parts)
     → IsCost layer false (Answered answer) (Asking (record (asked_of asked) { parts = parts }))
 asking_allowed None most c c' answer asked parts asking few some = absurd asking
@@ -65,7 +65,7 @@ asking_allowed (Some layer) most c c' answer asked parts asking few some = recor
 }
 
 -- Of the parts it has only to be told here that they are within the bound, and not none where one was asked.
-pub question_answered : (old : State) (name : List ℕ) (question : Question) (most : ℕ → ℕ → ℕ) (c c' : Counts) (told answer : Answer) (asked : Asked) (parts : ℕ) → told ≡ answer
+pub question_answered : (old : State) (name : List ℕ) (question : Question) (most : ℕ → ℕ → ℕ) (c c' : Counts) (told answer : Answer) (asked : QuestionCost) (parts : ℕ) → told ≡ answer
     → IsAnswered old (Ask name question) old (Answered answer) → IsAskingIn (layer_named name old) most asked c c'
     → (asked.parts ≤ asked.part_bound → parts ≤ asked.part_bound) → (1 ≤ asked.parts → asked.parts ≤ asked.part_bound → 1 ≤ parts)
     → AnswersTo old (Ok (Some (Ask name question))) (record {

@@ -1,7 +1,7 @@
 -- What commands may take, and what was counted for one.
 use Rattle.std.specs.Prelude.{◌≡◌, ℕ, ◌+◌, ◌*◌, ◌≤◌, ⊤, Bool, true, false, Option, Some, None, Ok, Err, if◌then◌else◌}
 use Rattle.query_laws.specs.StepLedger.{Counts, LapStart, lap_begun}
-use Rattle.map_kinds.specs.Touches.{touches_at}
+use Rattle.map_structures.specs.Touches.{touches_at}
 use Rattle.layer_kinds.specs.Asking.{most_of}
 use Rattle.map_layers.specs.Costs.{most_in, IsEveryPartIn}
 use Rattle.map_layers.specs.Layers.{LayersState, named}

@@ -1,7 +1,6 @@
 //! The shapes of a map, the names of its layers, the questions about points in a rectangle, and what replies tell.
 #![tactic(auto)]
 
-mod asked;
 mod count_in;
 mod found;
 mod found_list;
@@ -14,6 +13,7 @@ mod name;
 mod peak;
 mod point;
 mod point_item;
+mod question_cost;
 mod recent;
 mod rect;
 mod segment;
@@ -23,7 +23,6 @@ mod shaped;
 mod spent;
 mod sum_in;
 
-pub use asked::Asked;
 pub use count_in::CountIn;
 pub use found::Found;
 pub use found_list::FoundList;
@@ -36,6 +35,7 @@ pub use name::Name;
 pub use peak::Peak;
 pub use point::Point;
 pub use query_laws::Total;
+pub use question_cost::QuestionCost;
 pub use recent::Recent;
 pub use rect::Rect;
 pub use segment::Segment;

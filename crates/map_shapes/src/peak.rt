@@ -2,7 +2,7 @@
 ghost use Rattle.std.specs.Prelude.{◌≡◌, not};
 ghost use Rattle.map_shapes.specs.Found.{higher_le};
 
-/// A point by its ordinate and its identifier.
+/// A point by its y and its identifier.
 #[derive(Clone, Copy, Debug, PartialEq, Eq)]
 pub struct Peak {
     pub y: u32,

@@ -6,11 +6,11 @@ mod words;
 ghost use Rattle.std.specs.Prelude.{◌≡◌};
 
 use crate::words::{Job, KINDS, LAYERS, Work, command, job_of};
-use interval_stab::StabRows;
-use kd_nearest::KdRows;
-use priority_search::TopRows;
+use interval_tree::StabRows;
+use kd_tree::KdRows;
+use priority_tree::TopRows;
 use query_laws::step_ledger::{SHARES, blank};
-use range_ranks::RangeRows;
+use range_tree::RangeRows;
 use samples::{Failure, Outcome, PlainMap, Spread};
 use std::env;
 use std::marker::Brand;

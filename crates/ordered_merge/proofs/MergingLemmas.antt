@@ -9,7 +9,7 @@ use Rattle.query_laws.specs.Permuted.{nothing}
 use Rattle.query_laws.proofs.Permutations.{Permuted-length}
 use Rattle.query_laws.specs.declared.item.Order.TheVariants.{First, Second}
 use Rattle.builder_trait.specs.Parts.{Contents, IsPart, marked}
-use Rattle.builder_trait.specs.Builders.{PartKind, Progress, begun, FitsFirst, FitsSecond, with_put}
+use Rattle.builder_trait.specs.Builders.{PartProfile, Progress, begun, FitsFirst, FitsSecond, with_put}
 use Rattle.builder_trait.specs.Rebuilding.{live_before, live_reordered_before, flags_reordered}
 use Rattle.builder_trait.proofs.RebuildingLemmas.{placed-at, place_within, live_reordered-more, live_reordered-same, length-reordered, live_before-all, live_reordered_before-all, length-live_reordered_before}
 use Rattle.builder_trait.proofs.Kept.{length-kept_le}
@@ -98,22 +98,22 @@ HasRead-reread m as_wide left level = record {
   level = level;
 }
 
-module _ {Item : Type 0} {kind : PartKind Item} where
+module _ {Item : Type 0} {profile : PartProfile Item} where
   -- what contracts see of it, as the fields are
-  pub Merges-of : {m seen : Merging Item} {part other : Contents Item} {b : Progress Item} → m ≡ seen → Merges kind seen part other b
-      → Merges kind m part other b
-  Merges-of {part = part} {other = other} {b = b} is h = subst (λ r. Merges kind r part other b) (sym is) h
+  pub Merges-of : {m seen : Merging Item} {part other : Contents Item} {b : Progress Item} → m ≡ seen → Merges profile seen part other b
+      → Merges profile m part other b
+  Merges-of {part = part} {other = other} {b = b} is h = subst (λ r. Merges profile r part other b) (sym is) h
 
   -- nothing is read
-  pub Merges-begun : (part other : Contents Item) (n level : ℕ) → AreSources kind.stamp n level part.items other.items
-      → Merges kind (record (unbegun n) { left = 2 * (length part.items + length other.items) }) part other (begun level)
+  pub Merges-begun : (part other : Contents Item) (n level : ℕ) → AreSources profile.stamp n level part.items other.items
+      → Merges profile (record (unbegun n) { left = 2 * (length part.items + length other.items) }) part other (begun level)
   Merges-begun part other n level sources = record {
     sources = sources;
     unsealed = refl;
     to_go = omega arith;
     taking = record {
-      front = none_read (kind.before First) part.items other.items;
-      put = none_put (kind.before First);
+      front = none_read (profile.before First) part.items other.items;
+      put = none_put (profile.before First);
       new_places = λ k n at. absurd cc;
       other_new_places = λ k n at. absurd cc;
       counted = refl;
@@ -121,9 +121,9 @@ module _ {Item : Type 0} {kind : PartKind Item} where
       other_passed = λ k x at. (λ below. absurd (omega arith), λ from. refl);
     };
     retaking = record {
-      front = none_read (kind.before Second) part.reordered other.reordered;
+      front = none_read (profile.before Second) part.reordered other.reordered;
       in_turn = λ some. absurd (omega arith);
-      put = none_put (kind.before Second);
+      put = none_put (profile.before Second);
       placed = refl;
     };
   }
@@ -139,8 +139,8 @@ module _ {Item : Type 0} {kind : PartKind Item} where
       none_put : (order : Item → Item → Bool) → IsMerged order [] [] []
       none_put order = record { rising = λ i j d below within. absurd (omega arith); same_items = nothing }
 
-  module _ {m : Merging Item} {part other : Contents Item} {b : Progress Item} (h : Merges kind m part other b) where
-    pub Merges-swap : Merges kind (swapped m) other part b
+  module _ {m : Merging Item} {part other : Contents Item} {b : Progress Item} (h : Merges profile m part other b) where
+    pub Merges-swap : Merges profile (swapped m) other part b
     Merges-swap = record {
       sources = record {
         fits = h.sources.other_fits;
@@ -169,7 +169,7 @@ module _ {Item : Type 0} {kind : PartKind Item} where
 
     -- items that die leave it as it is: it speaks of no flag
     pub Merges-flags : (flags other_flags : List Bool)
-        → Merges kind m (record part { flags = flags }) (record other { flags = other_flags }) b
+        → Merges profile m (record part { flags = flags }) (record other { flags = other_flags }) b
     Merges-flags flags other_flags = record {
       sources = h.sources;
       unsealed = h.unsealed;
@@ -183,11 +183,11 @@ module _ {Item : Type 0} {kind : PartKind Item} where
       };
     }
 
-    pub Merges-marked : (dead : ℕ) → Merges kind m (marked kind.stamp dead part) other b
-    Merges-marked dead = Merges-flags (marked kind.stamp dead part).flags other.flags
+    pub Merges-marked : (dead : ℕ) → Merges profile m (marked profile.stamp dead part) other b
+    Merges-marked dead = Merges-flags (marked profile.stamp dead part).flags other.flags
 
-    pub Merges-marked_other : (dead : ℕ) → Merges kind m part (marked kind.stamp dead other) b
-    Merges-marked_other dead = Merges-flags part.flags (marked kind.stamp dead other).flags
+    pub Merges-marked_other : (dead : ℕ) → Merges profile m part (marked profile.stamp dead other) b
+    Merges-marked_other dead = Merges-flags part.flags (marked profile.stamp dead other).flags
 
     pub taken_le : m.taken ≤ length m.a.table + length m.b.table
     taken_le =
@@ -200,9 +200,9 @@ module _ {Item : Type 0} {kind : PartKind Item} where
           length-kept_le (length m.b.table) (map is_some m.b.table) other.items,
         )
 
-  module _ {m : Merging Item} {part other : Contents Item} {b : Progress Item} (h : Merges kind m part other b)
-      (order : IsStrictTotalOrder kind.stamp (kind.before First)) (valid : IsPart kind.before part) (other_valid : IsPart kind.before other)
-      (x : Item) (next : IsNext (kind.before First) (length m.a.table) part.items (length m.b.table) other.items x) where
+  module _ {m : Merging Item} {part other : Contents Item} {b : Progress Item} (h : Merges profile m part other b)
+      (order : IsStrictTotalOrder profile.stamp (profile.before First)) (valid : IsPart profile.before part) (other_valid : IsPart profile.before other)
+      (x : Item) (next : IsNext (profile.before First) (length m.a.table) part.items (length m.b.table) other.items x) where
     unfinished : m.a.reread + m.b.reread ≡ 0
     unfinished = by (m.a.reread + m.b.reread) refl
       where
@@ -231,7 +231,7 @@ module _ {Item : Type 0} {kind : PartKind Item} where
     none_placed = nil_from_length b.places (length-placed b.items b.reordered b.places h.retaking.placed ∙ ap length none_reordered)
 
     -- the next item of the first order may be put
-    pub FitsFirst-next : FitsFirst (kind.before First) b x m.taken
+    pub FitsFirst-next : FitsFirst (profile.before First) b x m.taken
     FitsFirst-next = record {
       room = omega (
         arith,
@@ -247,14 +247,14 @@ module _ {Item : Type 0} {kind : PartKind Item} where
     }
 
     -- what does not depend on whether it is live
-    front_more : (e : Option ℕ) → IsFront (kind.before First) (length (m.a.table ++ e ∷ [])) part.items (length m.b.table) other.items
+    front_more : (e : Option ℕ) → IsFront (profile.before First) (length (m.a.table ++ e ∷ [])) part.items (length m.b.table) other.items
     front_more e =
-        subst (λ n. IsFront (kind.before First) n part.items (length m.b.table) other.items) (sym (length_push m.a.table e))
+        subst (λ n. IsFront (profile.before First) n part.items (length m.b.table) other.items) (sym (length_push m.a.table e))
         (IsFront-more order valid.rising other_valid.rising h.taking.front next)
 
-    passed_more : (e : Option ℕ) → PassedBelow (kind.before First) (Some x) (length (m.a.table ++ e ∷ [])) part.items
+    passed_more : (e : Option ℕ) → PassedBelow (profile.before First) (Some x) (length (m.a.table ++ e ∷ [])) part.items
     passed_more e =
-        subst (λ n. PassedBelow (kind.before First) (Some x) n part.items) (sym (length_push m.a.table e))
+        subst (λ n. PassedBelow (profile.before First) (Some x) n part.items) (sym (length_push m.a.table e))
         (PassedBelow-read order valid.rising other_valid.rising h.taking.front next)
 
     to_go_more : (e : Option ℕ) → m.left - 1 + (length (m.a.table ++ e ∷ []) + length m.b.table + (m.a.reread + m.b.reread))
@@ -263,25 +263,25 @@ module _ {Item : Type 0} {kind : PartKind Item} where
         omega (arith, h.to_go, unfinished, length_push m.a.table e, slice_get_within part.items (length m.a.table) x next.here, h.taking.front.within_other)
 
     retaking_same : (e : Option ℕ) (items : List Item) → map (slice_get items) b.places ≡ map Some b.reordered
-        → HasRetaken (kind.before Second) (record { table = m.a.table ++ e ∷ []; reread = m.a.reread }) m.b part other (record b { items = items })
+        → HasRetaken (profile.before Second) (record { table = m.a.table ++ e ∷ []; reread = m.a.reread }) m.b part other (record b { items = items })
     retaking_same e items placed = record {
       front = h.retaking.front;
       in_turn = λ some. absurd (omega (arith, unfinished));
-      put = subst (λ l. IsMerged (kind.before Second) b.reordered l (live_reordered_before m.b.reread (chosen m.b.table other)))
+      put = subst (λ l. IsMerged (profile.before Second) b.reordered l (live_reordered_before m.b.reread (chosen m.b.table other)))
           (reread_none m.a.reread (chosen m.a.table part) (chosen (m.a.table ++ e ∷ []) part) (omega (arith, unfinished)))
           h.retaking.put;
       placed = placed;
     }
 
     -- the item is put, and has its new place
-    Merges-taken : Merges kind (read_a true x m) part other (with_put First x m.taken b)
+    Merges-taken : Merges profile (read_a true x m) part other (with_put First x m.taken b)
     Merges-taken = record {
       sources = h.sources;
       unsealed = h.unsealed;
       to_go = to_go_more (Some m.taken);
       taking = record {
         front = front_more (Some m.taken);
-        put = subst (λ l. IsMerged (kind.before First) (b.items ++ x ∷ []) l (live_before (length m.b.table) (chosen m.b.table other)))
+        put = subst (λ l. IsMerged (profile.before First) (b.items ++ x ∷ []) l (live_before (length m.b.table) (chosen m.b.table other)))
             (sym (live_before-taken m.a.table (Some m.taken) part x refl next.here))
             (IsMerged-more h.taking.put x FitsFirst-next.after);
         new_places = subst (λ n. HasNewPlaces (m.a.table ++ Some n ∷ []) part.items (b.items ++ x ∷ [])) (sym h.taking.counted)
@@ -296,14 +296,14 @@ module _ {Item : Type 0} {kind : PartKind Item} where
     }
 
     -- it is skipped
-    Merges-skipped : Merges kind (read_a false x m) part other b
+    Merges-skipped : Merges profile (read_a false x m) part other b
     Merges-skipped = record {
       sources = h.sources;
       unsealed = h.unsealed;
       to_go = to_go_more None;
       taking = record {
         front = front_more None;
-        put = subst (λ l. IsMerged (kind.before First) b.items l (live_before (length m.b.table) (chosen m.b.table other)))
+        put = subst (λ l. IsMerged (profile.before First) b.items l (live_before (length m.b.table) (chosen m.b.table other)))
             (sym (live_before-skipped m.a.table None part refl)) h.taking.put;
         new_places = HasNewPlaces-skipped m.a.table part.items b.items h.taking.front.within h.taking.new_places;
         other_new_places = h.taking.other_new_places;
@@ -315,25 +315,25 @@ module _ {Item : Type 0} {kind : PartKind Item} where
     }
 
     -- a turn in the first order, at an item of a
-    pub Merges-read : (live : Bool) → Merges kind (read_a live x m) part other (if live then with_put First x m.taken b else b)
+    pub Merges-read : (live : Bool) → Merges profile (read_a live x m) part other (if live then with_put First x m.taken b else b)
     Merges-read true = Merges-taken
     Merges-read false = Merges-skipped
 
     -- the same, as the fields are written
     pub Merges-written : (live : Bool) (room : ℕ) (table : List (Option ℕ)) (n : ℕ) (fresh : Progress Item)
         → room ≡ m.capacity → table ≡ m.a.table ++ new_place live m.taken ∷ [] → n ≡ (if live then m.taken + 1 else m.taken)
-        → fresh ≡ (if live then with_put First x m.taken b else b) → Merges kind (written_a room table n x m) part other fresh
+        → fresh ≡ (if live then with_put First x m.taken b else b) → Merges profile (written_a room table n x m) part other fresh
     Merges-written live room table n fresh as_wide noted counted put =
-        subst (λ p. Merges kind (written_a room table n x m) part other p) (sym put)
+        subst (λ p. Merges profile (written_a room table n x m) part other p) (sym put)
         (Merges-of
         (ap (λ r. written_a r table n x m) as_wide ∙ ap (λ l. written_a m.capacity l n x m) noted
         ∙ ap (λ k. written_a m.capacity (m.a.table ++ new_place live m.taken ∷ []) k x m) counted)
         (Merges-read live))
 
-  module _ {m : Merging Item} {part other : Contents Item} {b : Progress Item} (h : Merges kind m part other b)
-      (order : IsStrictTotalOrder kind.stamp (kind.before Second)) (valid : IsPart kind.before part) (other_valid : IsPart kind.before other)
+  module _ {m : Merging Item} {part other : Contents Item} {b : Progress Item} (h : Merges profile m part other b)
+      (order : IsStrictTotalOrder profile.stamp (profile.before Second)) (valid : IsPart profile.before part) (other_valid : IsPart profile.before other)
       (full : length m.a.table + length m.b.table ≡ length part.items + length other.items)
-      (x : Item) (next : IsNext (kind.before Second) m.a.reread part.reordered m.b.reread other.reordered x) where
+      (x : Item) (next : IsNext (profile.before Second) m.a.reread part.reordered m.b.reread other.reordered x) where
     -- where the first order has read all, the table speaks of the item's place
     full_a : length m.a.table ≡ length part.items
     full_a = omega (arith, full, h.taking.front.within, h.taking.front.within_other)
@@ -349,7 +349,7 @@ module _ {Item : Type 0} {kind : PartKind Item} where
     chosen_at e at = slice_get-map is_some m.a.table (slice_index part.places m.a.reread) ∙ ap (option_map is_some) at
 
     -- the item that the first order took may be put, with its new place
-    pub FitsSecond-next : (n : ℕ) → slice_get m.a.table (slice_index part.places m.a.reread) ≡ Some (Some n) → FitsSecond (kind.before Second) b x n
+    pub FitsSecond-next : (n : ℕ) → slice_get m.a.table (slice_index part.places m.a.reread) ≡ Some (Some n) → FitsSecond (profile.before Second) b x n
     FitsSecond-next n at = record {
       at_place = h.taking.new_places (slice_index part.places m.a.reread) n at ∙ placed-at valid m.a.reread x next.here;
       after = IsAfter-merged order valid.rising_reordered other_valid.rising_reordered h.retaking.front next
@@ -357,15 +357,15 @@ module _ {Item : Type 0} {kind : PartKind Item} where
     }
 
     Merges-reread_to : (fresh : Progress Item) → fresh.items ≡ b.items → fresh.at_level ≡ b.at_level → fresh.is_sealed ≡ b.is_sealed
-        → IsMerged (kind.before Second) fresh.reordered (live_reordered_before (m.a.reread + 1) (chosen m.a.table part))
+        → IsMerged (profile.before Second) fresh.reordered (live_reordered_before (m.a.reread + 1) (chosen m.a.table part))
         (live_reordered_before m.b.reread (chosen m.b.table other))
         → map (slice_get fresh.items) fresh.places ≡ map Some fresh.reordered
-        → Merges kind (reread_a m) part other fresh
+        → Merges profile (reread_a m) part other fresh
     Merges-reread_to fresh items level sealed put placed = record {
-      sources = subst (λ n. AreSources kind.stamp m.capacity n part.items other.items) (sym level) h.sources;
+      sources = subst (λ n. AreSources profile.stamp m.capacity n part.items other.items) (sym level) h.sources;
       unsealed = sealed ∙ h.unsealed;
       to_go = omega (arith, h.to_go, full, reread_below, h.retaking.front.within_other, length-reordered other_valid);
-      taking = subst (λ l. HasTaken (kind.before First) m.a.table m.b.table m.taken m.reached part.items other.items l) (sym items) h.taking;
+      taking = subst (λ l. HasTaken (profile.before First) m.a.table m.b.table m.taken m.reached part.items other.items l) (sym items) h.taking;
       retaking = record {
         front = IsFront-more order valid.rising_reordered other_valid.rising_reordered h.retaking.front next;
         in_turn = λ some. full;
@@ -375,19 +375,19 @@ module _ {Item : Type 0} {kind : PartKind Item} where
     }
 
     Merges-retaken : (n : ℕ) → slice_get m.a.table (slice_index part.places m.a.reread) ≡ Some (Some n)
-        → Merges kind (reread_a m) part other (with_put Second x n b)
+        → Merges profile (reread_a m) part other (with_put Second x n b)
     Merges-retaken n at =
         Merges-reread_to (with_put Second x n b) refl refl refl
-        (subst (λ l. IsMerged (kind.before Second) (b.reordered ++ x ∷ []) l (live_reordered_before m.b.reread (chosen m.b.table other)))
+        (subst (λ l. IsMerged (profile.before Second) (b.reordered ++ x ∷ []) l (live_reordered_before m.b.reread (chosen m.b.table other)))
         (sym (live_reordered-more (IsPart-chosen m.a.table valid full_a) m.a.reread x reread_below (chosen_at (Some n) at) next.here))
         (IsMerged-more h.retaking.put x (FitsSecond-next n at).after))
         (map-append (slice_get b.items) b.places (n ∷ []) ∙ ap (λ l. l ++ slice_get b.items n ∷ []) h.retaking.placed
         ∙ ap (λ o. map Some b.reordered ++ o ∷ []) (FitsSecond-next n at).at_place ∙ sym (map-append Some b.reordered (x ∷ [])))
 
-    Merges-reskipped : slice_get m.a.table (slice_index part.places m.a.reread) ≡ Some None → Merges kind (reread_a m) part other b
+    Merges-reskipped : slice_get m.a.table (slice_index part.places m.a.reread) ≡ Some None → Merges profile (reread_a m) part other b
     Merges-reskipped at =
         Merges-reread_to b refl refl refl
-        (subst (λ l. IsMerged (kind.before Second) b.reordered l (live_reordered_before m.b.reread (chosen m.b.table other)))
+        (subst (λ l. IsMerged (profile.before Second) b.reordered l (live_reordered_before m.b.reread (chosen m.b.table other)))
         (sym (live_reordered-same (IsPart-chosen m.a.table valid full_a) m.a.reread reread_below (chosen_at None at)))
         h.retaking.put)
         h.retaking.placed
@@ -397,24 +397,24 @@ module _ {Item : Type 0} {kind : PartKind Item} where
         (put : (n : ℕ) → slice_get m.a.table (slice_index part.places m.a.reread) ≡ Some (Some n) → fresh ≡ with_put Second x n b)
         (skipped : slice_get m.a.table (slice_index part.places m.a.reread) ≡ Some None → fresh ≡ b) where
       reread_at : (o : Option ℕ) → slice_get m.a.table (slice_index part.places m.a.reread) ≡ Some o
-          → Merges kind (reread_a m) part other fresh × (fresh.at_level ≡ b.at_level)
+          → Merges profile (reread_a m) part other fresh × (fresh.at_level ≡ b.at_level)
       reread_at (Some n) at = (
-        subst (λ p. Merges kind (reread_a m) part other p) (sym (put n at)) (Merges-retaken n at),
+        subst (λ p. Merges profile (reread_a m) part other p) (sym (put n at)) (Merges-retaken n at),
         ap (λ p. p.at_level) (put n at),
       )
       reread_at None at = (
-        subst (λ p. Merges kind (reread_a m) part other p) (sym (skipped at)) (Merges-reskipped at),
+        subst (λ p. Merges profile (reread_a m) part other p) (sym (skipped at)) (Merges-reskipped at),
         ap (λ p. p.at_level) (skipped at),
       )
 
-      pub Merges-reread : Merges kind (reread_a m) part other fresh × (fresh.at_level ≡ b.at_level)
+      pub Merges-reread : Merges profile (reread_a m) part other fresh × (fresh.at_level ≡ b.at_level)
       Merges-reread =
           reread_at (slice_index_or m.a.table (slice_index part.places m.a.reread) None)
           (slice_get-get_or m.a.table (slice_index part.places m.a.reread) None place_noted)
 
-  module _ {m : Merging Item} {part other : Contents Item} {b : Progress Item} (h : Merges kind m part other b)
-      (valid : IsPart kind.before part) (other_valid : IsPart kind.before other) where
-    pub StampsDiffer-reordered : StampsDiffer kind.stamp part.reordered other.reordered
+  module _ {m : Merging Item} {part other : Contents Item} {b : Progress Item} (h : Merges profile m part other b)
+      (valid : IsPart profile.before part) (other_valid : IsPart profile.before other) where
+    pub StampsDiffer-reordered : StampsDiffer profile.stamp part.reordered other.reordered
     StampsDiffer-reordered k l x y at_x at_y =
         h.sources.stamps_differ (slice_index part.places k) (slice_index other.places l) x y (placed-at valid k x at_x) (placed-at other_valid l y at_y)
 
@@ -436,22 +436,22 @@ module _ {Item : Type 0} {kind : PartKind Item} where
       reordered_all_other =
           ap (λ n. live_reordered_before n (chosen m.b.table other)) read_whole.3 ∙ live_reordered_before-all (IsPart-chosen m.b.table other_valid read_whole.1)
 
-      items_all : IsMerged (kind.before First) b.items (taken_of m.a.table part) (taken_of m.b.table other)
+      items_all : IsMerged (profile.before First) b.items (taken_of m.a.table part) (taken_of m.b.table other)
       items_all =
-          subst (λ l. IsMerged (kind.before First) b.items l (taken_of m.b.table other))
+          subst (λ l. IsMerged (profile.before First) b.items l (taken_of m.b.table other))
           (ap (λ n. live_before n (chosen m.a.table part)) read_whole.0 ∙ live_before-all (IsPart-chosen m.a.table valid read_whole.0))
-          (subst (λ l. IsMerged (kind.before First) b.items (live_before (length m.a.table) (chosen m.a.table part)) l)
+          (subst (λ l. IsMerged (profile.before First) b.items (live_before (length m.a.table) (chosen m.a.table part)) l)
           (ap (λ n. live_before n (chosen m.b.table other)) read_whole.1 ∙ live_before-all (IsPart-chosen m.b.table other_valid read_whole.1))
           h.taking.put)
 
       -- the builder holds exactly what the tables took
-      pub IsWhole-ended : IsWhole kind.before m part other b
+      pub IsWhole-ended : IsWhole profile.before m part other b
       IsWhole-ended = record {
         read = read_whole.0;
         other_read = read_whole.1;
         items = items_all;
-        reordered = subst (λ l. IsMerged (kind.before Second) b.reordered l (taken_reordered m.b.table other)) reordered_all
-            (subst (λ l. IsMerged (kind.before Second) b.reordered (live_reordered_before m.a.reread (chosen m.a.table part)) l) reordered_all_other h.retaking.put);
+        reordered = subst (λ l. IsMerged (profile.before Second) b.reordered l (taken_reordered m.b.table other)) reordered_all
+            (subst (λ l. IsMerged (profile.before Second) b.reordered (live_reordered_before m.a.reread (chosen m.a.table part)) l) reordered_all_other h.retaking.put);
         placed = h.retaking.placed;
         as_many = omega (
           arith,

@@ -6,7 +6,7 @@ use Rattle.query_laws.specs.Permuted.{Permuted}
 use Rattle.query_laws.specs.declared.item.Order.{Order}
 use Rattle.query_laws.specs.declared.item.Order.TheVariants.{First, Second}
 use Rattle.builder_trait.specs.Parts.{Contents, IsRising, live_of}
-use Rattle.builder_trait.specs.Builders.{PartKind, Progress}
+use Rattle.builder_trait.specs.Builders.{PartProfile, Progress}
 use Rattle.builder_trait.specs.Rebuilding.{live_reordered_before, flags_reordered}
 
 -- of one part: for each item that the first order has read its new place, or none where it was skipped; and how many items the second order
@@ -118,13 +118,13 @@ module _ {Item : Type 0} where
     pub placed : map (slice_get builder.items) builder.places ≡ map Some builder.reordered
 
   -- the builder holds in both orders what the items read so far give: those that the tables took
-  pub record Merges (kind : PartKind Item) (m : Merging Item) (part other : Contents Item)
+  pub record Merges (profile : PartProfile Item) (m : Merging Item) (part other : Contents Item)
       (b : Progress Item) : Type 0 where
-    pub sources : AreSources kind.stamp m.capacity b.at_level part.items other.items
+    pub sources : AreSources profile.stamp m.capacity b.at_level part.items other.items
     pub unsealed : b.is_sealed ≡ false
     pub to_go : m.left + (length m.a.table + length m.b.table + (m.a.reread + m.b.reread)) ≡ 2 * (length part.items + length other.items)
-    pub taking : HasTaken (kind.before First) m.a.table m.b.table m.taken m.reached part.items other.items b.items
-    pub retaking : HasRetaken (kind.before Second) m.a m.b part other b
+    pub taking : HasTaken (profile.before First) m.a.table m.b.table m.taken m.reached part.items other.items b.items
+    pub retaking : HasRetaken (profile.before Second) m.a m.b part other b
 
   -- n items were read, and each that was live was taken
   pub record HasRead (n : ℕ) (old new : Merging Item) (part other : Contents Item) (b fresh : Progress Item) : Type 0 where
@@ -153,8 +153,8 @@ module _ {Item : Type 0} where
 
 module _ {Item Part Builder : Type 0} (contents : Part → Contents Item) (progress : Builder → Progress Item) where
   -- the same of parts and builders, by what contracts see of them
-  abbrev pub MergesInto : PartKind Item → Merging Item → Part → Part → Builder → Type 0
-  MergesInto kind m a b builder = Merges kind m (contents a) (contents b) (progress builder)
+  abbrev pub MergesInto : PartProfile Item → Merging Item → Part → Part → Builder → Type 0
+  MergesInto profile m a b builder = Merges profile m (contents a) (contents b) (progress builder)
 
   abbrev pub ReadsInto : ℕ → Merging Item → Merging Item → Part → Part → Builder → Builder → Type 0
   ReadsInto n old new a b builder fresh = HasRead n old new (contents a) (contents b) (progress builder) (progress fresh)

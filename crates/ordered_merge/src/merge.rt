@@ -8,7 +8,7 @@ ghost use Rattle.ordered_merge.specs.Merging.{Merges, MergesInto, ReadsInto, IsW
 
 use crate::new_place::NewPlace;
 use crate::steps::{is_within, next_item, put_again, take_or_skip};
-use builder_trait::{Builder, Kinded, Part};
+use builder_trait::{Builder, Part, Profiled};
 use query_laws::step_ledger::{Row, Steps};
 use query_laws::{Item, NoMemory, Order};
 use std::alloc::Global;
@@ -118,7 +118,7 @@ impl<B: Builder> Merge<B> {
 
         // With a builder to which nothing was put, and which has room for all.
         ensures merges { (level : ℕ) → let a = B.Part.Part.contents a.now in let b = B.Part.Part.contents b.now in
-            length a.items + length b.items ≤ 2 ^ level → Merges ⟦<B as Kinded>⟧.kind self.new a b (begun level) }
+            length a.items + length b.items ≤ 2 ^ level → Merges ⟦<B as Profiled>⟧.profile self.new a b (begun level) }
     {
         // By the tables' sizes the sum fits.
         let _tables = &self.a.table;
@@ -134,8 +134,8 @@ impl<B: Builder> Merge<B> {
         steps: &mut Steps<L>,
     )
         requires more { 0 < self.old.left }
-        requires merges { MergesInto B.Part.Part.contents B.progress ⟦<B as Kinded>⟧.kind self.old a.now b.now builder.old }
-        ensures merges { MergesInto B.Part.Part.contents B.progress ⟦<B as Kinded>⟧.kind self.new a.now b.now builder.new }
+        requires merges { MergesInto B.Part.Part.contents B.progress ⟦<B as Profiled>⟧.profile self.old a.now b.now builder.old }
+        ensures merges { MergesInto B.Part.Part.contents B.progress ⟦<B as Profiled>⟧.profile self.new a.now b.now builder.new }
         ensures read { ReadsInto B.Part.Part.contents B.progress 1 self.old self.new a.now b.now builder.old builder.new }
         ensures cost { Spends steps.old steps.new 1 0 16 }
     {
@@ -158,8 +158,8 @@ impl<B: Builder> Merge<B> {
         steps: &mut Steps<L>,
     )
         requires enough { count ≤ self.old.left }
-        requires merges { MergesInto B.Part.Part.contents B.progress ⟦<B as Kinded>⟧.kind self.old a.now b.now builder.old }
-        ensures merges { MergesInto B.Part.Part.contents B.progress ⟦<B as Kinded>⟧.kind self.new a.now b.now builder.new }
+        requires merges { MergesInto B.Part.Part.contents B.progress ⟦<B as Profiled>⟧.profile self.old a.now b.now builder.old }
+        ensures merges { MergesInto B.Part.Part.contents B.progress ⟦<B as Profiled>⟧.profile self.new a.now b.now builder.new }
         ensures read { ReadsInto B.Part.Part.contents B.progress count self.old self.new a.now b.now builder.old builder.new }
         ensures cost { Spends steps.old steps.new count 0 (16 * count) }
     {
@@ -180,8 +180,8 @@ impl<B: Builder> Merge<B> {
         requires valid_other { IsPart B.Item.before (B.Part.Part.contents b.now) }
         requires unread { length self.old.a.table + length self.old.b.table
             < length (B.Part.Part.contents a.now).items + length (B.Part.Part.contents b.now).items }
-        requires merges { MergesInto B.Part.Part.contents B.progress ⟦<B as Kinded>⟧.kind self.old a.now b.now builder.old }
-        ensures merges { MergesInto B.Part.Part.contents B.progress ⟦<B as Kinded>⟧.kind self.new a.now b.now builder.new }
+        requires merges { MergesInto B.Part.Part.contents B.progress ⟦<B as Profiled>⟧.profile self.old a.now b.now builder.old }
+        ensures merges { MergesInto B.Part.Part.contents B.progress ⟦<B as Profiled>⟧.profile self.new a.now b.now builder.new }
         ensures read { ReadsInto B.Part.Part.contents B.progress 1 self.old self.new a.now b.now builder.old builder.new }
         ensures cost { Spends steps.old steps.new 1 0 16 }
     {
@@ -215,8 +215,8 @@ impl<B: Builder> Merge<B> {
         requires more { 0 < self.old.left }
         requires read { length self.old.a.table + length self.old.b.table
             ≡ length (B.Part.Part.contents a.now).items + length (B.Part.Part.contents b.now).items }
-        requires merges { MergesInto B.Part.Part.contents B.progress ⟦<B as Kinded>⟧.kind self.old a.now b.now builder.old }
-        ensures merges { MergesInto B.Part.Part.contents B.progress ⟦<B as Kinded>⟧.kind self.new a.now b.now builder.new }
+        requires merges { MergesInto B.Part.Part.contents B.progress ⟦<B as Profiled>⟧.profile self.old a.now b.now builder.old }
+        ensures merges { MergesInto B.Part.Part.contents B.progress ⟦<B as Profiled>⟧.profile self.new a.now b.now builder.new }
         ensures read { ReadsInto B.Part.Part.contents B.progress 1 self.old self.new a.now b.now builder.old builder.new }
         ensures cost { Spends steps.old steps.new 1 0 16 }
     {
@@ -244,7 +244,7 @@ impl<B: Builder> Merge<B> {
 
         // The builder then holds exactly what the tables took, which is what was live when the first order read it.
         ensures whole { (a b : Contents B.Item) (builder : Progress B.Item) → IsTrue result → IsPart B.Item.before a → IsPart B.Item.before b
-            → Merges ⟦<B as Kinded>⟧.kind self.now a b builder → IsWhole B.Item.before self.now a b builder }
+            → Merges ⟦<B as Profiled>⟧.profile self.now a b builder → IsWhole B.Item.before self.now a b builder }
     {
         self.left == 0
     }
@@ -255,10 +255,10 @@ impl<B: Builder> Merge<B> {
 
         // At the item at a place of either part: exactly where that place is among those read.
         ensures of_a { (a b : Contents B.Item) (builder : Progress B.Item) (k : ℕ)
-            → Merges ⟦<B as Kinded>⟧.kind self.now a b builder → slice_get a.items k ≡ Some item.now
+            → Merges ⟦<B as Profiled>⟧.profile self.now a b builder → slice_get a.items k ≡ Some item.now
             → (IsTrue result ↔ (k < length self.now.a.table)) }
         ensures of_b { (a b : Contents B.Item) (builder : Progress B.Item) (k : ℕ)
-            → Merges ⟦<B as Kinded>⟧.kind self.now a b builder → slice_get b.items k ≡ Some item.now
+            → Merges ⟦<B as Profiled>⟧.profile self.now a b builder → slice_get b.items k ≡ Some item.now
             → (IsTrue result ↔ (k < length self.now.b.table)) }
     {
         is_within(&self.reached, item)

@@ -5,7 +5,7 @@ use Rattle.std.proofs.lemmas.List.{length-replicate}
 use Rattle.std.proofs.lemmas.Bool.{cases_lt}
 use Rattle.std.proofs.lemmas.Bool.Decides.{nat_tests}
 use Rattle.partial_build.specs.Quota.{quota}
-use Rattle.builder_trait.specs.Builders.{PartKind}
+use Rattle.builder_trait.specs.Builders.{PartProfile}
 use Rattle.builder_trait.specs.Parts.{Contents}
 use Rattle.partial_build.specs.NewPart.{Growth, IsAllLive}
 use Rattle.partial_build.specs.Construction.{Construction, IsUnderConstruction, turns_left}
@@ -83,27 +83,27 @@ IsTicked-paid half ticks q before after w w' m early in_time few_waiting few_to_
     record { in_time = later; few_waiting = omega arith; few_to_come = omega arith })
     (cases_lt ticks half)
 
-module _ {Item : Type 0} (kind : PartKind Item) (c : Construction Item) where
-  pub turns_left-sealed : c.part.is_sealed ≡ true → turns_left kind c ≡ c.merge.left + c.part.left
+module _ {Item : Type 0} (profile : PartProfile Item) (c : Construction Item) where
+  pub turns_left-sealed : c.part.is_sealed ≡ true → turns_left profile c ≡ c.merge.left + c.part.left
   turns_left-sealed closed =
-      ap (λ b. c.merge.left + (if b then c.part.left else 2 ^ (c.level - 1) * (kind.slope * c.level + kind.base))) closed
+      ap (λ b. c.merge.left + (if b then c.part.left else 2 ^ (c.level - 1) * (profile.slope * c.level + profile.base))) closed
 
-  pub turns_left-open : c.part.is_sealed ≡ false → turns_left kind c ≡ c.merge.left + 2 ^ (c.level - 1) * (kind.slope * c.level + kind.base)
+  pub turns_left-open : c.part.is_sealed ≡ false → turns_left profile c ≡ c.merge.left + 2 ^ (c.level - 1) * (profile.slope * c.level + profile.base)
   turns_left-open open_still =
-      ap (λ b. c.merge.left + (if b then c.part.left else 2 ^ (c.level - 1) * (kind.slope * c.level + kind.base))) open_still
+      ap (λ b. c.merge.left + (if b then c.part.left else 2 ^ (c.level - 1) * (profile.slope * c.level + profile.base))) open_still
 
-module _ {Item : Type 0} {kind : PartKind Item} {room : ℕ} {c : Construction Item} (h : IsUnderConstruction kind room c) where
+module _ {Item : Type 0} {profile : PartProfile Item} {room : ℕ} {c : Construction Item} (h : IsUnderConstruction profile room c) where
   -- a part that is built has no turn left, and one without turns is built
-  pub built_ended : c.part.is_built ≡ true → turns_left kind c ≡ 0
+  pub built_ended : c.part.is_built ≡ true → turns_left profile c ≡ 0
   built_ended is_so =
       let read : c.merge.left ≡ 0 = by c.merge.left refl in
-      omega (arith, turns_left-sealed kind c (h.sealed read), read, h.built is_so)
+      omega (arith, turns_left-sealed profile c (h.sealed read), read, h.built is_so)
     where
       by : (n : ℕ) → c.merge.left ≡ n → c.merge.left ≡ 0
       by zero is = is
       by (suc n) is = let no : c.part.is_built ≡ false = (h.unsealed (omega arith)).1 in absurd cc
 
-  pub ended_built : turns_left kind c ≡ 0 → c.part.is_built ≡ true
+  pub ended_built : turns_left profile c ≡ 0 → c.part.is_built ≡ true
   ended_built ended =
       let read : c.merge.left ≡ 0 = omega (arith, ended) in
       by c.part.is_built refl read
@@ -112,14 +112,14 @@ module _ {Item : Type 0} {kind : PartKind Item} {room : ℕ} {c : Construction I
       by true is read = is
       by false is read =
           let some : 0 < c.part.left = h.to_turn is (h.sealed read) in
-          absurd (omega (arith, ended, turns_left-sealed kind c (h.sealed read)))
+          absurd (omega (arith, ended, turns_left-sealed profile c (h.sealed read)))
 
 -- the puts have ended
-pub IsUnderConstruction-sealed : {Item : Type 0} {kind : PartKind Item} {room : ℕ} (c : Construction Item) → 1 ≤ c.level → c.level < 32 → c.ticks ≤ 2 ^ c.level
+pub IsUnderConstruction-sealed : {Item : Type 0} {profile : PartProfile Item} {room : ℕ} (c : Construction Item) → 1 ≤ c.level → c.level < 32 → c.ticks ≤ 2 ^ c.level
     → c.part.contents.at_level ≡ c.level → IsAllLive c.part.contents → 2 ^ (c.level - 1) + 1 ≤ room → c.merge.capacity ≡ 2 ^ (c.level - 1)
     → c.merge.left ≡ 0 → c.part.is_sealed ≡ true → c.part.is_built ≡ (c.part.left == 0)
-    → turns_left kind c ≤ (2 ^ (c.level - 1) - c.ticks) * quota kind.slope kind.base c.level
-    → length c.waiting ≤ c.ticks + 1 → length c.waiting ≤ 2 ^ c.level - c.ticks + 1 → IsUnderConstruction kind room c
+    → turns_left profile c ≤ (2 ^ (c.level - 1) - c.ticks) * quota profile.slope profile.base c.level
+    → length c.waiting ≤ c.ticks + 1 → length c.waiting ≤ 2 ^ c.level - c.ticks + 1 → IsUnderConstruction profile room c
 IsUnderConstruction-sealed c least most ticks_few at_level live wide as_wide ended closed built in_time few_waiting few_to_come = record {
   least = least;
   most = most;
@@ -139,12 +139,12 @@ IsUnderConstruction-sealed c least most ticks_few at_level live wide as_wide end
 }
 
 -- an item that waited is marked in the part, which is built
-pub IsUnderConstruction-marked : {Item : Type 0} {kind : PartKind Item} {room : ℕ} {c : Construction Item} → IsUnderConstruction kind room c
+pub IsUnderConstruction-marked : {Item : Type 0} {profile : PartProfile Item} {room : ℕ} {c : Construction Item} → IsUnderConstruction profile room c
     → c.part.is_built ≡ true → (contents : Contents Item) (part : Growth Item) (waiting : List Item) → part ≡ record c.part { contents = contents }
     → contents.at_level ≡ c.part.contents.at_level → length contents.flags ≡ length contents.items → length waiting ≤ length c.waiting
-    → IsUnderConstruction kind room (record c { part = part; waiting = waiting })
-IsUnderConstruction-marked {kind = kind} {room = room} {c = c} h built contents part waiting is level flagged fewer =
-    subst (λ p. IsUnderConstruction kind room (record c { part = p; waiting = waiting })) (sym is) (record {
+    → IsUnderConstruction profile room (record c { part = part; waiting = waiting })
+IsUnderConstruction-marked {profile = profile} {room = room} {c = c} h built contents part waiting is level flagged fewer =
+    subst (λ p. IsUnderConstruction profile room (record c { part = p; waiting = waiting })) (sym is) (record {
       least = h.least;
       most = h.most;
       ticks_few = h.ticks_few;

@@ -4,7 +4,7 @@ use Rattle.std.specs.List.{items_where_true}
 use Rattle.std.specs.Option.{is_some}
 use Rattle.query_laws.specs.Orders.{AllStampsDiffer}
 use Rattle.query_laws.specs.Permuted.{Permuted}
-use Rattle.builder_trait.specs.Builders.{PartKind}
+use Rattle.builder_trait.specs.Builders.{PartProfile}
 use Rattle.builder_trait.specs.Parts.{Contents, IsPart, has_stamp, live_of}
 use Rattle.ordered_merge.specs.Merging.{Merging, Merges, unbegun}
 use Rattle.partial_build.specs.NewPart.{Growth, put_of, IsAllLive}
@@ -30,17 +30,17 @@ module _ {Item : Type 0} where
   half_of c = 2 ^ (c.level - 1)
 
   -- the turns that are left: those of the merge, and those of the builder, or the most that it may have where it isn't sealed
-  abbrev pub turns_left : PartKind Item → Construction Item → ℕ
-  turns_left kind c =
-      c.merge.left + (if c.part.is_sealed then c.part.left else 2 ^ (c.level - 1) * (kind.slope * c.level + kind.base))
+  abbrev pub turns_left : PartProfile Item → Construction Item → ℕ
+  turns_left profile c =
+      c.merge.left + (if c.part.is_sealed then c.part.left else 2 ^ (c.level - 1) * (profile.slope * c.level + profile.base))
 
   -- The turns of a tick: at most its quota, and fewer only where the part is built after it. Of a builder that is sealed just so many fewer are left,
   -- so that none is taken once it has ended; and before the seal no more are taken than may be left.
-  pub record AreTaken (kind : PartKind Item) (turns : ℕ) (old new : Construction Item) : Type 0 where
-    pub few : turns ≤ quota kind.slope kind.base old.level
-    pub whole : turns < quota kind.slope kind.base old.level → new.part.is_built ≡ true
-    pub most : turns_left kind new + turns ≤ turns_left kind old
-    pub exact : old.part.is_sealed ≡ true → turns_left kind new + turns ≡ turns_left kind old
+  pub record AreTaken (profile : PartProfile Item) (turns : ℕ) (old new : Construction Item) : Type 0 where
+    pub few : turns ≤ quota profile.slope profile.base old.level
+    pub whole : turns < quota profile.slope profile.base old.level → new.part.is_built ≡ true
+    pub most : turns_left profile new + turns ≤ turns_left profile old
+    pub exact : old.part.is_sealed ≡ true → turns_left profile new + turns ≡ turns_left profile old
 
   -- The marks of a tick: where the part is built after it those of two items that waited, or of all where fewer did; and just these wait no longer.
   pub record AreDrained (marks : ℕ) (old new : Construction Item) : Type 0 where
@@ -48,8 +48,8 @@ module _ {Item : Type 0} where
     pub fewer : length new.waiting + marks ≡ length old.waiting
 
   -- Right after a tick, and before an item is noted: what is left can be done in the ticks to come.
-  pub record IsOnTime (kind : PartKind Item) (c : Construction Item) : Type 0 where
-    pub in_time : turns_left kind c ≤ (half_of c - c.ticks) * quota kind.slope kind.base c.level
+  pub record IsOnTime (profile : PartProfile Item) (c : Construction Item) : Type 0 where
+    pub in_time : turns_left profile c ≤ (half_of c - c.ticks) * quota profile.slope profile.base c.level
     pub few_waiting : length c.waiting ≤ c.ticks
     pub few_to_come : length c.waiting ≤ 2 ^ c.level - c.ticks
 
@@ -74,19 +74,19 @@ module _ {Item : Type 0} where
     pub live : All (λ x. has_stamp stamp (stamp x) (live_of part) ≡ true) waiting
 
   -- what was read of a and b is in the new part or waits, as a and b are now
-  pub record KeepsUp (kind : PartKind Item) (m : Merging Item) (part : Contents Item) (waiting : List Item) (a b : Contents Item) : Type 0 where
-    pub merges : Merges kind m a b (put_of part)
-    pub valid : IsPart kind.before a
-    pub other_valid : IsPart kind.before b
-    pub apart : AllStampsDiffer kind.stamp a.items
-    pub other_apart : AllStampsDiffer kind.stamp b.items
-    pub up_to_date : IsUpToDate kind.stamp part waiting m.a.table a
-    pub other_up_to_date : IsUpToDate kind.stamp part waiting m.b.table b
-    pub waits : AreWaiting kind.stamp m part a b waiting
+  pub record KeepsUp (profile : PartProfile Item) (m : Merging Item) (part : Contents Item) (waiting : List Item) (a b : Contents Item) : Type 0 where
+    pub merges : Merges profile m a b (put_of part)
+    pub valid : IsPart profile.before a
+    pub other_valid : IsPart profile.before b
+    pub apart : AllStampsDiffer profile.stamp a.items
+    pub other_apart : AllStampsDiffer profile.stamp b.items
+    pub up_to_date : IsUpToDate profile.stamp part waiting m.a.table a
+    pub other_up_to_date : IsUpToDate profile.stamp part waiting m.b.table b
+    pub waits : AreWaiting profile.stamp m part a b waiting
 
   -- the construction of the new part of a and b, as these are now
-  abbrev pub Builds : PartKind Item → Construction Item → Contents Item → Contents Item → Type 0
-  Builds kind c a b = KeepsUp kind c.merge c.part.contents c.waiting a b
+  abbrev pub Builds : PartProfile Item → Construction Item → Contents Item → Contents Item → Type 0
+  Builds profile c a b = KeepsUp profile c.merge c.part.contents c.waiting a b
 
   -- the items of a source that were dead when they were read
   abbrev pub skipped_of : List (Option ℕ) → List Item → List Item
@@ -100,7 +100,7 @@ module _ {Item : Type 0} where
     pub level : fresh.at_level ≡ c.level
 
 -- Between any two calls: what is left can be done in time, where one more item may wait than right after a tick.
-pub record IsUnderConstruction {Item : Type 0} (kind : PartKind Item) (room : ℕ) (c : Construction Item) : Type 0 where
+pub record IsUnderConstruction {Item : Type 0} (profile : PartProfile Item) (room : ℕ) (c : Construction Item) : Type 0 where
   pub least : 1 ≤ c.level
   pub most : c.level < 32
   pub ticks_few : c.ticks ≤ 2 ^ c.level
@@ -113,7 +113,7 @@ pub record IsUnderConstruction {Item : Type 0} (kind : PartKind Item) (room : �
   pub unsealed : 0 < c.merge.left → (c.part.is_sealed ≡ false) × (c.part.is_built ≡ false)
   pub to_turn : c.part.is_built ≡ false → c.part.is_sealed ≡ true → 0 < c.part.left
   pub built : c.part.is_built ≡ true → c.part.left ≡ 0
-  pub in_time : turns_left kind c ≤ (2 ^ (c.level - 1) - c.ticks) * quota kind.slope kind.base c.level
+  pub in_time : turns_left profile c ≤ (2 ^ (c.level - 1) - c.ticks) * quota profile.slope profile.base c.level
   pub few_waiting : length c.waiting ≤ c.ticks + 1
   pub few_to_come : length c.waiting ≤ 2 ^ c.level - c.ticks + 1
 

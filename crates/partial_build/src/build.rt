@@ -10,7 +10,7 @@ ghost use Rattle.partial_build.specs.Construction.{Builds, AreTaken, AreDrained,
 
 use crate::new_part::NewPart;
 use crate::room::Tables;
-use builder_trait::{Builder, Kinded, Part};
+use builder_trait::{Builder, Part, Profiled};
 use ordered_merge::Merge;
 use query_laws::Item;
 use query_laws::step_ledger::Steps;
@@ -65,7 +65,7 @@ impl<B: Builder> Build<B> {
           waiting = [];
         } }
         ensures empty { result.part.contents ≡ all_live (B.progress builder) }
-        ensures on_time { IsOnTime ⟦<B as Kinded>⟧.kind result }
+        ensures on_time { IsOnTime ⟦<B as Profiled>⟧.profile result }
     {
         let mut part = NewPart::new(builder);
         if merge.done() {
@@ -84,11 +84,11 @@ impl<B: Builder> Build<B> {
     /// two marks of items that wait, or of all where fewer wait. Sixteen touches at most for each turn, and those of the kind for each mark.
     pub fn tick<L: Ledger>(&mut self, a: &B::Part, b: &B::Part, steps: &mut Steps<L>)
         requires early { self.old.ticks < 2 ^ self.old.level }
-        requires builds { Builds ⟦<B as Kinded>⟧.kind self.old (B.Part.Part.contents a.now) (B.Part.Part.contents b.now) }
-        ensures builds { Builds ⟦<B as Kinded>⟧.kind self.new (B.Part.Part.contents a.now) (B.Part.Part.contents b.now) }
+        requires builds { Builds ⟦<B as Profiled>⟧.profile self.old (B.Part.Part.contents a.now) (B.Part.Part.contents b.now) }
+        ensures builds { Builds ⟦<B as Profiled>⟧.profile self.new (B.Part.Part.contents a.now) (B.Part.Part.contents b.now) }
         ensures ticked { (self.new.level ≡ self.old.level) × (self.new.ticks ≡ self.old.ticks + 1) }
-        ensures on_time { IsOnTime ⟦<B as Kinded>⟧.kind self.new }
-        ensures taken { AreTaken ⟦<B as Kinded>⟧.kind (steps.new.turns - steps.old.turns) self.old self.new }
+        ensures on_time { IsOnTime ⟦<B as Profiled>⟧.profile self.new }
+        ensures taken { AreTaken ⟦<B as Profiled>⟧.profile (steps.new.turns - steps.old.turns) self.old self.new }
         ensures drained { AreDrained (steps.new.marks - steps.old.marks) self.old self.new }
         ensures cost { let turns = steps.new.turns - steps.old.turns in let marks = steps.new.marks - steps.old.marks in
             Spends steps.old steps.new turns marks (16 * turns + marks * B.Part.Part.mark_touches self.old.level) }
@@ -111,12 +111,12 @@ impl<B: Builder> Build<B> {
     /// Reads so many items of the sources.
     fn read<L: Ledger>(&mut self, count: u64, a: &B::Part, b: &B::Part, steps: &mut Steps<L>)
         requires enough { count ≤ self.old.merge.left }
-        requires builds { Builds ⟦<B as Kinded>⟧.kind self.old (B.Part.Part.contents a.now) (B.Part.Part.contents b.now) }
-        ensures builds { Builds ⟦<B as Kinded>⟧.kind self.new (B.Part.Part.contents a.now) (B.Part.Part.contents b.now) }
+        requires builds { Builds ⟦<B as Profiled>⟧.profile self.old (B.Part.Part.contents a.now) (B.Part.Part.contents b.now) }
+        ensures builds { Builds ⟦<B as Profiled>⟧.profile self.new (B.Part.Part.contents a.now) (B.Part.Part.contents b.now) }
         ensures same { self.new ≡ record self.old { merge = self.new.merge; part = self.new.part } }
         ensures left { self.new.merge.left + count ≡ self.old.merge.left }
-        ensures fewer { turns_left ⟦<B as Kinded>⟧.kind self.new + count ≤ turns_left ⟦<B as Kinded>⟧.kind self.old }
-        ensures exact { count ≡ 0 → turns_left ⟦<B as Kinded>⟧.kind self.new ≡ turns_left ⟦<B as Kinded>⟧.kind self.old }
+        ensures fewer { turns_left ⟦<B as Profiled>⟧.profile self.new + count ≤ turns_left ⟦<B as Profiled>⟧.profile self.old }
+        ensures exact { count ≡ 0 → turns_left ⟦<B as Profiled>⟧.profile self.new ≡ turns_left ⟦<B as Profiled>⟧.profile self.old }
         ensures cost { Spends steps.old steps.new count 0 (16 * count) }
     {
         if count == 0 {
@@ -134,7 +134,7 @@ impl<B: Builder> Build<B> {
         ensures same { self.new ≡ record self.old { part = record self.new.part { contents = self.old.part.contents } } }
         ensures turns { steps.new.turns - steps.old.turns ≤ most }
         ensures all_turns { steps.new.turns - steps.old.turns < most → self.new.part.is_built ≡ true }
-        ensures left { turns_left ⟦<B as Kinded>⟧.kind self.new + (steps.new.turns - steps.old.turns) ≡ turns_left ⟦<B as Kinded>⟧.kind self.old }
+        ensures left { turns_left ⟦<B as Profiled>⟧.profile self.new + (steps.new.turns - steps.old.turns) ≡ turns_left ⟦<B as Profiled>⟧.profile self.old }
         ensures cost { let turns = steps.new.turns - steps.old.turns in Spends steps.old steps.new turns 0 (16 * turns) }
     {
         if self.merge.done() && !self.part.is_built() {
@@ -145,8 +145,8 @@ impl<B: Builder> Build<B> {
 
     /// Marks so many of the items that wait in the new part, where that is built, or all where fewer wait.
     fn drain<L: Ledger>(&mut self, most: u64, steps: &mut Steps<L>)
-        requires some { (a : Contents B.Item) × (b : Contents B.Item) × Builds ⟦<B as Kinded>⟧.kind self.old a b }
-        ensures builds { (a b : Contents B.Item) → Builds ⟦<B as Kinded>⟧.kind self.old a b → Builds ⟦<B as Kinded>⟧.kind self.new a b }
+        requires some { (a : Contents B.Item) × (b : Contents B.Item) × Builds ⟦<B as Profiled>⟧.profile self.old a b }
+        ensures builds { (a b : Contents B.Item) → Builds ⟦<B as Profiled>⟧.profile self.old a b → Builds ⟦<B as Profiled>⟧.profile self.new a b }
         ensures same { self.new ≡ record self.old {
           part = record self.old.part { contents = self.new.part.contents };
           waiting = self.new.waiting;
@@ -167,8 +167,8 @@ impl<B: Builder> Build<B> {
     /// Marks an item that waits in the new part, which is built.
     fn mark_next<L: Ledger>(&mut self, steps: &mut Steps<L>)
         requires built { self.old.part.is_built ≡ true }
-        requires some { (a : Contents B.Item) × (b : Contents B.Item) × Builds ⟦<B as Kinded>⟧.kind self.old a b }
-        ensures builds { (a b : Contents B.Item) → Builds ⟦<B as Kinded>⟧.kind self.old a b → Builds ⟦<B as Kinded>⟧.kind self.new a b }
+        requires some { (a : Contents B.Item) × (b : Contents B.Item) × Builds ⟦<B as Profiled>⟧.profile self.old a b }
+        ensures builds { (a b : Contents B.Item) → Builds ⟦<B as Profiled>⟧.profile self.old a b → Builds ⟦<B as Profiled>⟧.profile self.new a b }
         ensures same { self.new ≡ record self.old {
           part = record self.old.part { contents = self.new.part.contents };
           waiting = self.new.waiting;
@@ -186,18 +186,18 @@ impl<B: Builder> Build<B> {
     /// Takes note of an item that has just died in a source: where it was read, it waits. It counts nothing.
     pub fn note(&mut self, item: &B::Item)
         requires early { self.old.ticks < 2 ^ self.old.level }
-        requires on_time { IsOnTime ⟦<B as Kinded>⟧.kind self.old }
+        requires on_time { IsOnTime ⟦<B as Profiled>⟧.profile self.old }
         ensures noted { self.new ≡ record self.old {
           waiting = if is_passed (B.Item.before First) self.old.merge.reached item.now then self.old.waiting ++ item.now ∷ [] else self.old.waiting;
         } }
 
         // Whichever the sources are: with the one in which it stood live and is marked now.
-        ensures of_a { (a b : Contents B.Item) (k : ℕ) → Builds ⟦<B as Kinded>⟧.kind self.old a b
+        ensures of_a { (a b : Contents B.Item) (k : ℕ) → Builds ⟦<B as Profiled>⟧.profile self.old a b
             → slice_get a.items k ≡ Some item.now → slice_get a.flags k ≡ Some true
-            → Builds ⟦<B as Kinded>⟧.kind self.new (marked B.Item.stamp (B.Item.stamp item.now) a) b }
-        ensures of_b { (a b : Contents B.Item) (k : ℕ) → Builds ⟦<B as Kinded>⟧.kind self.old a b
+            → Builds ⟦<B as Profiled>⟧.profile self.new (marked B.Item.stamp (B.Item.stamp item.now) a) b }
+        ensures of_b { (a b : Contents B.Item) (k : ℕ) → Builds ⟦<B as Profiled>⟧.profile self.old a b
             → slice_get b.items k ≡ Some item.now → slice_get b.flags k ≡ Some true
-            → Builds ⟦<B as Kinded>⟧.kind self.new a (marked B.Item.stamp (B.Item.stamp item.now) b) }
+            → Builds ⟦<B as Profiled>⟧.profile self.new a (marked B.Item.stamp (B.Item.stamp item.now) b) }
     {
         if !self.merge.passed(item) {
             return;
@@ -213,7 +213,7 @@ impl<B: Builder> Build<B> {
         ensures part { B.Part.Part.contents result.0 ≡ self.part.contents }
 
         // Whichever the sources are.
-        ensures published { (a b : Contents B.Item) → Builds ⟦<B as Kinded>⟧.kind self a b
+        ensures published { (a b : Contents B.Item) → Builds ⟦<B as Profiled>⟧.profile self a b
             → IsPublished self a b (B.Part.Part.contents result.0) }
         ensures live { live_of (B.Part.Part.contents result.0) ≡ live_of self.part.contents }
         ensures tables { result.1 ≡ self.level }
@@ -251,7 +251,7 @@ impl<B: Builder> Build<B> {
 
     /// How many turns are left, where the builder isn't sealed yet at most.
     pub fn turns_left(&self) -> u64
-        ensures { result ≡ turns_left ⟦<B as Kinded>⟧.kind self.now }
+        ensures { result ≡ turns_left ⟦<B as Profiled>⟧.profile self.now }
     {
         if self.merge.done() {
             return self.part.left();

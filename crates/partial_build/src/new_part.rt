@@ -6,7 +6,7 @@ ghost use Rattle.builder_trait.specs.Builders.{IsQuota, all_live};
 ghost use Rattle.ordered_merge.specs.Merging.{Merges, HasRead};
 ghost use Rattle.partial_build.specs.NewPart.{put_of, IsAllLive};
 
-use builder_trait::{Builder, Kinded, Part};
+use builder_trait::{Builder, Part, Profiled};
 use ordered_merge::Merge;
 use query_laws::Item;
 use query_laws::step_ledger::Steps;
@@ -66,9 +66,9 @@ impl<B: Builder> NewPart<B> {
         requires growing { self.old.is_built ≡ false }
         requires open { self.old.is_sealed ≡ false }
         requires enough { count ≤ merge.old.left }
-        requires merges { Merges ⟦<B as Kinded>⟧.kind merge.old (B.Part.Part.contents a.now) (B.Part.Part.contents b.now)
+        requires merges { Merges ⟦<B as Profiled>⟧.profile merge.old (B.Part.Part.contents a.now) (B.Part.Part.contents b.now)
             (put_of self.old.contents) }
-        ensures merges { Merges ⟦<B as Kinded>⟧.kind merge.new (B.Part.Part.contents a.now) (B.Part.Part.contents b.now)
+        ensures merges { Merges ⟦<B as Profiled>⟧.profile merge.new (B.Part.Part.contents a.now) (B.Part.Part.contents b.now)
             (put_of self.new.contents) }
         ensures read { HasRead count merge.old merge.new (B.Part.Part.contents a.now) (B.Part.Part.contents b.now)
             (put_of self.old.contents) (put_of self.new.contents) }

@@ -6,7 +6,7 @@ ghost use Rattle.ordered_merge.specs.Merging.{StampsDiffer};
 ghost use Rattle.partial_build.specs.Construction.{Builds, IsOnTime};
 
 use crate::build::Build;
-use builder_trait::{Builder, Kinded, Part};
+use builder_trait::{Builder, Part, Profiled};
 use ordered_merge::Merge;
 use query_laws::{Item, NoMemory};
 use std::alloc::Global;
@@ -129,10 +129,10 @@ impl<B: Builder> Room<B> {
         requires apart { AllStampsDiffer B.Item.stamp (B.Part.Part.contents a.now).items }
         requires other_apart { AllStampsDiffer B.Item.stamp (B.Part.Part.contents b.now).items }
         requires differ { StampsDiffer B.Item.stamp (B.Part.Part.contents a.now).items (B.Part.Part.contents b.now).items }
-        ensures builds { Builds ⟦<B as Kinded>⟧.kind result (B.Part.Part.contents a.now) (B.Part.Part.contents b.now) }
+        ensures builds { Builds ⟦<B as Profiled>⟧.profile result (B.Part.Part.contents a.now) (B.Part.Part.contents b.now) }
         ensures level { result.level ≡ self }
         ensures none { (result.ticks ≡ 0) × (result.waiting ≡ []) }
-        ensures on_time { IsOnTime ⟦<B as Kinded>⟧.kind result }
+        ensures on_time { IsOnTime ⟦<B as Profiled>⟧.profile result }
     {
         let Room { builder, tables } = self;
         let Tables {

@@ -65,8 +65,8 @@ pub fn numbers(alloc: Global, answer: AnyAnswer) -> Result<Vec<u64>, AllocError>
         AnyAnswer::Listed(ids) | AnyAnswer::ListedAbove(ids) | AnyAnswer::Stabbed(ids) => {
             Ok(ids.into_vec())
         }
-        AnyAnswer::Nearest(found) => pairs(alloc, found.as_slice()),
-        AnyAnswer::NearestFew(found) => pairs(alloc, found.as_slice()),
+        AnyAnswer::NearestOne(found) => pairs(alloc, found.as_slice()),
+        AnyAnswer::NearestOnes(found) => pairs(alloc, found.as_slice()),
         AnyAnswer::Highest(Some(peak)) => Vec::from_slice(alloc, &[peak.id, u64::from(peak.y)]),
         AnyAnswer::Highest(None) => Ok(Vec::new(alloc)),
     }

@@ -23,9 +23,9 @@ pub enum Spread {
     Dense,
     /// Anywhere in a square.
     Square,
-    /// In one column: all points have one abscissa, all segments one lower end.
+    /// In one column: all points have one x, all segments one lower end.
     Column,
-    /// In one row: all have one ordinate.
+    /// In one row: all have one y.
     Row,
     /// Every other one, on average, in a square with one hundredth of the area.
     Cluster,

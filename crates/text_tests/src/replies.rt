@@ -4,13 +4,13 @@ ghost use Rattle.std.specs.Prelude.{◌<◌};
 use answer_text::{Refusal, Reply, write_reply};
 use map_io::MemSink;
 use map_questions::AnyAnswer;
-use map_shapes::{Asked, Found, FoundList, IdList, Peak, Recent, Shape, Spent};
+use map_shapes::{Found, FoundList, IdList, Peak, QuestionCost, Recent, Shape, Spent};
 use std::alloc::Global;
 use std::process::Abort;
 use std::test::Fail;
 
-fn asked() -> Asked {
-    Asked {
+fn asked() -> QuestionCost {
+    QuestionCost {
         parts: 5,
         part_bound: 15,
         touches: 99,
@@ -98,14 +98,14 @@ fn writes_the_nearest(rt: HostRuntime) -> Result<(), Fail> {
         id: u64::MAX,
     };
     let line = "near 18446744073709551615 9223372028264841218";
-    check_answer(&rt, alloc, AnyAnswer::Nearest(None), "near none")?;
-    check_answer(&rt, alloc, AnyAnswer::Nearest(Some(near)), line)?;
+    check_answer(&rt, alloc, AnyAnswer::NearestOne(None), "near none")?;
+    check_answer(&rt, alloc, AnyAnswer::NearestOne(Some(near)), line)?;
     let mut found = FoundList::new();
     found.push(Found { dist: 1, id: 4 });
     found.push(Found { dist: 1, id: 9 });
-    let none = AnyAnswer::NearestFew(FoundList::new());
+    let none = AnyAnswer::NearestOnes(FoundList::new());
     check_answer(&rt, alloc, none, "nearest none")?;
-    let two = AnyAnswer::NearestFew(found);
+    let two = AnyAnswer::NearestOnes(found);
     check_answer(&rt, alloc, two, "nearest 4 1 9 1")?;
     Ok(())
 }

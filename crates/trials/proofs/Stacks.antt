@@ -4,8 +4,8 @@ use Rattle.query_laws.specs.Permuted.{Permuted, nothing, same_head, composed}
 use Rattle.std.proofs.lemmas.List.Elements.{All-nil}
 use Rattle.query_laws.proofs.Permutations.{Permuted-append_comm, Permuted-filter}
 use Rattle.builder_trait.specs.Parts.{Contents, without}
-use Rattle.stack_levels.specs.Slots.{Slots, IsPartOf}
-use Rattle.stack_levels.specs.Levels.{live_items, all_items, weight_of}
+use Rattle.log_levels.specs.Slots.{Slots, IsPartOf}
+use Rattle.log_levels.specs.Levels.{live_items, all_items, weight_of}
 use Rattle.global_rebuild.proofs.Walking.{All-part, below-appended}
 use Rattle.trials.specs.Stacks.{IsStackOf}
 

@@ -2,7 +2,7 @@
 use crate::bench::Bench;
 use crate::tried::Tried;
 use builder_trait::{Answers, Asking, Builder, Part};
-use level_slots::Stack;
+use log_method::Stack;
 use query_laws::step_ledger::Steps;
 use query_laws::{Item, NoMemory, Question};
 use samples::{Failure, Outcome};

@@ -1,13 +1,13 @@
 //! What is tried: items of a kind that come and go, and answer questions.
 use crate::bench::Bench;
 use builder_trait::{Answers, Builder, Rows, RowsBuilder};
-use interval_stab::StabRows;
-use kd_nearest::KdRows;
+use interval_tree::StabRows;
+use kd_tree::KdRows;
 use map_questions::{AnyAnswer, AnyQuestion};
-use priority_search::TopRows;
+use priority_tree::TopRows;
 use query_laws::step_ledger::Steps;
 use query_laws::{NoMemory, Question};
-use range_ranks::RangeRows;
+use range_tree::RangeRows;
 use samples::{Failure, Outcome, Seeded};
 use std::alloc::Global;
 use std::sync::ledger::Ledger;
@@ -102,8 +102,8 @@ impl Kind for KdRows {
         bench: &mut Bench<L>,
     ) -> Outcome<AnyAnswer> {
         Ok(match question {
-            AnyQuestion::Near(q) => AnyAnswer::Nearest(set.answer(q, bench)?),
-            AnyQuestion::NearK(q) => AnyAnswer::NearestFew(set.answer(q, bench)?),
+            AnyQuestion::Near(q) => AnyAnswer::NearestOne(set.answer(q, bench)?),
+            AnyQuestion::NearK(q) => AnyAnswer::NearestOnes(set.answer(q, bench)?),
             _ => return Err(Failure::Unfit),
         })
     }

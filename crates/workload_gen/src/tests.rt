@@ -3,7 +3,7 @@ use super::*;
 use answer_text::{Refusal, Reply};
 use map_io::MemSink;
 use map_questions::AnyAnswer;
-use map_shapes::{Asked, Found, Peak, Spent};
+use map_shapes::{Found, Peak, QuestionCost, Spent};
 use std::test::Fail;
 
 /// The lines of seed 0, by another program that was written from the definition.
@@ -26,7 +26,7 @@ const LINES: [&str; 13] = [
 const SUMMARY: &str =
     "commands 8\nrefused 1\nlive 2\ncounted 6\nids 4\nparts 6\ntouches 60\nlargest 9/480\n";
 
-const ASKED: Asked = Asked {
+const ASKED: QuestionCost = QuestionCost {
     parts: 2,
     part_bound: 12,
     touches: 20,
@@ -93,7 +93,7 @@ fn replies_are_summed_up(rt: HostRuntime) -> Result<(), Fail> {
         spent(9, 480),
         spent(9, 672),
         answered(AnyAnswer::Counted(6)),
-        answered(AnyAnswer::Nearest(Some(Found {
+        answered(AnyAnswer::NearestOne(Some(Found {
             id: u64::MAX,
             dist: 7,
         }))),

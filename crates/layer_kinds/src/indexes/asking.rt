@@ -2,21 +2,21 @@
 ghost use Rattle.std.specs.Prelude.{◌≡◌, ℕ, ◌+◌, ◌*◌, List, None, IfOk, IfSome, length, map};
 ghost use Rattle.query_laws.specs.StepLedger.{Spends};
 ghost use Rattle.id_chain.specs.Chain.{Entry};
-ghost use Rattle.stack_levels.specs.Levels.{parts_of, touches_of};
-ghost use Rattle.level_slots.specs.Height.{AreFew};
+ghost use Rattle.log_levels.specs.Levels.{parts_of, touches_of};
+ghost use Rattle.log_method.specs.Height.{AreFew};
 ghost use Rattle.global_rebuild.specs.Index.{live_in};
 ghost use Rattle.layer_kinds.specs.Indexing.{IsOf};
 ghost use Rattle.layer_kinds.specs.Layered.{IsAskRefusal};
 
 use crate::{AskFault, LayerIndex};
 use builder_trait::{Answers, Asking, Builder, Given, Part};
-use map_kinds::MapKind;
+use map_structures::MapStructure;
 use query_laws::step_ledger::Steps;
 use query_laws::{Item, Question};
 use std::alloc::Global;
 use std::sync::ledger::Ledger;
 
-impl<B: MapKind> LayerIndex<B> {
+impl<B: MapStructure> LayerIndex<B> {
     /// Puts a question to the items, where the index is there.
     ///
     /// `NoIndex` where it isn't, and `NoMemory` where the answer wanted memory that wasn't given.

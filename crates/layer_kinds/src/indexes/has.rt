@@ -7,8 +7,8 @@ ghost use Rattle.layer_kinds.specs.Indexing.{IsOf};
 
 use crate::{Indexes, LayerIndex};
 use builder_trait::{Rows, RowsBuilder};
-use map_kinds::MapRows;
 use map_shapes::Shaped;
+use map_structures::MapRows;
 use query_laws::Item;
 use std::marker::PhantomData;
 

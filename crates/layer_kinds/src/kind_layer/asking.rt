@@ -10,8 +10,8 @@ ghost use Rattle.layer_kinds.specs.Asking.{IsEveryPart, IsAsking, IsReading, IsT
 use crate::bounds::Bounds;
 use crate::{AskFault, Has, KindLayer};
 use builder_trait::{AnsweringRows, Answers, Given, Rows, RowsPart};
-use map_kinds::{MapQuestion, MapRows};
-use map_shapes::{Asked, Shaped};
+use map_shapes::{QuestionCost, Shaped};
+use map_structures::{MapQuestion, MapRows};
 use query_laws::Question;
 use query_laws::step_ledger::Steps;
 use std::alloc::Global;
@@ -25,7 +25,7 @@ pub fn ask_layer<R: MapRows, P, X: Has<R, P>, Q: MapQuestion<R>, L: Ledger>(
     alloc: Global,
     question: &Q,
     steps: &mut Steps<L>,
-) -> Result<(Given<RowsPart<R>, Q>, Asked), AskFault>
+) -> Result<(Given<RowsPart<R>, Q>, QuestionCost), AskFault>
 where
     R: AnsweringRows<Q>,
     R::Item: Shaped,
@@ -50,12 +50,12 @@ fn told<P: Answers<Q>, Q: Question<Item = P::Item>, L: Ledger>(
     given: &Given<P, Q>,
     bounds: Bounds,
     steps: &Steps<L>,
-) -> Asked
+) -> QuestionCost
     ensures parts { result.parts ≡ given.now.parts }
     ensures part_bound { result.part_bound ≡ bounds.parts }
     ensures touches { result.touches ≡ lap_of steps.now.lap_start.touches steps.now.touches }
 {
-    Asked {
+    QuestionCost {
         parts: given.consulted(),
         part_bound: bounds.parts,
         touches: steps.lap_touches(),

@@ -5,14 +5,14 @@ ghost use Rattle.std.proofs.Common.{arith, refl};
 use crate::named::ask_of;
 use crate::{Answered, AnsweringIndexes, AskFault, NamedIndexes, OverPoints};
 use id_chain::{Chain, Handle};
-use kd_nearest::{KdBuilder, KdRows};
+use kd_tree::{KdBuilder, KdRows};
 use layer_kinds::{First, Has, Indexes, KindLayer, LayerIndex, Next};
 use map_questions::{Above, AnyQuestion, Near, NearK, Top};
-use map_shapes::{Asked, CountIn, IndexSet, ListIn, Point, Shape, SumIn};
-use priority_search::{TopBuilder, TopRows};
+use map_shapes::{CountIn, IndexSet, ListIn, Point, QuestionCost, Shape, SumIn};
+use priority_tree::{TopBuilder, TopRows};
 use query_laws::NoMemory;
 use query_laws::step_ledger::Steps;
-use range_ranks::{RangeBuilder, RangeRows};
+use range_tree::{RangeBuilder, RangeRows};
 use std::alloc::Global;
 use std::sync::ledger::Ledger;
 
@@ -139,7 +139,7 @@ impl AnsweringIndexes for PointIndexes {
         alloc: Global,
         question: &AnyQuestion,
         steps: &mut Steps<L>,
-    ) -> Result<(Answered, Asked), AskFault> {
+    ) -> Result<(Answered, QuestionCost), AskFault> {
         match question {
             AnyQuestion::CountIn(count) => {
                 ask_of::<RangeRows, First, PointIndexes, CountIn, L>(layer, alloc, count, steps)

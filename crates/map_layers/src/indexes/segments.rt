@@ -5,10 +5,10 @@ ghost use Rattle.std.proofs.Common.{arith, refl};
 use crate::named::ask_of;
 use crate::{Answered, AnsweringIndexes, AskFault, NamedIndexes, OverSegments};
 use id_chain::{Chain, Handle};
-use interval_stab::{StabBuilder, StabRows};
+use interval_tree::{StabBuilder, StabRows};
 use layer_kinds::{First, Has, Indexes, KindLayer, LayerIndex};
 use map_questions::{AnyQuestion, Stab, StabCount};
-use map_shapes::{Asked, IndexSet, Segment, Shape};
+use map_shapes::{IndexSet, QuestionCost, Segment, Shape};
 use query_laws::NoMemory;
 use query_laws::step_ledger::Steps;
 use std::alloc::Global;
@@ -106,7 +106,7 @@ impl AnsweringIndexes for SegmentIndexes {
         alloc: Global,
         question: &AnyQuestion,
         steps: &mut Steps<L>,
-    ) -> Result<(Answered, Asked), AskFault> {
+    ) -> Result<(Answered, QuestionCost), AskFault> {
         match question {
             AnyQuestion::Stab(stab) => {
                 ask_of::<StabRows, First, SegmentIndexes, Stab, L>(layer, alloc, stab, steps)

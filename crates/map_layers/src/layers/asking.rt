@@ -14,7 +14,7 @@ ghost use Rattle.map_layers.specs.Replies.{asked, IsAnswered};
 
 use crate::{Answered, AskFault, Layers, OverPoints, OverSegments};
 use map_questions::AnyQuestion;
-use map_shapes::{Asked, Name};
+use map_shapes::{Name, QuestionCost};
 use query_laws::step_ledger::Steps;
 use std::sync::ledger::Ledger;
 
@@ -28,7 +28,7 @@ impl<P: OverPoints, S: OverSegments> Layers<P, S> {
         name: &Name,
         question: &AnyQuestion,
         steps: &mut Steps<L>,
-    ) -> Result<(Answered, Asked), AskFault>
+    ) -> Result<(Answered, QuestionCost), AskFault>
         ensures answered { IsAnswered (map_of self.now) (Ask name.now (question_of question.now)) (map_of self.now)
             (asked (λ given. replies.Answered given.0.answer) result) }
         ensures question { IfOk result (λ given. given.0.question ≡ question_of question.now) }

@@ -1,7 +1,7 @@
 use Rattle.std.proofs.Common.{◌≡◌, ◌<◌, ◌==◌, ◌++◌, ◌∙◌, true, IfSome, option_to_list, refl, ap, subst, arith}
 use Rattle.std.proofs.lemmas.Bool.Decides.{nat_tests}
 use Rattle.std.proofs.lemmas.List.Elements.{All-pop}
-use Rattle.level_slots.specs.Stack.{Stacked, memory_of}
+use Rattle.log_method.specs.Stack.{Stacked, memory_of}
 use Rattle.global_rebuild.proofs.Retiring.{given-stays, given-gone}
 use Rattle.global_rebuild.proofs.index.give_up.Given.{Over}
 use Rattle.global_rebuild.proofs.index.give_up.Goals as goal

@@ -1,5 +1,5 @@
 use Rattle.std.proofs.Common.{◌≡◌, ◌==◌, ◌++◌, ◌∷◌, [], ◌∙◌, true, false, ap}
-use Rattle.level_slots.specs.Stack.{Stacked, memory_of}
+use Rattle.log_method.specs.Stack.{Stacked, memory_of}
 use Rattle.global_rebuild.specs.Retiring.{with_retired}
 use Rattle.global_rebuild.proofs.Retiring.{with-some, with-none}
 use Rattle.global_rebuild.proofs.index.swap.Goals as goal

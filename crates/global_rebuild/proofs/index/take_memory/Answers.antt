@@ -1,7 +1,7 @@
 use Rattle.std.proofs.Common.{ap, arith}
 use Rattle.std.specs.Option.{option_map_or}
-use Rattle.level_slots.specs.Retired.{parts_at}
-use Rattle.level_slots.proofs.GivingUp.{memory-at}
+use Rattle.log_method.specs.Retired.{parts_at}
+use Rattle.log_method.proofs.GivingUp.{memory-at}
 use Rattle.global_rebuild.proofs.index.take_memory.Goals as goal
 
 pub returns-in_err-prepare-clause-no_less : goal.returns-in_err-prepare-clause-no_less

@@ -3,9 +3,9 @@ use Rattle.std.proofs.lemmas.Bool.{cases_lt}
 use Rattle.std.proofs.lemmas.List.Elements.{All-cons}
 use Rattle.std.proofs.lemmas.List.Sorted.{All-permutation, Contains-permutation}
 use Rattle.query_laws.proofs.Permutations.{IsPermutation-from_Permuted, Permuted-sym}
-use Rattle.stack_levels.specs.Slots.{IsPartOf}
-use Rattle.stack_levels.specs.Levels.{live_items, all_items}
-use Rattle.stack_levels.proofs.Marks.{All-first}
+use Rattle.log_levels.specs.Slots.{IsPartOf}
+use Rattle.log_levels.specs.Levels.{live_items, all_items}
+use Rattle.log_levels.proofs.Marks.{All-first}
 use Rattle.index_tests.proofs.stacks.insert_up_to.Goals as goal
 
 all_of : {A : Type 0} (Q : A → Type 0) (xs ys : List A) → IsPartOf xs ys → All Q ys → All Q xs

@@ -1,5 +1,5 @@
 use Rattle.std.proofs.Common.{◌≡◌, ◌<◌, All, Contains}
-use Rattle.stack_levels.specs.Levels.{weight_of, live_items, all_items}
+use Rattle.log_levels.specs.Levels.{weight_of, live_items, all_items}
 use Rattle.index_tests.proofs.stacks.insert_up_to.Given as goal
 
 abbrev pub invariant-loop-stamp : goal.invariant-loop-stamp

@@ -1,9 +1,9 @@
 use Rattle.std.proofs.Common.{◌≡◌, ◌+◌, ◌*◌, ◌∙◌, length, map, ap, subst, arith}
 use Rattle.query_laws.proofs.Values.{value-Permuted}
-use Rattle.level_slots.proofs.Forecasting.{when_ok}
-use Rattle.stack_levels.specs.Levels.{live_items, parts_of}
-use Rattle.level_slots.specs.Height.{AreFew}
-use Rattle.level_slots.proofs.FewParts.{parts-small}
+use Rattle.log_method.proofs.Forecasting.{when_ok}
+use Rattle.log_levels.specs.Levels.{live_items, parts_of}
+use Rattle.log_method.specs.Height.{AreFew}
+use Rattle.log_method.proofs.FewParts.{parts-small}
 use Rattle.global_rebuild.specs.Index.{live_in}
 use Rattle.global_rebuild.proofs.Weights.{as_many, main_within}
 use Rattle.global_rebuild.proofs.index.Index.ask.Goals as goal

@@ -1,9 +1,9 @@
 use Rattle.std.proofs.Common.{rules, ◌≡◌, ℕ, ◌+◌, ◌-◌, ◌*◌, ◌^◌, ◌<◌, ◌∙◌, nat_lt, true, false, Option, Some, None, [], ◌∷◌, ap, sym, arith}
 use Rattle.std.proofs.lemmas.Bool.Decides.{nat_tests}
 use Rattle.id_chain.specs.Chain.{is_linked, before_cursor}
-use Rattle.stack_levels.specs.Levels.{weight_of}
-use Rattle.stack_levels.specs.Cost.{IsWithin, quotas}
-use Rattle.level_slots.specs.Stack.{held_by_level}
+use Rattle.log_levels.specs.Levels.{weight_of}
+use Rattle.log_levels.specs.Cost.{IsWithin, quotas}
+use Rattle.log_method.specs.Stack.{held_by_level}
 use Rattle.global_rebuild.specs.Index.{Shadow, IsIndexOf, live_in, is_heavy}
 use Rattle.global_rebuild.proofs.Forgetting.{live_item}
 use Rattle.global_rebuild.proofs.Weights.{main_few, main_light}

@@ -1,7 +1,7 @@
 use Rattle.std.proofs.Common.{◌≡◌, ◌+◌, ◌^◌, ◌<◌, ◌∙◌, true, [], ◌∷◌, ◌++◌, Some, length, ap, sym, subst, arith}
 use Rattle.id_chain.specs.Chain.{Entry, HandlesDiffer, is_linked}
 use Rattle.id_chain.proofs.Cursors.{linked-append}
-use Rattle.stack_levels.specs.Levels.{waiting_of}
+use Rattle.log_levels.specs.Levels.{waiting_of}
 use Rattle.global_rebuild.proofs.Appending.{appended, last_item}
 use Rattle.global_rebuild.proofs.Weights.{IsSoundOf, main_few, main_light}
 use Rattle.global_rebuild.proofs.index.Index.commit_insert.Given.{Over}

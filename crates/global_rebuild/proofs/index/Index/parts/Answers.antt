@@ -1,6 +1,6 @@
 use Rattle.std.proofs.Common.{◌+◌, ◌*◌, ◌≤◌, ◌^◌, ap, subst, arith}
-use Rattle.stack_levels.specs.Levels.{parts_of}
-use Rattle.level_slots.specs.Height.{HaveAtMost}
+use Rattle.log_levels.specs.Levels.{parts_of}
+use Rattle.log_method.specs.Height.{HaveAtMost}
 use Rattle.global_rebuild.proofs.Weights.{main_few}
 use Rattle.global_rebuild.proofs.index.Index.parts.Goals as goal
 

@@ -1,5 +1,5 @@
 use Rattle.std.proofs.Common.{rules, ◌≡◌, None, ◌∙◌, Some, inl, refl, ap, arith}
-use Rattle.level_slots.proofs.Forecasting.{when_ok, anyway_ok, anyway_err, both_ok}
+use Rattle.log_method.proofs.Forecasting.{when_ok, anyway_ok, anyway_err, both_ok}
 use Rattle.global_rebuild.specs.Index.{Shadow}
 use Rattle.global_rebuild.specs.Retiring.{with_retired}
 use Rattle.global_rebuild.proofs.Retiring.{one_less}

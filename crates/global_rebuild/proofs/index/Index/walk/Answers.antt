@@ -1,5 +1,5 @@
 use Rattle.std.proofs.Common.{◌≡◌, ◌≢◌, None, ◌∙◌, ⊎_elim, ap, sym, subst, arith}
-use Rattle.level_slots.proofs.Forecasting.{when_ok}
+use Rattle.log_method.proofs.Forecasting.{when_ok}
 use Rattle.global_rebuild.specs.Index.{IsInTime, live_in}
 use Rattle.global_rebuild.proofs.Weights.{IsIndex-shadow, paused, as_many, walked_few, live-walked, shadow_light, shadow_within, in_time-ahead, in_time-walked}
 use Rattle.global_rebuild.proofs.index.Index.walk.Goals as goal

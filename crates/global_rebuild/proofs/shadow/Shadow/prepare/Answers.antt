@@ -1,6 +1,6 @@
 use Rattle.std.proofs.Common.{ap, arith}
-use Rattle.level_slots.specs.Retired.{parts_at}
-use Rattle.level_slots.proofs.GivingUp.{memory-at}
+use Rattle.log_method.specs.Retired.{parts_at}
+use Rattle.log_method.proofs.GivingUp.{memory-at}
 use Rattle.global_rebuild.proofs.shadow.Shadow.prepare.Goals as goal
 
 pub returns-clause-no_less : goal.returns-clause-no_less

@@ -1,10 +1,10 @@
 use Rattle.std.proofs.Common.{◌≡◌, ◌+◌, ◌∙◌, ◌∷◌, inr, length, ap, sym, subst, arith}
 use Rattle.query_laws.specs.Permuted.{Permuted}
 use Rattle.query_laws.proofs.Permutations.{Permuted-length}
-use Rattle.stack_levels.specs.Slots.{IsPartOf}
-use Rattle.stack_levels.specs.Levels.{live_items, all_items, weight_of}
-use Rattle.level_slots.specs.Retired.{parts_at}
-use Rattle.level_slots.proofs.GivingUp.{memory-at, same-at}
+use Rattle.log_levels.specs.Slots.{IsPartOf}
+use Rattle.log_levels.specs.Levels.{live_items, all_items, weight_of}
+use Rattle.log_method.specs.Retired.{parts_at}
+use Rattle.log_method.proofs.GivingUp.{memory-at, same-at}
 use Rattle.global_rebuild.specs.Index.{live_in}
 use Rattle.global_rebuild.proofs.Walking.{IsShadowOf-next}
 use Rattle.global_rebuild.proofs.Weights.{handed_over}

@@ -1,7 +1,7 @@
 use Rattle.std.proofs.Common.{◌≡◌, ℕ, ◌+◌, ◌*◌, ◌≤◌, ◌∙◌, ⊎_elim, inl, inr, ap, subst, arith}
-use Rattle.stack_levels.specs.Cost.{IsWithin, quotas}
+use Rattle.log_levels.specs.Cost.{IsWithin, quotas}
 use Rattle.query_laws.specs.StepLedger.{Counts}
-use Rattle.stack_levels.proofs.Spending.{IsWithin-more, IsWithin-then}
+use Rattle.log_levels.proofs.Spending.{IsWithin-more, IsWithin-then}
 use Rattle.global_rebuild.proofs.Weights.{handed_then, lighter}
 use Rattle.global_rebuild.proofs.shadow.Shadow.walk.Goals as goal
 

@@ -1,7 +1,7 @@
 use Rattle.std.proofs.Common.{◌≡◌, ℕ, ◌+◌, ◌*◌, ◌^◌, ◌<◌, ◌⊎◌, None}
 use Rattle.id_chain.specs.StampsRise.{StampsRise}
-use Rattle.stack_levels.specs.Levels.{weight_of}
-use Rattle.stack_levels.specs.Cost.{IsWithin, quotas}
+use Rattle.log_levels.specs.Levels.{weight_of}
+use Rattle.log_levels.specs.Cost.{IsWithin, quotas}
 use Rattle.global_rebuild.specs.Index.{live_in, HandsOver, IsShadowOf}
 use Rattle.global_rebuild.proofs.shadow.Shadow.walk.Given as goal
 

@@ -20,7 +20,7 @@ returns-clause-cost g c = record {
             let of = subst (λ o. IsOf contents stamp o es c.requires.of.0) (sym c.self.view_is) c.requires.of.1 in
             let h : IsIndexOf contents stamp w.in-Some.index es c.requires.of.0 = subst (λ o. IsOf contents stamp o es c.requires.of.0) w.in-Some.is of in
             subst (λ s. IsShared (delete_turns g') (delete_marks g') (rates_of rate index) g' c.args.steps.now s) (sym w.steps-is)
-            (IsShared-there (delete_turns g') (delete_marks g') g' rate index w.in-Some.index w.in-Some.is (g.met.B.MapKind.few_touches g')
+            (IsShared-there (delete_turns g') (delete_marks g') g' rate index w.in-Some.index w.in-Some.is (g.met.B.MapStructure.few_touches g')
             (w.commit_delete.ensures.cost g' (omega (arith, light, as_many contents stamp w.in-Some.index es h))))
         | in_default w ↦
             subst (λ s. IsShared (delete_turns g') (delete_marks g') (rates_of rate index) g' c.args.steps.now s) (sym w.steps-is)

@@ -25,7 +25,7 @@ returns-clause-cost g c = record {
             let e : Entry g.row.B-Item.Denot = record { handle = c.args.handle; item = last.1 } in
             let more = ap length last.2 ∙ length-append last.0 (e ∷ []) in
             subst (λ s. IsShared (insert_turns g') (insert_marks g') (rates_of rate index) g' c.args.steps.now s) (sym w.steps-is)
-            (IsShared-there (insert_turns g') (insert_marks g') g' rate index w.in-Some.index w.in-Some.is (g.met.B.MapKind.few_touches g')
+            (IsShared-there (insert_turns g') (insert_marks g') g' rate index w.in-Some.index w.in-Some.is (g.met.B.MapStructure.few_touches g')
             (w.commit_insert.ensures.cost g' (omega (arith, light, more, as_many contents stamp w.in-Some.index last.0 h))))
         | in_default w ↦
             subst (λ s. IsShared (insert_turns g') (insert_marks g') (rates_of rate index) g' c.args.steps.now s) (sym w.steps-is)

@@ -2,7 +2,7 @@ use Rattle.std.proofs.Common.{rules, ◌≡◌, ◌+◌, ◌^◌, true, ◌*◌,
 use Rattle.std.specs.Prelude.{IfSome}
 use Rattle.std.specs.Option.{is_some}
 use Rattle.std.proofs.lemmas.List.{length-map}
-use Rattle.stack_levels.specs.Levels.{parts_of}
+use Rattle.log_levels.specs.Levels.{parts_of}
 use Rattle.map_model.specs.Answer.{answer_over}
 use Rattle.map_model.specs.Cost.{greatest_level, bounds_at}
 use Rattle.layer_kinds.specs.Indexing.{IsOf}

@@ -17,5 +17,5 @@ returns-clause-merges g c level room =
     Merges-of
     (ap (λ (m : Merging g.row.B-Item.Denot). record m { left = 2 * (c.len.result + c.len-2.result) }) (c.self.view_is ∙ c.requires.unbegun)
     ∙ ap (λ n. record (unbegun cap) { left = 2 * n }) (omega (arith, c.len.ensures.value, c.len-2.ensures.value)))
-    (Merges-begun {kind = record { stamp = g.B.Item.Item.stamp; before = g.B.Item.Item.before; slope = g.B.Builder.SLOPE; base = g.B.Builder.BASE }} a b cap level
+    (Merges-begun {profile = record { stamp = g.B.Item.Item.stamp; before = g.B.Item.Item.before; slope = g.B.Builder.SLOPE; base = g.B.Builder.BASE }} a b cap level
     (record { fits = c.requires.fits; other_fits = c.requires.other_fits; room = room; stamps_differ = c.requires.stamps }))

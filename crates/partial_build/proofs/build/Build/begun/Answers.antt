@@ -1,6 +1,6 @@
 use Rattle.std.proofs.Common.{◌≡◌, ◌+◌, ◌-◌, ◌*◌, ◌^◌, ◌≤◌, ◌∙◌, refl, ap, sym, subst, arith, length, ◌==◌, true, false}
 use Rattle.std.proofs.lemmas.List.{length-replicate}
-use Rattle.builder_trait.specs.Builders.{PartKind, all_live, begun}
+use Rattle.builder_trait.specs.Builders.{PartProfile, all_live, begun}
 use Rattle.partial_build.specs.NewPart.{IsAllLive}
 use Rattle.partial_build.specs.Quota.{quota}
 use Rattle.partial_build.specs.Construction.{Construction, turns_left}
@@ -9,8 +9,8 @@ use Rattle.partial_build.proofs.build.Build.begun.Given.{Over}
 use Rattle.partial_build.proofs.build.Build.begun.Goals as goal
 use Rattle.partial_build.proofs.build.Build.begun.Goals.{then-done, else-done}
 
-abbrev kind : (g : Over) → PartKind g.row.B-Item.Denot
-kind g = record { stamp = g.B.Item.Item.stamp; before = g.B.Item.Item.before; slope = g.B.Builder.SLOPE; base = g.B.Builder.BASE }
+abbrev profile : (g : Over) → PartProfile g.row.B-Item.Denot
+profile g = record { stamp = g.B.Item.Item.stamp; before = g.B.Item.Item.before; slope = g.B.Builder.SLOPE; base = g.B.Builder.BASE }
 
 -- what the fields are
 abbrev seen : (g : Over) (c : goal.Joined-done g) → Construction g.row.B-Item.Denot
@@ -26,7 +26,7 @@ fresh g c =
     ]
 
 in_time : (g : Over) (c : goal.Joined-done g)
-    → turns_left (kind g) (seen g c) ≤ (2 ^ (c.args.level - 1) - 0) * quota g.B.Builder.SLOPE g.B.Builder.BASE c.args.level
+    → turns_left (profile g) (seen g c) ≤ (2 ^ (c.args.level - 1) - 0) * quota g.B.Builder.SLOPE g.B.Builder.BASE c.args.level
 in_time g c =
     let slope = g.B.Builder.SLOPE in
     let base = g.B.Builder.BASE in
@@ -39,7 +39,7 @@ in_time g c =
           let read : c.args.merge.left ≡ 0 = c.done.ensures.value.0 w.if-done.true in
           omega (
             arith,
-            turns_left-sealed (kind g) (seen g c) (ap (λ p. p.is_sealed) w.part-is ∙ ap (λ p. p.is_sealed) w.seal.ensures.closed),
+            turns_left-sealed (profile g) (seen g c) (ap (λ p. p.is_sealed) w.part-is ∙ ap (λ p. p.is_sealed) w.seal.ensures.closed),
             ap (λ p. p.left) w.part-is,
             read,
             within_half slope base c.args.level c.requires.least w.seal.new.self.left bounded,
@@ -50,7 +50,7 @@ in_time g c =
           ap (λ p. p.is_sealed) w.part-is ∙ ap (λ p. p.is_sealed) c.new-part.ensures ∙ ap (λ p. p.is_sealed) c.requires.empty in
           omega (
             arith,
-            turns_left-open (kind g) (seen g c) unsealed,
+            turns_left-open (profile g) (seen g c) unsealed,
             in_time-begun slope base c.args.level c.requires.least c.args.merge.left c.requires.few,
           )
     ]

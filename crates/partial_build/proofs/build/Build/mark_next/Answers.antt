@@ -1,7 +1,7 @@
 use Rattle.std.proofs.Common.{◌≡◌, ◌*◌, ◌-◌, ◌∙◌, refl, ap, sym, subst, arith, length}
 use Rattle.std.proofs.lemmas.List.{length_push}
 use Rattle.query_laws.specs.StepLedger.{Spends}
-use Rattle.builder_trait.specs.Builders.{PartKind}
+use Rattle.builder_trait.specs.Builders.{PartProfile}
 use Rattle.partial_build.specs.Construction.{KeepsUp, IsUnderConstruction}
 use Rattle.builder_trait.specs.Parts.{marked, live_of}
 use Rattle.partial_build.proofs.Stamps.{length-fallen}
@@ -10,21 +10,21 @@ use Rattle.partial_build.proofs.KeepingUp.{Builds-of, KeepsUp-marked, OwnsStamp-
 use Rattle.partial_build.proofs.build.Build.mark_next.Given.{Over}
 use Rattle.partial_build.proofs.build.Build.mark_next.Goals as goal
 
-abbrev kind : (g : Over) → PartKind g.row.B-Item.Denot
-kind g = record { stamp = g.B.Item.Item.stamp; before = g.B.Item.Item.before; slope = g.B.Builder.SLOPE; base = g.B.Builder.BASE }
+abbrev profile : (g : Over) → PartProfile g.row.B-Item.Denot
+profile g = record { stamp = g.B.Item.Item.stamp; before = g.B.Item.Item.before; slope = g.B.Builder.SLOPE; base = g.B.Builder.BASE }
 
 pub mark-requires-clause-owner : goal.mark-requires-clause-owner
 mark-requires-clause-owner g c =
     let h = Builds-of c.self.view_is c.requires.some.2 in
     OwnsStamp-waiting c.pop.new.self.items c.in-Some.item
-    (subst (λ l. KeepsUp (kind g) c.self.inside.merge c.self.inside.part.contents l c.requires.some.0 c.requires.some.1)
+    (subst (λ l. KeepsUp (profile g) c.self.inside.merge c.self.inside.part.contents l c.requires.some.0 c.requires.some.1)
     c.in-Some.ensures.items h)
 
 pub returns-in-Some-clause-builds : goal.returns-in-Some-clause-builds
 returns-in-Some-clause-builds g c a b builds =
-    let h = subst (λ l. KeepsUp (kind g) c.self.inside.merge c.self.inside.part.contents l a b) c.in-Some.ensures.items
+    let h = subst (λ l. KeepsUp (profile g) c.self.inside.merge c.self.inside.part.contents l a b) c.in-Some.ensures.items
     (Builds-of c.self.view_is builds) in
-    subst (λ p. KeepsUp (kind g) c.self.inside.merge p.contents c.pop.new.self.items a b) (sym c.mark.ensures.marked)
+    subst (λ p. KeepsUp (profile g) c.self.inside.merge p.contents c.pop.new.self.items a b) (sym c.mark.ensures.marked)
     (KeepsUp-marked c.pop.new.self.items c.in-Some.item h (ap (λ p. live_of p.contents) (sym c.mark.ensures.marked) ∙ c.mark.ensures.live))
 
 pub returns-in-Some-clause-marks : goal.returns-in-Some-clause-marks
@@ -65,7 +65,7 @@ invariant_of-self g c =
     let h = c.self.invariant in
     let dead = g.B.Item.Item.stamp c.in-Some.item in
     let part = c.self.inside.part.contents in
-    subst (λ n. IsUnderConstruction (kind g) n (record {
+    subst (λ n. IsUnderConstruction (profile g) n (record {
       level = c.self.inside.level;
       ticks = c.self.inside.ticks;
       merge = c.self.inside.merge;

@@ -1,5 +1,5 @@
 use Rattle.std.proofs.Common.{◌+◌, ◌*◌, ◌^◌, ◌<◌, ◌≤◌, ◌∙◌, ap, sym, subst, arith}
-use Rattle.builder_trait.specs.Builders.{PartKind}
+use Rattle.builder_trait.specs.Builders.{PartProfile}
 use Rattle.partial_build.specs.NewPart.{put_of, IsAllLive}
 use Rattle.partial_build.specs.Construction.{Construction, KeepsUp, turns_left}
 use Rattle.partial_build.proofs.Clock.{within_half, turns_left-sealed, turns_left-open, IsUnderConstruction-sealed}
@@ -7,8 +7,8 @@ use Rattle.partial_build.proofs.KeepingUp.{Builds-of, KeepsUp-read}
 use Rattle.partial_build.proofs.build.Build.read.Given.{Over}
 use Rattle.partial_build.proofs.build.Build.read.Goals as goal
 
-abbrev kind : (g : Over) → PartKind g.row.B-Item.Denot
-kind g = record { stamp = g.B.Item.Item.stamp; before = g.B.Item.Item.before; slope = g.B.Builder.SLOPE; base = g.B.Builder.BASE }
+abbrev profile : (g : Over) → PartProfile g.row.B-Item.Denot
+profile g = record { stamp = g.B.Item.Item.stamp; before = g.B.Item.Item.before; slope = g.B.Builder.SLOPE; base = g.B.Builder.BASE }
 
 pub seal-requires-clause-complete : goal.seal-requires-clause-complete
 seal-requires-clause-complete g c =
@@ -29,20 +29,20 @@ abbrev sealed : (g : Over) (c : goal.After-seal g) → Construction g.row.B-Item
 sealed g c = record (before g c) { merge = c.read.new.merge; part = c.seal.new.self }
 
 fewer : (g : Over) (c : goal.After-seal g)
-    → turns_left (kind g) (sealed g c) + c.args.count ≤ turns_left (kind g) (before g c)
+    → turns_left (profile g) (sealed g c) + c.args.count ≤ turns_left (profile g) (before g c)
 fewer g c =
     let some : 0 < c.self.inside.merge.left = omega (arith, c.read.ensures.read.left) in
     let level = c.read.ensures.read.level ∙ c.self.invariant.at_level in
     let quota = subst (λ n. 2 * c.seal.new.self.left ≤ 2 ^ n * (g.B.Builder.SLOPE * n + g.B.Builder.BASE)) level c.seal.ensures.quota.bounded in
     omega (
       arith,
-      turns_left-sealed (kind g) (sealed g c) (ap (λ p. p.is_sealed) c.seal.ensures.closed),
-      turns_left-open (kind g) (before g c) (c.self.invariant.unsealed some).0,
+      turns_left-sealed (profile g) (sealed g c) (ap (λ p. p.is_sealed) c.seal.ensures.closed),
+      turns_left-open (profile g) (before g c) (c.self.invariant.unsealed some).0,
       within_half g.B.Builder.SLOPE g.B.Builder.BASE c.self.inside.level c.self.invariant.least c.seal.new.self.left quota,
     )
 
 pub returns-then-done-clause-fewer : goal.returns-then-done-clause-fewer
-returns-then-done-clause-fewer g c = omega (arith, fewer g c, ap (turns_left (kind g)) c.self.view_is)
+returns-then-done-clause-fewer g c = omega (arith, fewer g c, ap (turns_left (profile g)) c.self.view_is)
 
 pub invariant_of-self : goal.invariant_of-self
 invariant_of-self g c =
@@ -57,7 +57,7 @@ invariant_of-self g c =
 pub returns-then-done-clause-builds : goal.returns-then-done-clause-builds
 returns-then-done-clause-builds g c =
     let some : 0 < c.self.inside.merge.left = omega (arith, c.read.ensures.read.left) in
-    subst (λ p. KeepsUp (kind g) c.read.new.merge p.contents c.self.inside.waiting.items
+    subst (λ p. KeepsUp (profile g) c.read.new.merge p.contents c.self.inside.waiting.items
     (g.B.Part.Part.contents c.args.a.now) (g.B.Part.Part.contents c.args.b.now)) (sym c.seal.ensures.closed)
     (KeepsUp-read (Builds-of c.self.view_is c.requires.builds) c.read.ensures.merges c.read.ensures.read
     (c.self.invariant.fresh (c.self.invariant.unsealed some).1) c.read.ensures.live)

@@ -1,14 +1,14 @@
 use Rattle.std.proofs.Common.{◌≡◌, ℕ, Bool, true, ◌+◌, ◌-◌, ◌^◌, ◌∙◌, if◌then◌else◌, inl, inr, ap, sym, subst, arith, length, ⊎_elim}
 use Rattle.std.proofs.lemmas.Bool.{cases_lt}
-use Rattle.builder_trait.specs.Builders.{PartKind}
+use Rattle.builder_trait.specs.Builders.{PartProfile}
 use Rattle.partial_build.specs.Quota.{quota}
 use Rattle.partial_build.specs.Construction.{Construction, Builds, turns_left}
 use Rattle.partial_build.proofs.Clock.{twice, built_ended, ended_built, IsTicked, IsTicked-paid}
 use Rattle.partial_build.proofs.build.Build.tick.Given.{Over}
 use Rattle.partial_build.proofs.build.Build.tick.Goals as goal
 
-abbrev kind : (g : Over) → PartKind g.row.B-Item.Denot
-kind g = record { stamp = g.B.Item.Item.stamp; before = g.B.Item.Item.before; slope = g.B.Builder.SLOPE; base = g.B.Builder.BASE }
+abbrev profile : (g : Over) → PartProfile g.row.B-Item.Denot
+profile g = record { stamp = g.B.Item.Item.stamp; before = g.B.Item.Item.before; slope = g.B.Builder.SLOPE; base = g.B.Builder.BASE }
 
 abbrev seen : (g : Over) (c : goal.After-self-1 g) → Construction g.row.B-Item.Denot
 seen g c = record {
@@ -24,9 +24,9 @@ marked_where_built {b} {marks} {most} h built = h ∙ ap (λ c. if c then most e
 
 ticked : (g : Over) (c : goal.After-self-1 g) → IsTicked (2 ^ (c.self-2.inside.level - 1)) c.self-2.inside.ticks
     (quota g.B.Builder.SLOPE g.B.Builder.BASE c.self-2.inside.level)
-    (turns_left (kind g) (seen g c)) (length c.self-2.inside.waiting.items)
+    (turns_left (profile g) (seen g c)) (length c.self-2.inside.waiting.items)
 ticked g c =
-    let left : Construction g.row.B-Item.Denot → ℕ = turns_left (kind g) in
+    let left : Construction g.row.B-Item.Denot → ℕ = turns_left (profile g) in
     let inside = c.self.inside in
     let level : c.self-2.inside.level ≡ inside.level =
     ap (λ v. v.level) c.self-2.view_is ∙ ap (λ v. v.level) c.drain.ensures.same ∙ ap (λ v. v.level) c.grow.ensures.same
@@ -98,4 +98,4 @@ drain-requires g c =
     let contents = g.B.Part.Part.contents in
     let a = contents c.args.a.now in
     let b = contents c.args.b.now in
-    record { some = (a, b, subst (λ v. Builds (kind g) v a b) (sym c.grow.ensures.same) c.read.ensures.builds) }
+    record { some = (a, b, subst (λ v. Builds (profile g) v a b) (sym c.grow.ensures.same) c.read.ensures.builds) }

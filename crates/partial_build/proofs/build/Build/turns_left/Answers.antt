@@ -1,13 +1,13 @@
 use Rattle.std.proofs.Common.{◌≡◌, ℕ, zero, suc, ◌+◌, ◌-◌, ◌*◌, ◌^◌, ◌<◌, ◌≤◌, ◌∙◌, arith, ap, refl}
 use Rattle.std.proofs.Math.Nat.{pow-le-pow_right, mul-le-mul}
-use Rattle.builder_trait.specs.Builders.{PartKind}
+use Rattle.builder_trait.specs.Builders.{PartProfile}
 use Rattle.partial_build.specs.Quota.{quota}
 use Rattle.partial_build.proofs.Clock.{quota_is, turns_left-open}
 use Rattle.partial_build.proofs.build.Build.turns_left.Given.{Over}
 use Rattle.partial_build.proofs.build.Build.turns_left.Goals as goal
 
-abbrev kind : (g : Over) → PartKind g.row.B-Item.Denot
-kind g = record { stamp = g.B.Item.Item.stamp; before = g.B.Item.Item.before; slope = g.B.Builder.SLOPE; base = g.B.Builder.BASE }
+abbrev profile : (g : Over) → PartProfile g.row.B-Item.Denot
+profile g = record { stamp = g.B.Item.Item.stamp; before = g.B.Item.Item.before; slope = g.B.Builder.SLOPE; base = g.B.Builder.BASE }
 
 positive : (n : ℕ) → (n ≡ 0 → ⊥) → 0 < n
 positive zero some = absurd (some refl)
@@ -30,7 +30,7 @@ overflow_add-result-2 g c =
     ap (λ n. n * (c.SLOPE.result * inside.level + c.BASE.result)) c.pow-half.ensures
     ∙ ap (λ n. 2 ^ (inside.level - 1) * (n * inside.level + c.BASE.result)) c.SLOPE.ensures
     ∙ ap (λ n. 2 ^ (inside.level - 1) * (slope * inside.level + n)) c.BASE.ensures in
-    let whole = turns_left-open (kind g) (record {
+    let whole = turns_left-open (profile g) (record {
       level = inside.level;
       ticks = inside.ticks;
       merge = inside.merge;

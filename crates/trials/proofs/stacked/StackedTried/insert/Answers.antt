@@ -1,5 +1,5 @@
 use Rattle.std.proofs.Common.{◌≡◌, [], ◌∷◌, ◌++◌, ◌∙◌, ap, sym, subst, arith}
-use Rattle.stack_levels.specs.Levels.{weight_of}
+use Rattle.log_levels.specs.Levels.{weight_of}
 use Rattle.trials.specs.Stacks.{IsStackOf}
 use Rattle.trials.proofs.Stacks.{IsStackOf-same, IsStackOf-insert}
 use Rattle.trials.proofs.stacked.StackedTried.insert.Goals as goal

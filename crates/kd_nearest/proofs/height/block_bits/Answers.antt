@@ -1,5 +1,0 @@
-use Rattle.kd_nearest.specs.HeightLaws.{span-is}
-use Rattle.kd_nearest.proofs.height.block_bits.Goals as goal
-
-pub returns-clause-bits : goal.returns-clause-bits
-returns-clause-bits c = span-is c.args.level

@@ -1,9 +1,0 @@
-use Rattle.std.proofs.Common.{[], sym, subst}
-use Rattle.kd_nearest.specs.Placings.{IsPlacing}
-use Rattle.kd_nearest.proofs.Placings.{IsPlacing-none}
-use Rattle.kd_nearest.proofs.placing.Placing.room.Goals as goal
-
-pub invariant_of-result : goal.invariant_of-result
-invariant_of-result c =
-    subst (λ e. IsPlacing e c.in_ok-room-2.field-0) (sym c.in_ok-room.ensures)
-    (subst (λ e. IsPlacing (record { items = []; capacity = c.args.cap }) e) (sym c.in_ok-room-2.ensures) (IsPlacing-none c.args.cap))

@@ -1,0 +1,49 @@
+use Rattle.std.proofs.Common.{◌≡◌, ℕ, ◌-◌, ◌≤◌, ◌∙◌, Option, Some, ap, sym, subst, arith, Bool, true, false, if◌then◌else◌, min, length}
+use Rattle.std.specs.Option.{option_map_or}
+use Rattle.builder_trait.specs.Builders.{PartProfile}
+use Rattle.partial_build.specs.Construction.{Construction, turns_left}
+use Rattle.partial_build.specs.Quota.{quota}
+use Rattle.log_levels.specs.Slots.{waiting_in}
+use Rattle.log_levels.specs.Cost.{IsWithin}
+use Rattle.log_levels.proofs.Held.{IsLevel-building, counted}
+use Rattle.log_levels.proofs.level.Level.tick.Given.{Over}
+use Rattle.log_levels.proofs.level.Level.tick.Goals as goal
+
+abbrev profile : (g : Over) → PartProfile g.row.B-Item.Denot
+profile g = record { stamp = g.B.Item.Item.stamp; before = g.B.Item.Item.before; slope = g.B.Builder.SLOPE; base = g.B.Builder.BASE }
+
+at_most_two : (b : Bool) (n : ℕ) → (if b then min 2 n else 0) ≤ 2
+at_most_two true n = omega arith
+at_most_two false n = omega arith
+
+pub tick-requires-clause-builds : goal.tick-requires-clause-builds
+tick-requires-clause-builds g c = c.requires.fed c.in-Some.construction (sym (ap (λ v. v.construction) c.self.view_is) ∙ c.in-Some.is)
+
+pub invariant_of-self : goal.invariant_of-self
+invariant_of-self g c =
+    IsLevel-building c.self.invariant c.tick.new.self (c.tick.ensures.ticked.0 ∙ c.self.invariant.builds c.in-Some.construction c.in-Some.is)
+    (omega (arith, c.self.invariant.few, counted c.in-Some.is)) (omega (arith, c.self.invariant.few_tables, counted c.in-Some.is))
+
+pub returns-clause-to_go : goal.returns-clause-to_go
+returns-clause-to_go g c =
+    let runs : c.args.self.now.construction ≡ Some c.in-Some.construction = sym (ap (λ v. v.construction) c.self.view_is) ∙ c.in-Some.is in
+    subst (λ o. c.tick.new.steps.turns - c.args.steps.now.turns ≤ option_map_or (turns_left (profile g)) o (quota g.B.Builder.SLOPE g.B.Builder.BASE c.args.self.now.level)) (sym runs)
+    (omega (arith, c.tick.ensures.taken.most))
+
+pub returns-clause-cost : goal.returns-clause-cost
+returns-clause-cost g c =
+    let h = c.tick.ensures in
+    let of_level : c.in-Some.construction.level ≡ c.args.self.now.level =
+    c.self.invariant.builds c.in-Some.construction c.in-Some.is ∙ ap (λ v. v.level) c.self.view_is in
+    subst (λ k. IsWithin (quota g.B.Builder.SLOPE g.B.Builder.BASE k) 2 (g.B.Part.Part.mark_touches k) c.args.steps.now c.tick.new.steps) of_level
+    (record {
+      few_turns = h.taken.few;
+      few_marks = subst (λ n. n ≤ 2) (sym h.drained.two) (at_most_two c.tick.new.self.part.is_built (length c.in-Some.construction.waiting));
+      spent = h.cost;
+    })
+
+pub returns-clause-waiting : goal.returns-clause-waiting
+returns-clause-waiting g c =
+    let runs : c.args.self.now.construction ≡ Some c.in-Some.construction = sym (ap (λ v. v.construction) c.self.view_is) ∙ c.in-Some.is in
+    let before : waiting_in c.args.self.now ≡ length c.in-Some.construction.waiting = ap (λ (o : Option (Construction g.row.B-Item.Denot)). option_map_or (λ v. length v.waiting) o 0) runs in
+    omega (arith, before, c.tick.ensures.drained.fewer, c.tick.ensures.cost.marks_spent)

@@ -1,0 +1,88 @@
+use Rattle.std.proofs.Common.{◌≡◌, ℕ, ◌+◌, ◌-◌, ◌^◌, ◌<◌, ◌≤◌, ◌⊎◌, ◌∙◌, Option, Some, None, true, List, ◌++◌, length, drop, refl, sym, ap, subst, inl, inr, ⊎_elim, arith}
+use Rattle.std.specs.Option.{is_some, option_map_or}
+use Rattle.std.proofs.lemmas.Bool.{cases_lt}
+use Rattle.builder_trait.specs.Builders.{PartProfile}
+use Rattle.partial_build.specs.Construction.{turns_left}
+use Rattle.partial_build.specs.Quota.{quota}
+use Rattle.log_levels.specs.Slots.{ticks_of, turns_to_go, items_in}
+use Rattle.log_levels.specs.Cost.{IsWithin}
+use Rattle.log_levels.specs.Neighbours.{IsVisited}
+use Rattle.log_levels.proofs.Distinct.{AllStampsDiffer-part}
+use Rattle.log_levels.proofs.Publishing.{are_oldest, oldest_items}
+use Rattle.log_levels.proofs.Neighbouring.{fed_by, visited-idle, visited-ticked, visited-published}
+use Rattle.log_levels.proofs.level.Level.visit.Given.{Over}
+use Rattle.log_levels.proofs.level.Level.visit.Goals as goal
+
+abbrev profile : (g : Over) → PartProfile g.row.B-Item.Denot
+profile g = record { stamp = g.B.Item.Item.stamp; before = g.B.Item.Item.before; slope = g.B.Builder.SLOPE; base = g.B.Builder.BASE }
+
+pub returns-in_default-clause-visited : goal.returns-in_default-clause-visited
+returns-in_default-clause-visited g c =
+    visited-idle g.B.Part.Part.contents (profile g) c.requires.below
+    (subst (λ ps. length ps < 2) c.parts.ensures.value c.in_default.len_below)
+
+pub begin-requires-clause-apart : goal.begin-requires-clause-apart
+begin-requires-clause-apart g c =
+    let f : g.row.B-Part.Denot → List g.row.B-Item.Denot = λ p. (g.B.Part.Part.contents p).items in
+    let a = c.a-item.result in
+    let b = c.b-item.result in
+    AllStampsDiffer-part g.B.Item.Item.stamp (f a ++ f b) (items_in g.B.Part.Part.contents c.args.lower.now)
+    (oldest_items f c.args.lower.now.parts a b
+    (are_oldest c.args.lower.now.parts c.parts.ensures.value c.in-len2-up.len_at_least c.a-item.is c.b-item.is)) c.requires.apart
+
+pub begin-requires-clause-fed : goal.begin-requires-clause-fed
+begin-requires-clause-fed g c c' is =
+    c.requires.below.fed c.a-item.result c.b-item.result (drop 2 c.args.lower.now.parts)
+    (are_oldest c.args.lower.now.parts c.parts.ensures.value c.in-len2-up.len_at_least c.a-item.is c.b-item.is) c' is
+
+pub publish-requires-clause-fed : goal.publish-requires-clause-fed
+publish-requires-clause-fed g c =
+    fed_by g.B.Part.Part.contents (profile g) c.args.lower.now c.tick.new.self
+    (are_oldest c.args.lower.now.parts c.parts.ensures.value c.in-len2-up.len_at_least c.a-item.is c.b-item.is) c.tick.ensures.fed
+
+either : {A : Type 0} (o : Option A) → (o ≡ None) ⊎ (is_some o ≡ true)
+either None = inl refl
+either (Some x) = inr refl
+
+pub returns-clause-cost : goal.returns-clause-cost
+returns-clause-cost g c =
+    let old = c.args.self.now in
+    let taken = c.tick.new.steps.turns - c.args.steps.now.turns in
+    let per_tick = quota g.B.Builder.SLOPE g.B.Builder.BASE in
+    let cost = λ (n : ℕ). IsWithin (per_tick n) 2 (g.B.Part.Part.mark_touches n) c.args.steps.now c.tick.new.steps in
+    let here : cost old.level = subst cost (ap (λ v. v.level) c.begin.ensures.same) c.tick.ensures.cost in
+    record {
+      idle = λ less. absurd (omega (arith, less, c.in-len2-up.len_at_least, ap length c.parts.ensures.value));
+      to_go = ⊎_elim
+          (λ none. subst (λ o. taken ≤ option_map_or (turns_left (profile g)) o (per_tick old.level)) (sym none) here.few_turns)
+          (λ some. subst (λ l. taken ≤ turns_to_go (profile g) l) (c.begin.ensures.running some) c.tick.ensures.to_go)
+          (either old.construction);
+      drained = omega (arith, c.begin.ensures.waiting, c.tick.ensures.waiting, c.publish.ensures.waiting);
+      within = here;
+    }
+
+pub returns-clause-visited : goal.returns-clause-visited
+returns-clause-visited g c =
+    let h = c.requires.below in
+    let mid = c.tick.new.self in
+    let old = c.args.self.now in
+    let is_visited = IsVisited g.B.Part.Part.contents (profile g) old c.args.lower.now in
+    let two : 2 ≤ length c.args.lower.now.parts = subst (λ ps. 2 ≤ length ps) c.parts.ensures.value c.in-len2-up.len_at_least in
+    let parts : mid.parts ≡ old.parts = ap (λ v. v.parts) c.tick.ensures.same ∙ ap (λ v. v.parts) c.begin.ensures.same in
+    let level : mid.level ≡ old.level = ap (λ v. v.level) c.tick.ensures.same ∙ ap (λ v. v.level) c.begin.ensures.same in
+    let ticked : ticks_of mid ≡ ticks_of old + 1 = c.tick.ensures.ticked ∙ ap (λ n. n + 1) c.begin.ensures.ticks in
+    let rooms : (old.construction ≡ None) ⊎ (mid.has_room ≡ old.has_room) =
+    ⊎_elim (λ none. inl none) (λ some. inr (ap (λ v. v.has_room) c.tick.ensures.same ∙ ap (λ v. v.has_room) (c.begin.ensures.running some)))
+    (either old.construction) in
+    let fed = fed_by g.B.Part.Part.contents (profile g) c.args.lower.now mid
+    (are_oldest c.args.lower.now.parts c.parts.ensures.value c.in-len2-up.len_at_least c.a-item.is c.b-item.is) c.tick.ensures.fed in
+    ⊎_elim
+    (λ early. let w = c.publish.ensures.waits early in
+    subst (λ n. is_visited n c.publish.new.lower) (sym w.0)
+    (subst (λ l. is_visited mid l) (sym w.1)
+    (visited-ticked g.B.Part.Part.contents (profile g) h two parts level ticked rooms c.tick.ensures.runs fed early)))
+    (λ late. let ended : ticks_of mid ≡ 2 ^ mid.level = omega (arith, late, ticked, h.early, ap (λ k. 2 ^ k) level) in
+    visited-published g.B.Part.Part.contents (profile g) h two parts level ticked rooms c.publish.new.self c.publish.new.lower
+    (sym (ended ∙ ap (λ k. 2 ^ k) level)) (c.publish.ensures.ends ended)
+    (ap (λ v. v.level) c.publish.ensures.same ∙ level) (ap (λ v. v.level) c.publish.ensures.same_below) (ap (λ v. v.has_room) c.publish.ensures.same))
+    (cases_lt (ticks_of mid) (2 ^ mid.level))

@@ -1,0 +1,59 @@
+-- What contracts see of levels one above the other, lowest first.
+use Rattle.std.specs.Prelude.{ℕ, ◌+◌, List, [], ◌∷◌, ◌++◌, if◌then◌else◌, length, sum_by}
+use Rattle.builder_trait.specs.Parts.{Contents, has_stamp}
+use Rattle.log_levels.specs.Slots.{Slots, InMemory, waiting_in, held_in, tables_in, weight_in, live_in, items_in, asked_in}
+
+-- a part more on the lowest of some levels
+abbrev pub one_more : List InMemory → List InMemory
+one_more [] = []
+one_more (m ∷ above) = record m { parts = m.parts + 1 } ∷ above
+
+module _ {P Item : Type 0} where
+  -- the parts in memory of the lowest level, and of all
+  abbrev pub lowest_held : List (Slots P Item) → ℕ
+  lowest_held [] = 0
+  lowest_held (l ∷ above) = held_in l
+
+  abbrev pub held_of : List (Slots P Item) → ℕ
+  held_of [] = 0
+  held_of (l ∷ above) = held_in l + held_of above
+
+  -- the tables in memory of the lowest level
+  abbrev pub lowest_tables : List (Slots P Item) → ℕ
+  lowest_tables [] = 0
+  lowest_tables (l ∷ above) = tables_in l
+
+  abbrev pub weight_of : List (Slots P Item) → ℕ
+  weight_of [] = 0
+  weight_of (l ∷ above) = weight_in l + weight_of above
+
+  -- the items that wait to be marked in the parts under construction
+  abbrev pub waiting_of : List (Slots P Item) → ℕ
+  waiting_of [] = 0
+  waiting_of (l ∷ above) = waiting_in l + waiting_of above
+
+  abbrev pub parts_of : List (Slots P Item) → ℕ
+  parts_of [] = 0
+  parts_of (l ∷ above) = length l.parts + parts_of above
+
+  -- the sum over all complete parts of a number of touches of each
+  abbrev pub touches_of : (P → ℕ) → List (Slots P Item) → ℕ
+  touches_of touches [] = 0
+  touches_of touches (l ∷ above) = touches_of touches above + sum_by touches l.parts
+
+  module _ (contents : P → Contents Item) where
+    -- the live items of all complete parts, those of the highest level first
+    abbrev pub live_items : List (Slots P Item) → List Item
+    live_items [] = []
+    live_items (l ∷ above) = live_items above ++ live_in contents l
+
+    -- their items, dead ones included
+    abbrev pub all_items : List (Slots P Item) → List Item
+    all_items [] = []
+    all_items (l ∷ above) = all_items above ++ items_in contents l
+
+    -- how many parts are asked for the live item with a stamp, those of the highest level first, up to the one that has it
+    abbrev pub parts_asked : (Item → ℕ) → ℕ → List (Slots P Item) → ℕ
+    parts_asked stamp s [] = 0
+    parts_asked stamp s (l ∷ above) = parts_asked stamp s above
+        + (if has_stamp stamp s (live_items above) then 0 else asked_in contents stamp s l.parts)

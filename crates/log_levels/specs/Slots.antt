@@ -1,0 +1,100 @@
+-- What contracts see of one level of a stack.
+use Rattle.std.specs.Prelude.{◌≡◌, ℕ, ◌+◌, ◌-◌, ◌*◌, ◌^◌, ◌≤◌, Bool, List, [], ◌∷◌, ◌++◌, Option, None, if◌then◌else◌, length}
+use Rattle.std.specs.List.{flat_map}
+use Rattle.std.specs.Option.{option_map, option_map_or, is_some}
+use Rattle.query_laws.specs.Permuted.{Permuted}
+use Rattle.builder_trait.specs.Parts.{Contents, has_stamp, live_of}
+use Rattle.builder_trait.specs.Builders.{PartProfile}
+use Rattle.ordered_merge.specs.Merging.{is_passed}
+use Rattle.partial_build.specs.Construction.{Construction, turns_left}
+use Rattle.partial_build.specs.Quota.{quota}
+
+-- the complete parts of a level, oldest first; the construction of its next part, which is made of the two oldest parts of the level
+-- below; whether there is room for the one after that; how many builders are kept, each made of a part that was retired; and the tables
+-- of how many constructions that ended
+pub record Slots (P Item : Type 0) : Type 0 where
+  pub level : ℕ
+  pub parts : List P
+  pub construction : Option (Construction Item)
+  pub has_room : Bool
+  pub kept : ℕ
+  pub tables : ℕ
+
+-- what is in memory: so many parts, in whatever use, and the tables of so many constructions
+pub record InMemory : Type 0 where
+  pub parts : ℕ
+  pub tables : ℕ
+
+abbrev pub one_if : Bool → ℕ
+one_if b = if b then 1 else 0
+
+-- every item of the first list is one of the second, and none more often
+abbrev pub IsPartOf : {Item : Type 0} → List Item → List Item → Type 0
+IsPartOf {Item} xs ys = (others : List Item) × Permuted (xs ++ others) ys
+
+module _ {P Item : Type 0} where
+  -- the ticks done of the construction into a level, 0 where none runs
+  abbrev pub ticks_of : Slots P Item → ℕ
+  ticks_of l = option_map_or (λ c. c.ticks) l.construction 0
+
+  -- the same, where one runs
+  abbrev pub clock_of : Slots P Item → Option ℕ
+  clock_of l = option_map (λ c. c.ticks) l.construction
+
+  -- the items that wait to be marked in its part, 0 where none runs
+  abbrev pub waiting_in : Slots P Item → ℕ
+  waiting_in l = option_map_or (λ c. length c.waiting) l.construction 0
+
+  -- 1 where the construction into a level has read an item, which waits there once it dies, and 0 where it hasn't
+  abbrev pub read_by : (Item → Item → Bool) → Item → Slots P Item → ℕ
+  read_by before x l = option_map_or (λ c. one_if (is_passed before c.merge.reached x)) l.construction 0
+
+  -- the turns that a tick may take of it: those that it has left, and a quota where it begins
+  abbrev pub turns_to_go : PartProfile Item → Slots P Item → ℕ
+  turns_to_go profile l = option_map_or (turns_left profile) l.construction (quota profile.slope profile.base l.level)
+
+  -- the parts of a level that are in memory: the complete ones, the one under construction, and empty ones, in the room and in the
+  -- builders that are kept
+  abbrev pub held_in : Slots P Item → ℕ
+  held_in l = length l.parts + one_if (is_some l.construction) + one_if l.has_room + l.kept
+
+  -- the tables of a level that are in memory: those of the construction, those in the room, and those that are kept
+  abbrev pub tables_in : Slots P Item → ℕ
+  tables_in l = l.tables + one_if (is_some l.construction) + one_if l.has_room
+
+  abbrev pub in_memory : Slots P Item → InMemory
+  in_memory l = record { parts = held_in l; tables = tables_in l }
+
+  -- of a level at most five parts are in memory, and the tables of two constructions
+  pub record HoldsFew (l : Slots P Item) : Type 0 where
+    pub parts : held_in l ≤ 5
+    pub tables : tables_in l ≤ 2
+
+  -- what is in memory of a level after a forecast: what was, and where a room is held now that wasn't, a part more if no builder was kept for it, and
+  -- tables more if none were
+  abbrev pub memory_by_forecast : Slots P Item → Bool → InMemory
+  memory_by_forecast l has_room = record {
+    parts = held_in l + (one_if has_room - (l.kept + one_if l.has_room));
+    tables = tables_in l + (one_if has_room - (l.tables + one_if l.has_room));
+  }
+
+  -- a part of level i weighs 2^i
+  abbrev pub weight_in : Slots P Item → ℕ
+  weight_in l = length l.parts * 2 ^ l.level
+
+  -- the level has neither a complete part nor a construction
+  pub record IsIdle (l : Slots P Item) : Type 0 where
+    pub no_parts : l.parts ≡ []
+    pub no_construction : l.construction ≡ None
+
+  module _ (contents : P → Contents Item) where
+    abbrev pub live_in : Slots P Item → List Item
+    live_in l = flat_map (λ p. live_of (contents p)) l.parts
+
+    abbrev pub items_in : Slots P Item → List Item
+    items_in l = flat_map (λ p. (contents p).items) l.parts
+
+    -- how many parts are asked for the live item with a stamp, up to the one that has it
+    abbrev pub asked_in : (Item → ℕ) → ℕ → List P → ℕ
+    asked_in stamp s [] = 0
+    asked_in stamp s (p ∷ ps) = 1 + (if has_stamp stamp s (live_of (contents p)) then 0 else asked_in stamp s ps)

@@ -1,4 +1,0 @@
-use Rattle.priority_search.proofs.heap.Heap.+fill.Given as goal
-
-abbrev pub decreases-fill : goal.decreases-fill
-decreases-fill g l = l.height

@@ -1,4 +1,0 @@
-use Rattle.priority_search.proofs.heap.Heap.+list.Given as goal
-
-abbrev pub decreases-list : goal.decreases-list
-decreases-list g l = l.height

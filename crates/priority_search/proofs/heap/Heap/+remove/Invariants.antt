@@ -1,4 +1,0 @@
-use Rattle.priority_search.proofs.heap.Heap.+remove.Given as goal
-
-abbrev pub decreases-remove : goal.decreases-remove
-decreases-remove g l = l.height

@@ -1,5 +1,0 @@
-use Rattle.std.proofs.Common.{length}
-use Rattle.priority_search.proofs.listing.+list_slots.Given as goal
-
-abbrev pub decreases-list_slots : goal.decreases-list_slots
-decreases-list_slots l = length l.slots.now

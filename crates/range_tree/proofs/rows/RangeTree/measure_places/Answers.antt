@@ -1,0 +1,42 @@
+use Rattle.std.proofs.Common.{◌≡◌, ◌+◌, ◌≤◌, ◌++◌, List, ℕ, ap, arith, refl, sym, subst}
+use Rattle.std.specs.List.{sum_by, filter}
+use Rattle.std.proofs.lemmas.List.Sums.{sum_by-append}
+use Rattle.query_laws.specs.StepLedger.{Spends}
+use Rattle.query_laws.proofs.Counting.{Spends-then, Spends-within, Spends-one_touch}
+use Rattle.map_shapes.specs.declared.point.Point.{Point}
+use Rattle.map_shapes.specs.Questions.{is_in}
+use Rattle.range_tree.specs.Measures.{measure_of}
+use Rattle.range_tree.specs.Queries.{live_between}
+use Rattle.range_tree.proofs.Between.{live_in-split}
+use Rattle.range_tree.proofs.ScanLemmas.{reached}
+use Rattle.range_tree.proofs.rows.RangeTree.measure_places.Goals as goal
+
+pub loop-l-preserved : goal.loop-l-preserved
+loop-l-preserved g c =
+    let part = c.args.points.now in
+    let rect = c.args.rect.now in
+    let from = c.args.places.from in
+    let to = c.args.places.to in
+    let a = c.max-from.result in
+    let b = c.min-to.result in
+    let at_a : reached from to c.loop-l.l ≡ a = omega (arith, c.max-from.ensures, c.div_ceil-l-end.ensures) in
+    let at_b : reached from to (c.loop-l.l + 1) ≡ b = omega (arith, c.min-to.ensures, c.div_ceil-l-end.ensures) in
+    let low : from ≤ a = omega (arith, c.max-from.ensures) in
+    let high : a ≤ b = omega (arith, c.max-from.ensures, c.min-to.ensures, c.div_ceil-l-end.ensures) in
+    let f : Point → ℕ = measure_of c.args.measure in
+    let live : ℕ → ℕ → List Point = λ i j. filter (is_in rect) (live_between part i j) in
+    let more : live from b ≡ live from a ++ live a b = live_in-split part rect from a b low high in
+    let touched = subst (λ s. Spends c.loop-l.steps s 0 0 1) (sym c.at-leaf.ensures.touched) (Spends-one_touch c.loop-l.steps) in
+    record {
+      sum = omega (
+        arith,
+        c.loop-l.invariant.sum,
+        c.measure_leaf-sum.ensures.sum,
+        ap (λ r. sum_by f (live from r)) at_a,
+        ap (λ r. sum_by f (live from r)) at_b,
+        ap (sum_by f) more,
+        sum_by-append f (live from a) (live a b),
+      );
+      few = omega (arith, c.loop-l.invariant.few, c.measure_leaf-sum.ensures.small, at_a, at_b, low, high);
+      spent = Spends-within (Spends-then (Spends-then c.loop-l.invariant.spent touched) c.measure_leaf-sum.ensures.cost) refl refl (omega (arith, at_a, at_b, low, high));
+    }

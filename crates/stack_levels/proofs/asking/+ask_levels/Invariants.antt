@@ -1,5 +1,0 @@
-use Rattle.std.proofs.Common.{length}
-use Rattle.stack_levels.proofs.asking.+ask_levels.Given as goal
-
-abbrev pub decreases-ask_levels : goal.decreases-ask_levels
-decreases-ask_levels g l = length l.levels.now

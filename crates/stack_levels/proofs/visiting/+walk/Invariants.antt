@@ -1,5 +1,0 @@
-use Rattle.std.proofs.Common.{length}
-use Rattle.stack_levels.proofs.visiting.+walk.Given as goal
-
-abbrev pub decreases-walk : goal.decreases-walk
-decreases-walk g l = length l.above.now

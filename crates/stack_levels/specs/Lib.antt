@@ -1,8 +1,0 @@
-pub mod Slots
-pub mod Levels
-pub mod Asked
-pub mod Level
-pub mod Neighbours
-pub mod Towers
-pub mod Cost
-pub mod Marking
