@@ -1,11 +1,12 @@
 -- What follows on one another writings and calls do to what a sink tells.
-use Rattle.std.proofs.Common.{◌≡◌, ◌==◌, ℕ, ◌+◌, ◌-◌, ◌<◌, ◌≤◌, Bool, true, false, min, List, [], ◌++◌, None, Some, length, take, arith, refl, sym, ◌∙◌, subst, if◌then◌else◌, length-append, take-append-drop}
+use Rattle.std.proofs.Common.{◌≡◌, ◌==◌, ℕ, ◌+◌, ◌-◌, ◌<◌, ◌≤◌, Bool, true, false, min, List, [], ◌++◌, None, Some, length, take, arith, refl, sym, ap, ◌∙◌, subst, if◌then◌else◌, length-append, take-append-drop}
 use Rattle.std.specs.Prelude.{Option}
 use Rattle.std.specs.Io.KnownBytes.{Appends}
 use Rattle.std.proofs.KnownBytes.{Appends-nil, Appends-trans}
 use Rattle.std.proofs.Math.Seq.{take-append-add}
 use Rattle.std.proofs.lemmas.List.{take-append-le}
 use Rattle.std.proofs.lemmas.Bool.Decides.{nat_tests}
+use Rattle.map_io.specs.Calls.{counted}
 use Rattle.map_io.specs.SinkTold.{SinkTold, CountsMore, CountsAtMost, Delivers, CutOff}
 
 -- ---- told counts
@@ -47,7 +48,7 @@ pub Delivers-within : (a b : SinkTold) (bs : List ℕ) (m n : ℕ) → m ≤ n �
 Delivers-within a b bs m n le p = record { written = p.written; pieces = CountsAtMost-weaker a.pieces b.pieces m n le p.pieces; faults = p.faults }
 
 pub CutOff-within : (a b : SinkTold) (bs : List ℕ) (m n : ℕ) → m ≤ n → CutOff a b bs m → CutOff a b bs n
-CutOff-within a b bs m n le p = record { written = p.written; pieces = CountsAtMost-weaker a.pieces b.pieces m n le p.pieces; kept = p.kept; failed = p.failed }
+CutOff-within a b bs m n le p = record { written = p.written; pieces = CountsAtMost-weaker a.pieces b.pieces m n le p.pieces; faults = p.faults }
 
 -- some bytes were written, and then a proper prefix of others
 pub CutOff-after : (a b c : SinkTold) (bs cs : List ℕ) (m n : ℕ) → Delivers a b bs m → CutOff b c cs n → CutOff a c (bs ++ cs) (m + n)
@@ -58,8 +59,7 @@ CutOff-after a b c bs cs m n p q = record {
     subst (λ l. Appends a.written c.written l) (sym (take-append-add bs cs q.written.0)) (Appends-trans a.written b.written c.written bs (take q.written.0 cs) p.written q.written.2),
   );
   pieces = CountsAtMost-trans a.pieces b.pieces c.pieces m n p.pieces q.pieces;
-  kept = omega (arith, p.faults, q.kept);
-  failed = λ low. omega (arith, p.faults, q.failed low);
+  faults = q.faults ∙ ap counted p.faults;
 }
 
 -- a proper prefix of the front is one of all
@@ -71,8 +71,7 @@ CutOff-append a b bs cs n p = record {
     subst (λ l. Appends a.written b.written l) (sym (take-append-le p.written.0 bs cs (let le : p.written.0 ≤ length bs = omega (arith, p.written.1) in le))) p.written.2,
   );
   pieces = p.pieces;
-  kept = p.kept;
-  failed = p.failed;
+  faults = p.faults;
 }
 
 -- ---- a call that is handed all that is left

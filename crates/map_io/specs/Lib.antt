@@ -1,5 +1,4 @@
 pub mod Calls
-pub mod Faults
 pub mod MemSink
 pub mod MemSource
 pub mod ProperPrefix

@@ -3,6 +3,7 @@ use Rattle.std.specs.Prelude.{◌==◌, ℕ, ◌+◌, ◌-◌, List, ◌++◌, S
 use Rattle.map_io.specs.Calls.{counted, numbers_after}
 use Rattle.map_io.specs.SinkTold.{SinkTold}
 
+-- a sink over memory between two calls
 pub record MemSinkState : Type 0 where
   -- the bytes taken
   pub written : List ℕ

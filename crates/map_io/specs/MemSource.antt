@@ -1,7 +1,8 @@
 -- A source over memory as contracts see it.
-use Rattle.std.specs.Prelude.{◌≡◌, ℕ, ◌+◌, List, ◌++◌, min, length, take, drop}
+use Rattle.std.specs.Prelude.{◌≡◌, ◌==◌, ℕ, ◌+◌, List, ◌++◌, min, length, take, drop, if◌then◌else◌}
 use Rattle.map_io.specs.Calls.{counted, numbers_after}
 
+-- a source over memory between two calls
 pub record MemSourceState : Type 0 where
   -- the bytes not yet taken
   pub rest : List ℕ
@@ -13,6 +14,8 @@ pub record MemSourceState : Type 0 where
   pub calls : ℕ
   -- the failing calls so far; it stays at 2^64 - 1
   pub faults : ℕ
+  -- how many calls filled what they were handed
+  pub filled : ℕ
 
 -- after a call
 abbrev pub source_after_call : MemSourceState → MemSourceState
@@ -22,15 +25,15 @@ source_after_call f = record f { failing = numbers_after (f.calls + 1) f.failing
 abbrev pub source_after_failing : MemSourceState → MemSourceState
 source_after_failing f = record (source_after_call f) { faults = counted f.faults }
 
--- after a call that gave n bytes
-abbrev pub source_after_taking : ℕ → MemSourceState → MemSourceState
-source_after_taking n f = record (source_after_call f) { rest = drop n f.rest }
+-- after a call that gave n bytes to what it was handed
+abbrev pub source_after_taking : ℕ → List ℕ → MemSourceState → MemSourceState
+source_after_taking n into f = record (source_after_call f) { rest = drop n f.rest; filled = f.filled + (if n == length into then 1 else 0) }
 
 -- a call gave n bytes to the front of what it was handed: as many as fit, as its piece allows and as are left
 pub record Gives (old new : MemSourceState) (into handed : List ℕ) (n : ℕ) : Type 0 where
   pub count : n ≡ min (length into) (min old.piece (length old.rest))
-  pub filled : handed ≡ take n old.rest ++ drop n into
-  pub after : new ≡ source_after_taking n old
+  pub front : handed ≡ take n old.rest ++ drop n into
+  pub after : new ≡ source_after_taking n into old
 
 -- a call failed, and gave nothing
 pub record GivesNone (old new : MemSourceState) (into handed : List ℕ) : Type 0 where

@@ -2,6 +2,7 @@
 use Rattle.std.specs.Prelude.{◌≡◌, ℕ, ◌<◌, List, Option, length, take}
 use Rattle.std.specs.Io.KnownBytes.{Appends}
 
+-- some of the bytes from the front, and not all
 abbrev pub IsProperPrefix : List ℕ → List ℕ → Type 0
 IsProperPrefix whole prefix = (n : ℕ) × (n < length whole) × (prefix ≡ take n whole)
 

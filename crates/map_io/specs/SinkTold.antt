@@ -1,9 +1,10 @@
 -- What a sink tells of itself, and what writing does to that.
 use Rattle.std.specs.Prelude.{◌≡◌, ◌==◌, ℕ, ◌+◌, ◌≤◌, ⊤, List, Option, Some, None, length, take, if◌then◌else◌}
 use Rattle.std.specs.Io.KnownBytes.{Keeps, Appends}
-use Rattle.map_io.specs.Faults.{Rose}
+use Rattle.map_io.specs.Calls.{counted}
 use Rattle.map_io.specs.ProperPrefix.{AppendsProperPrefix}
 
+-- What a sink tells of itself. A call that took all that it was handed is a piece.
 pub record SinkTold : Type 0 where
   -- the bytes taken, where the sink tells them
   pub written : Option (List ℕ)
@@ -32,18 +33,17 @@ CountsAtMost (Some a) (Some b) n = b ≤ a + n
 
 -- ---- one call
 
--- the first n bytes of what it was handed were taken
+-- a call took the first n bytes of what it was handed
 pub record TakesFront (old new : SinkTold) (piece : List ℕ) (n : ℕ) : Type 0 where
   pub written : Appends old.written new.written (take n piece)
   pub pieces : CountsMore old.pieces new.pieces (if n == length piece then 1 else 0)
   pub faults : new.faults ≡ old.faults
 
--- it failed, and took nothing
+-- a call failed, and took nothing: that is one fault
 pub record TakesNone (old new : SinkTold) : Type 0 where
   pub written : Keeps old.written new.written
   pub pieces : CountsMore old.pieces new.pieces 0
-  pub kept : old.faults ≤ new.faults
-  pub failed : Rose old.faults new.faults
+  pub faults : new.faults ≡ counted old.faults
 
 -- ---- several calls
 
@@ -53,9 +53,8 @@ pub record Delivers (old new : SinkTold) (bytes : List ℕ) (most : ℕ) : Type 
   pub pieces : CountsAtMost old.pieces new.pieces most
   pub faults : new.faults ≡ old.faults
 
--- A call failed: a proper prefix of the bytes was written, and at most so many calls took all that they were handed.
+-- The last call failed, and no other: a proper prefix of the bytes was written, and at most so many calls took all that they were handed.
 pub record CutOff (old new : SinkTold) (bytes : List ℕ) (most : ℕ) : Type 0 where
   pub written : AppendsProperPrefix old.written new.written bytes
   pub pieces : CountsAtMost old.pieces new.pieces most
-  pub kept : old.faults ≤ new.faults
-  pub failed : Rose old.faults new.faults
+  pub faults : new.faults ≡ counted old.faults

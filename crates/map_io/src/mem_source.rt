@@ -1,8 +1,9 @@
 // A source over memory.
-ghost use Rattle.std.specs.Prelude.{◌≡◌, ◌↔◌, ℕ, ◌+◌, ◌-◌, ◌^◌, ◌<◌, ◌≤◌, List, [], min, ◌++◌, take, drop, length, All, Contains, Some, IfOk, IsErr, OnOk, OnErr};
+ghost use Rattle.std.specs.Prelude.{◌≡◌, ◌==◌, ◌↔◌, ℕ, ◌+◌, ◌-◌, ◌^◌, ◌<◌, ◌≤◌, List, [], min, ◌++◌, take, drop, length, All, Contains, Some, IfOk, IsErr, OnOk, OnErr, if◌then◌else◌};
 ghost use Rattle.std.specs.List.Sorted.{IsStrictlyIncreasing};
 ghost use Rattle.std.specs.Io.KnownBytes.{ReadConsumes};
-ghost use Rattle.map_io.specs.Faults.{CountsFault};
+ghost use Rattle.map_io.specs.Calls.{counted};
+ghost use Rattle.map_io.specs.SinkTold.{CountsMore};
 ghost use Rattle.map_io.specs.MemSource.{Gives, GivesNone};
 
 use super::plan::Plan;
@@ -12,7 +13,7 @@ use std::marker::Model;
 /// A source over bytes in memory, for tests: it gives them in pieces, and fails where it is told to.
 ///
 /// Contracts see it as a `MemSourceState`: the bytes that are left, the piece, the numbers of the failing
-/// calls that are still to come, the calls so far and the failing calls so far.
+/// calls that are still to come, the calls so far, the failing calls so far, and how many filled what they were handed.
 #[derive(Drop)]
 pub struct MemSource {
     bytes: Vec<u8>,
@@ -20,6 +21,7 @@ pub struct MemSource {
     piece: usize,
     plan: Plan,
     faults: u64,
+    filled: usize,
 }
 
 impl Model for MemSource {
@@ -34,9 +36,10 @@ impl Model for MemSource {
       failing = s.plan.failing;
       calls = s.plan.made;
       faults = s.faults;
+      filled = s.filled;
     } };
 
-    ghost invariant = { λ s. (s.taken ≤ vec_len s.bytes) × (1 ≤ s.piece) };
+    ghost invariant = { λ s. (s.taken ≤ vec_len s.bytes) × (1 ≤ s.piece) × (s.filled ≤ s.taken) };
 }
 
 impl MemSource {
@@ -54,6 +57,7 @@ impl MemSource {
           failing = failing.items;
           calls = 0;
           faults = 0;
+          filled = 0;
         } }
     {
         MemSource {
@@ -62,6 +66,7 @@ impl MemSource {
             piece,
             plan: Plan::new(failing),
             faults: 0,
+            filled: 0,
         }
     }
 
@@ -78,14 +83,18 @@ impl Source for MemSource {
 
     ghost faults = { λ s. s.faults };
 
+    ghost filled = { λ s. Some s.filled };
+
     /// Copies the bytes that it gives; the rest of the call takes a fixed number of steps.
     fn read(&mut self, into: &mut [u8]) -> Result<usize, Failed>
         requires { 0 < length into.old }
         ensures bound { IfOk result (λ n. n ≤ length into.old) }
         ensures taken { ReadConsumes (Some self.old.rest) (Some self.new.rest) result into.new }
         ensures bounded { self.new.faults ≤ 2 ^ 64 - 1 }
-        ensures failed { OnErr result (CountsFault self.old.faults self.new.faults) }
+        ensures failed { OnErr result (self.new.faults ≡ counted self.old.faults) }
         ensures succeeded { OnOk result (self.new.faults ≡ self.old.faults) }
+        ensures filled { IfOk result (λ n. CountsMore (Some self.old.filled) (Some self.new.filled) (if n == length into.old then 1 else 0)) }
+        ensures unfilled { OnErr result (CountsMore (Some self.old.filled) (Some self.new.filled) 0) }
 
         ensures fails { IsErr result ↔ Contains self.old.failing (self.old.calls + 1) }
         ensures refused { OnErr result (GivesNone self.old self.new into.old into.new) }
@@ -99,6 +108,7 @@ impl Source for MemSource {
         let end = self.taken + given;
         into[..given].copy_from_slice(&self.bytes[self.taken..end]);
         self.taken = end;
+        self.filled += usize::from(given == into.len());
         Ok(given)
     }
 }

@@ -1,8 +1,8 @@
 // What gives bytes.
-ghost use Rattle.std.specs.Prelude.{◌≡◌, ℕ, Option, ◌-◌, ◌^◌, ◌<◌, ◌≤◌, List, length, IfOk, OnOk, OnErr};
+ghost use Rattle.std.specs.Prelude.{◌≡◌, ℕ, Option, ◌==◌, ◌-◌, ◌^◌, ◌<◌, ◌≤◌, List, length, IfOk, OnOk, OnErr, if◌then◌else◌};
 ghost use Rattle.std.specs.Io.KnownBytes.{ReadConsumes};
 ghost use Rattle.map_io.specs.Calls.{counted};
-ghost use Rattle.map_io.specs.Faults.{CountsFault};
+ghost use Rattle.map_io.specs.SinkTold.{CountsMore};
 
 use thiserror::Error;
 
@@ -30,6 +30,9 @@ pub trait Source {
     /// How often the outside has failed; it never falls, and stays at 2^64 - 1 once it is there.
     ghost faults: { Self → ℕ };
 
+    /// How many calls filled what they were handed, where the source tells it.
+    ghost filled: { Self → Option ℕ };
+
     /// Takes the next bytes and puts them at the front of `into`.
     ///
     /// `Ok(0)` means the end. A call may take fewer bytes than are left and fit. After `Failed`,
@@ -41,6 +44,8 @@ pub trait Source {
         ensures taken { ReadConsumes (rest self.old) (rest self.new) result into.new }
 
         ensures bounded { faults self.new ≤ 2 ^ 64 - 1 }
-        ensures failed { OnErr result (CountsFault (faults self.old) (faults self.new)) }
-        ensures succeeded { OnOk result (faults self.new ≡ faults self.old) };
+        ensures failed { OnErr result (faults self.new ≡ counted (faults self.old)) }
+        ensures succeeded { OnOk result (faults self.new ≡ faults self.old) }
+        ensures filled { IfOk result (λ n. CountsMore (filled self.old) (filled self.new) (if n == length into.old then 1 else 0)) }
+        ensures unfilled { OnErr result (CountsMore (filled self.old) (filled self.new) 0) };
 }

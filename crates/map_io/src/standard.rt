@@ -1,9 +1,8 @@
 // A reader and a writer of std as a source and a sink.
-ghost use Rattle.std.specs.Prelude.{◌≡◌, ℕ, ◌-◌, ◌^◌, ◌<◌, ◌≤◌, List, length, None, IfOk, IfSome, OnOk, OnErr};
+ghost use Rattle.std.specs.Prelude.{◌≡◌, ◌==◌, ℕ, ◌-◌, ◌^◌, ◌<◌, ◌≤◌, List, length, None, IfOk, IfSome, OnOk, OnErr, if◌then◌else◌};
 ghost use Rattle.std.specs.Io.KnownBytes.{ReadConsumes};
-ghost use Rattle.map_io.specs.Faults.{CountsFault};
 ghost use Rattle.map_io.specs.Calls.{counted};
-ghost use Rattle.map_io.specs.SinkTold.{TakesFront, TakesNone, told_by_faults};
+ghost use Rattle.map_io.specs.SinkTold.{CountsMore, TakesFront, TakesNone, told_by_faults};
 
 use super::sink::Sink;
 use super::source::{Failed, Source, count_fault};
@@ -45,16 +44,18 @@ impl<R: Read> Source for StdSource<R> {
 
     ghost faults = { λ s. s };
 
+    ghost filled = { λ _. None };
+
     /// Makes one call of the reader.
     fn read(&mut self, into: &mut [u8]) -> Result<usize, Failed>
         requires { 0 < length into.old }
         ensures bound { IfOk result (λ n. n ≤ length into.old) }
         ensures taken { ReadConsumes None None result into.new }
         ensures bounded { self.new ≤ 2 ^ 64 - 1 }
-        ensures failed { OnErr result (CountsFault self.old self.new) }
-
+        ensures failed { OnErr result (self.new ≡ counted self.old) }
         ensures succeeded { OnOk result (self.new ≡ self.old) }
-        ensures refused { OnErr result (self.new ≡ counted self.old) }
+        ensures filled { IfOk result (λ n. CountsMore None None (if n == length into.old then 1 else 0)) }
+        ensures unfilled { OnErr result (CountsMore None None 0) }
     {
         match self.reader.read(into) {
             Ok(given) => Ok(given),

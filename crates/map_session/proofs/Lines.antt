@@ -6,7 +6,7 @@ use Rattle.std.proofs.lemmas.List.Sums.{sum_by-append, sum_by-cons}
 use Rattle.std.proofs.lemmas.Bool.{eqb-true, and_from, not_from_false, false_from_ne_true}
 use Rattle.std.specs.Io.KnownBytes.{Appends}
 use Rattle.std.proofs.KnownBytes.{Appends-trans}
-use Rattle.map_io.specs.Faults.{Rose}
+use Rattle.map_io.specs.Calls.{counted}
 use Rattle.map_io.proofs.SinkLaws.{Delivers-nil}
 use Rattle.map_model.specs.State.{State}
 use Rattle.map_model.specs.Text.{lines, whole_lines, one_line}
@@ -81,11 +81,11 @@ stopped_behind_in_text n start now text s =
     let r = lines_begin_whole text [] in
     subst (λ (ls : List (List ℕ)). IsStoppedBehind n start ls now) (sym r.1 ∙ ap lines (append-nil text)) (IsStopped-append start now (whole_lines text) r.0 s.0, s.1)
 
--- a call failed after the lines that were answered
-pub stopped_rose : (start now : Moment) (script : List (List ℕ)) → IsStopped start script now → Rose start.told.faults now.told.faults
-stopped_rose start now script s = λ low.
+-- one call failed, after the lines that were answered
+pub stopped_by_fault : (start now : Moment) (script : List (List ℕ)) → IsStopped start script now → now.told.faults ≡ counted start.told.faults
+stopped_by_fault start now script s =
     let before = sums_up start (take s.answered script) s.before s.answers_before in
-    omega (arith, before.delivered.faults, s.cut_off.failed low)
+    s.cut_off.faults ∙ ap counted before.delivered.faults
 
 -- ---- in the words of the definitions
 

@@ -1,11 +1,11 @@
 -- What a run says of its endings.
 use Rattle.std.proofs.Common.{◌≡◌, ℕ, ◌<◌, ◌≤◌, ◌⊎◌, inl, inr, refl, sym, ◌∙◌, Some, None, Ok, Err, List, length, Option, ap, arith, length-append}
 use Rattle.std.specs.Io.KnownBytes.{Consumes, IsAtEnd}
-use Rattle.map_io.specs.Faults.{Rose}
+use Rattle.map_io.specs.Calls.{counted}
 use Rattle.map_io.specs.SinkTold.{SinkTold}
 use Rattle.map_session.specs.Answering.{Moment, moment}
 use Rattle.map_session.specs.Session.{new_session}
-use Rattle.map_session.proofs.Lines.{stopped_rose}
+use Rattle.map_session.proofs.Lines.{stopped_by_fault}
 use Rattle.map_session.proofs.SumsUp.{sums_up}
 use Rattle.program_words.specs.declared.job.Job.TheVariants.{Script, Made}
 use Rattle.program_words.specs.declared.job.WordsFault.TheVariants as faults
@@ -71,9 +71,9 @@ module _ (words : List (List ℕ)) (left : List ℕ) (rest' : Option (List ℕ))
 -- ---- what became of the sink
 
 module _ (rest rest' : Option (List ℕ)) (start now : Moment) where
-  -- a call failed
-  pub script_fault : AnswersScript rest rest' start WriteFault now → Rose start.told.faults now.told.faults
-  script_fault r = stopped_rose start now _ r.3.0
+  -- one call failed
+  pub script_fault : AnswersScript rest rest' start WriteFault now → now.told.faults ≡ counted start.told.faults
+  script_fault r = stopped_by_fault start now _ r.3.0
 
   -- no call failed
   pub script_kept : (status : Status) → AnswersScript rest rest' start status now → (status ≡ WriteFault → ⊥) → now.told.faults ≡ start.told.faults

@@ -1,3 +1,4 @@
 pub mod Endings
 pub mod Underway
 pub mod MadeCommands
+pub mod Pieces

@@ -1,9 +1,9 @@
 -- Commands that a made script gives, one after another, and what is live in the end.
 use Rattle.std.proofs.Common.{◌≡◌, ◌∙◌, ℕ, List, [], ◌∷◌, Option, Some, None, Result, Ok, Err, refl, sym, ap}
 use Rattle.std.specs.Result.{result_unwrap_or}
-use Rattle.layer_kinds.specs.declared.faults.AskFault.{AskFault}
-use Rattle.layer_kinds.specs.declared.faults.AskFault.TheVariants.{NoLayer, WrongKind, NoIndex, Unknown, NoMemory}
-use Rattle.map_layers.specs.Replies.{asked, IsAnswered}
+use Rattle.map_layers.specs.declared.faults.AskFault.{AskFault}
+use Rattle.map_layers.specs.declared.faults.AskFault.TheVariants.{NoLayer, WrongKind, NoIndex, Unknown, NoMemory}
+use Rattle.map_layers.specs.Replies.{questioned, IsAnswered}
 use Rattle.map_model.specs.Command.{Command, Size}
 use Rattle.map_model.specs.Machine.{Outcome, size_of}
 use Rattle.map_model.specs.Reply.{Reply, Made, Updated, Answered, Got, Sized, Latest, Refused}
@@ -40,7 +40,7 @@ live_told state None = refl
 live_told state (Some layer) = refl
 
 -- the size that a layer tells, or none, is its number of live items
-pub live_by : (state : State) (result : Result ℕ AskFault) → IsAnswered state (Size made) state (asked Sized result) → result_unwrap_or result 0 ≡ live_made state
+pub live_by : (state : State) (result : Result ℕ AskFault) → IsAnswered state (Size made) state (questioned Sized result) → result_unwrap_or result 0 ≡ live_made state
 live_by state (Ok n) is = sym (ap (λ (o : Outcome). told_size o.reply) is) ∙ live_told state (layer_named made state)
 live_by state (Err NoMemory) is = absurd (let none : ⊥ = cc is.0 in none)
 live_by state (Err NoLayer) is = sym (ap (λ (o : Outcome). told_size o.reply) is) ∙ live_told state (layer_named made state)

@@ -15,6 +15,7 @@ abbrev pub live_in : Option Layer → ℕ
 live_in None = 0
 live_in (Some layer) = live_count layer
 
+-- how many items the layer of made scripts has in a map
 abbrev pub live_made : State → ℕ
 live_made state = live_in (layer_named made state)
 
@@ -24,7 +25,8 @@ pub record Summarizes (seed size : ℕ) (start now : Moment) (P : List ℕ → T
   pub obeys : Obeys start.session start.counts (made_script seed size) told now.session now.counts
   pub written : P (summary_text (summary_of told) (live_made (map_in now.session)))
 
--- What was executed and written since the start, by how it ended.
+-- What was executed and written since the start, by how it ended: the summary whole, as Clean or Refusals, or a proper prefix of it, as
+-- WriteFault; in no other way.
 abbrev pub AnswersMade : (seed size : ℕ) → Moment → Status → Moment → Type 0
 AnswersMade seed size start Clean now = Summarizes seed size start now (λ text. Delivers start.told now.told text 1) × (now.session.refused ≡ 0)
 AnswersMade seed size start Refusals now = Summarizes seed size start now (λ text. Delivers start.told now.told text 1) × (0 < now.session.refused)

@@ -1,14 +1,14 @@
 // The program, over any source and sink.
-ghost use Rattle.std.specs.Prelude.{◌≡◌, ◌≢◌, ◌⊎◌, ◌<◌, ◌≤◌, ℕ, List, length, map, Some};
+ghost use Rattle.std.specs.Prelude.{◌≡◌, ◌≢◌, map};
 ghost use Rattle.std.specs.String.{string_bytes};
-ghost use Rattle.map_io.specs.Faults.{Rose};
+ghost use Rattle.map_io.specs.Calls.{counted};
 ghost use Rattle.map_session.specs.Answering.{moment};
-ghost use Rattle.program_run.specs.Run.{script_limit, code_of, AsksForScript, HasRun, RunsBy, WritesUsage};
+ghost use Rattle.program_run.specs.Run.{code_of, HasEnded, ReadsPieces, RunsBy, WritesUsage};
 
+use crate::MapSession;
 use crate::making::answer_made;
 use crate::reading::answer_script;
 use map_io::{Sink, Source, WriteFault, write_all};
-use map_session::MapSession;
 use program_words::{Job, WordsFault, read_words};
 use query_laws::step_ledger::Steps;
 use std::alloc::Global;
@@ -79,25 +79,8 @@ pub fn run<S: Source, K: Sink, L: Ledger>(
     sink: &mut K,
     steps: &mut Steps<L>,
 ) -> Ended
-    // What was taken, answered, counted and written.
-    ensures ended { HasRun (map string_bytes words.now) (S.rest source.old) (S.rest source.new) (K.told sink.old) steps.old
-        result.status (moment result.session (K.told sink.new) steps.new) }
-
-    // A fault comes only from the outside.
-    ensures read_fault_cause { result.status ≡ Status.ReadFault → Rose (S.faults source.old) (S.faults source.new) }
-    ensures write_fault_cause { result.status ≡ Status.WriteFault → Rose (K.told sink.old).faults (K.told sink.new).faults }
-
-    // No call is tried again: where the run doesn't end at a fault, none came.
-    ensures no_read_fault { result.status ≢ Status.ReadFault → result.status ≢ Status.WriteFault → S.faults source.new ≡ S.faults source.old }
-    ensures no_write_fault { result.status ≢ Status.WriteFault → (K.told sink.new).faults ≡ (K.told sink.old).faults }
-
-    // Where nothing failed, a script within the limit is answered whole, and no longer one is, but for want of memory.
-    ensures complete { (left : List ℕ) → S.rest source.old ≡ Some left → length left ≤ script_limit → AsksForScript (map string_bytes words.now) →
-        (Rose (S.faults source.old) (S.faults source.new) → ⊥) → (Rose (K.told sink.old).faults (K.told sink.new).faults → ⊥) →
-        (result.status ≡ Status.Clean) ⊎ ((result.status ≡ Status.Refusals) ⊎ (result.status ≡ Status.NoMemory)) }
-    ensures limit { (left : List ℕ) → S.rest source.old ≡ Some left → script_limit < length left → AsksForScript (map string_bytes words.now) →
-        (Rose (S.faults source.old) (S.faults source.new) → ⊥) → (Rose (K.told sink.old).faults (K.told sink.new).faults → ⊥) →
-        (result.status ≡ Status.TooLong) ⊎ (result.status ≡ Status.NoMemory) }
+    ensures { HasEnded (map string_bytes words.now) (S.rest source.old) (S.rest source.new) (S.faults source.old) (S.faults source.new)
+        (S.filled source.old) (S.filled source.new) (K.told sink.old) steps.old result.status (moment result.session (K.told sink.new) steps.new) }
 {
     let job = read_words(alloc, words);
     run_job(alloc, job, source, sink, steps)
@@ -113,10 +96,11 @@ fn run_job<S: Source, K: Sink, L: Ledger>(
 ) -> Ended
     ensures ended { RunsBy job (S.rest source.old) (S.rest source.new) (K.told sink.old) steps.old
         result.status (moment result.session (K.told sink.new) steps.new) }
-    ensures read_fault_cause { result.status ≡ Status.ReadFault → Rose (S.faults source.old) (S.faults source.new) }
-    ensures write_fault_cause { result.status ≡ Status.WriteFault → Rose (K.told sink.old).faults (K.told sink.new).faults }
-    ensures no_read_fault { result.status ≢ Status.ReadFault → result.status ≢ Status.WriteFault → S.faults source.new ≡ S.faults source.old }
+    ensures read_fault { result.status ≡ Status.ReadFault → S.faults source.new ≡ counted (S.faults source.old) }
+    ensures write_fault { result.status ≡ Status.WriteFault → (K.told sink.new).faults ≡ counted (K.told sink.old).faults }
+    ensures no_read_fault { result.status ≢ Status.ReadFault → S.faults source.new ≡ S.faults source.old }
     ensures no_write_fault { result.status ≢ Status.WriteFault → (K.told sink.new).faults ≡ (K.told sink.old).faults }
+    ensures pieces { ReadsPieces (S.rest source.old) (S.rest source.new) (S.filled source.old) (S.filled source.new) }
 {
     match job {
         Ok(Job::Script { ledger }) => {
@@ -145,7 +129,7 @@ fn run_job<S: Source, K: Sink, L: Ledger>(
 /// Writes the usage line.
 fn refuse_words<K: Sink>(sink: &mut K) -> Status
     ensures written { WritesUsage (K.told sink.old) (K.told sink.new) result }
-    ensures cause { result ≡ Status.WriteFault → Rose (K.told sink.old).faults (K.told sink.new).faults }
+    ensures failed { result ≡ Status.WriteFault → (K.told sink.new).faults ≡ counted (K.told sink.old).faults }
     ensures succeeded { result ≢ Status.WriteFault → (K.told sink.new).faults ≡ (K.told sink.old).faults }
 {
     match write_all(sink, USAGE) {

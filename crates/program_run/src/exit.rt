@@ -6,7 +6,7 @@ ghost use Rattle.std.specs.IoError.{error_kind};
 ghost use Rattle.query_laws.specs.StepLedger.{Counts, nothing_counted};
 ghost use Rattle.map_session.specs.Session.{SessionState};
 ghost use Rattle.map_session.specs.Answering.{moment};
-ghost use Rattle.program_run.specs.Run.{code_of, HasRun};
+ghost use Rattle.program_run.specs.Run.{code_of, HasEnded};
 
 use crate::{Ended, Status, run};
 use map_io::{Sink, Source};
@@ -37,11 +37,11 @@ pub fn end<S: Source, K: Sink, L: Ledger>(
     requires parts { blank.parts ≡ L.parts }
     requires shares { blank.parts ≡ SHARES }
     ensures run { IfOk arguments (λ all. (status : Status) × (session : SessionState) × (counts : Counts) × (exit_status result ≡ code_of status)
-        × HasRun (map string_bytes (drop 1 all.items)) (S.rest source.old) (S.rest source.new) (K.told sink.old) nothing_counted
-        status (moment session (K.told sink.new) counts)) }
+        × HasEnded (map string_bytes (drop 1 all.items)) (S.rest source.old) (S.rest source.new) (S.faults source.old) (S.faults source.new)
+        (S.filled source.old) (S.filled source.new) (K.told sink.old) nothing_counted status (moment session (K.told sink.new) counts)) }
     ensures no_memory { IfErr arguments (λ error. error_kind error ≡ ErrorKind.OutOfMemory → exit_status result ≡ 6) }
     ensures no_text { IfErr arguments (λ error. error_kind error ≢ ErrorKind.OutOfMemory → exit_status result ≡ 7) }
-    ensures nothing { OnErr arguments ((S.rest source.new ≡ S.rest source.old) × (K.told sink.new ≡ K.told sink.old)) }
+    ensures nothing { OnErr arguments ((S.rest source.new ≡ S.rest source.old) × (S.faults source.new ≡ S.faults source.old) × (K.told sink.new ≡ K.told sink.old)) }
 {
     match arguments {
         Ok(arguments) => {
@@ -64,14 +64,14 @@ fn run_once<S: Source, K: Sink, L: Ledger>(
     requires name { blank.name ≡ L.name }
     requires parts { blank.parts ≡ L.parts }
     requires shares { blank.parts ≡ SHARES }
-    ensures { (counts : Counts) × HasRun (map string_bytes words.now) (S.rest source.old) (S.rest source.new)
-        (K.told sink.old) nothing_counted result.status (moment result.session (K.told sink.new) counts) }
+    ensures { (counts : Counts) × HasEnded (map string_bytes words.now) (S.rest source.old) (S.rest source.new) (S.faults source.old) (S.faults source.new)
+        (S.filled source.old) (S.filled source.new) (K.told sink.old) nothing_counted result.status (moment result.session (K.told sink.new) counts) }
 {
     let mut steps = Steps::<L>::new(blank);
     run(alloc, words, source, sink, &mut steps)
 }
 
-/// The list of arguments, of which the first is the program's name.
+/// The list of arguments, of which the first is the program's name. It has no clause, since none can say what the system gives.
 pub fn arguments<R: Env + AllocGlobal>(rt: &R) -> io::Result<Vec<String>> {
     let arguments = env::args(rt)?.collect(rt.alloc())?;
     Ok(arguments)

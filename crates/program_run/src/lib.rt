@@ -1,5 +1,12 @@
 //! The program but for where it reads and writes: what the words after its name ask for, over any source and sink, and the status
 //! that it ends with.
+//!
+//! The theorem about the program is the contract of [`run`]. Of a source or a sink that tells no bytes it says none of them. All
+//! answers, of n bytes to k lines, are at most (n + 63 * k) / 64 calls of the sink that took all that they were handed. Where writing
+//! stopped, every line that ended before the last 4,096 bytes that were taken is answered in full.
+//!
+//! [`run`] and [`end`] promise one relation, `HasEnded`. The first call that fails is the only one, so no line is held back while a run
+//! reads on: where a read fails, each line that ended before it is answered, and no write failed.
 #![tactic(auto)]
 
 mod ended;
@@ -9,3 +16,8 @@ mod reading;
 
 pub use ended::{Ended, Status, run};
 pub use exit::{arguments, end};
+use map_indexes::{PointIndexes, SegmentIndexes};
+use map_session::Session;
+
+/// A session of the program, over all structures.
+pub type MapSession = Session<PointIndexes, SegmentIndexes>;

@@ -1,6 +1,6 @@
 // Executing a made script.
 ghost use Rattle.std.specs.Prelude.{◌≡◌, ◌≢◌, ◌+◌, ◌<◌, ◌^◌, ℕ, List, Some, Ok};
-ghost use Rattle.map_io.specs.Faults.{Rose};
+ghost use Rattle.map_io.specs.Calls.{counted};
 ghost use Rattle.map_model.specs.Line.{IsCommand};
 ghost use Rattle.map_model.specs.Output.{Told};
 ghost use Rattle.map_session.specs.Session.{map_in, Executes, Obeys};
@@ -10,9 +10,8 @@ ghost use Rattle.workload_gen.specs.Made.{made_script};
 ghost use Rattle.workload_gen.specs.Summary.{summary_of, told_more};
 ghost use Rattle.program_run.specs.Made.{live_made, AnswersMade};
 
-use crate::Status;
+use crate::{MapSession, Status};
 use map_io::{Sink, WriteFault};
-use map_session::MapSession;
 use query_laws::step_ledger::Steps;
 use script_lang::Command;
 use std::sync::ledger::Ledger;
@@ -28,7 +27,7 @@ pub fn answer_made<K: Sink, L: Ledger>(
 ) -> Status
     requires { session.old.lines ≡ 0 }
     ensures ended { AnswersMade seed size (moment session.old (K.told sink.old) steps.old) result (moment session.new (K.told sink.new) steps.new) }
-    ensures failed { result ≡ Status.WriteFault → Rose (K.told sink.old).faults (K.told sink.new).faults }
+    ensures failed { result ≡ Status.WriteFault → (K.told sink.new).faults ≡ counted (K.told sink.old).faults }
     ensures succeeded { result ≢ Status.WriteFault → (K.told sink.new).faults ≡ (K.told sink.old).faults }
     ensures read_nothing { result ≢ Status.ReadFault }
 {

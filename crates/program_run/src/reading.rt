@@ -1,13 +1,13 @@
 // Reading a script and answering its lines.
 ghost use Rattle.std.specs.Prelude.{◌≡◌, ◌≢◌, ◌+◌, ◌-◌, ◌<◌, ◌≤◌, ℕ, List, Option, Err, IfOk, IfErr, min, max};
-ghost use Rattle.map_io.specs.Faults.{Rose};
+ghost use Rattle.map_io.specs.Calls.{counted};
 ghost use Rattle.std.specs.Io.KnownBytes.{IsAtEnd};
 ghost use Rattle.map_session.specs.Answering.{Moment, moment};
-ghost use Rattle.program_run.specs.Run.{script_limit, AnswersScript, IsReading};
+ghost use Rattle.program_run.specs.Run.{script_limit, AnswersScript, FillsPieces, IsReading, ReadsPieces};
 
-use crate::Status;
+use crate::{MapSession, Status};
 use map_io::{Sink, Source, WriteFault};
-use map_session::{LineStart, MapSession, answer_begun, answer_piece};
+use map_session::{LineStart, answer_begun, answer_piece};
 use query_laws::step_ledger::Steps;
 use std::sync::ledger::Ledger;
 
@@ -27,8 +27,9 @@ pub fn answer_script<S: Source, K: Sink, L: Ledger>(
     requires { session.old.lines ≡ 0 }
     ensures ended { AnswersScript (S.rest source.old) (S.rest source.new) (moment session.old (K.told sink.old) steps.old) result
         (moment session.new (K.told sink.new) steps.new) }
-    ensures failed { result ≡ Status.ReadFault → Rose (S.faults source.old) (S.faults source.new) }
+    ensures failed { result ≡ Status.ReadFault → S.faults source.new ≡ counted (S.faults source.old) }
     ensures succeeded { result ≢ Status.ReadFault → S.faults source.new ≡ S.faults source.old }
+    ensures pieces { ReadsPieces (S.rest source.old) (S.rest source.new) (S.filled source.old) (S.filled source.new) }
     ensures no_memory { result ≢ Status.NoMemory }
 {
     let mut begun = LineStart::new();
@@ -59,9 +60,13 @@ fn answer_read<S: Source, K: Sink, L: Ledger>(
     ensures ended { IfErr result (λ status. (rest : Option (List ℕ)) (start : Moment)
         → IsReading rest start taken (S.rest source.old) begun.old (moment session.old (K.told sink.old) steps.old)
         → AnswersScript rest (S.rest source.new) start status (moment session.new (K.told sink.new) steps.new)) }
+    ensures pieces { IfOk result (λ given. (first : Option ℕ) → FillsPieces first (S.filled source.old) taken → FillsPieces first (S.filled source.new) (taken + given)) }
+    ensures last_piece { IfErr result (λ status. (rest : Option (List ℕ)) (start : Moment) (first : Option ℕ)
+        → IsReading rest start taken (S.rest source.old) begun.old (moment session.old (K.told sink.old) steps.old)
+        → FillsPieces first (S.filled source.old) taken → ReadsPieces rest (S.rest source.new) first (S.filled source.new)) }
     ensures some { IfOk result (λ given. (1 ≤ given) × (taken + given ≤ script_limit)) }
     ensures lines { IfOk result (λ given. session.new.lines ≤ taken + given) }
-    ensures failed { result ≡ Err Status.ReadFault → Rose (S.faults source.old) (S.faults source.new) }
+    ensures failed { result ≡ Err Status.ReadFault → S.faults source.new ≡ counted (S.faults source.old) }
     ensures succeeded { result ≢ Err Status.ReadFault → S.faults source.new ≡ S.faults source.old }
     ensures no_memory { result ≢ Err Status.NoMemory }
 {

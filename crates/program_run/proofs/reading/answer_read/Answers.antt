@@ -3,6 +3,7 @@ use Rattle.std.proofs.lemmas.List.{nil_from_length}
 use Rattle.std.specs.Io.KnownBytes.{Consumes}
 use Rattle.map_session.specs.Answering.{Moment, moment}
 use Rattle.program_run.specs.Run.{script_limit}
+use Rattle.program_run.proofs.Pieces.{pieces_more, last_piece}
 use Rattle.program_run.proofs.Underway.{reading_still, reading_on, too_long_run, stopped_run}
 use Rattle.program_run.proofs.reading.answer_read.Goals as goal
 
@@ -50,3 +51,25 @@ returns-in-Err-clause-ended g c = λ rest start r.
     let new : Moment = moment c.answer_piece.new.session (g.K.Sink.told c.answer_piece.new.sink) c.answer_piece.new.steps in
     stopped_run rest (g.S.Source.rest c.args.source.now) start _ c.args.taken c.args.begun.now r (g.S.Source.rest c.read.new.self) (take given into) c.in-Ok.ensures.taken.0
     new (omega (arith, size, small)) (omega (arith, size, within)) c.in-Err.ensures.stopped
+
+pub returns-then-given-eq0-clause-last_piece : goal.returns-then-given-eq0-clause-last_piece
+returns-then-given-eq0-clause-last_piece g c = λ rest start first r front.
+    last_piece rest (g.S.Source.rest c.args.source.now) (g.S.Source.rest c.read.new.self) start _ c.args.taken c.args.begun.now (take c.in-Ok.given c.read.new.into) r
+    c.in-Ok.ensures.taken.0 first (g.S.Source.filled c.args.source.now) (g.S.Source.filled c.read.new.self) front _ _ c.in-Ok.ensures.filled
+
+pub returns-then-taken-eq-SCRIPT_LIMIT-clause-last_piece : goal.returns-then-taken-eq-SCRIPT_LIMIT-clause-last_piece
+returns-then-taken-eq-SCRIPT_LIMIT-clause-last_piece g c = λ rest start first r front.
+    last_piece rest (g.S.Source.rest c.args.source.now) (g.S.Source.rest c.read.new.self) start _ c.args.taken c.args.begun.now (take c.in-Ok.given c.read.new.into) r
+    c.in-Ok.ensures.taken.0 first (g.S.Source.filled c.args.source.now) (g.S.Source.filled c.read.new.self) front _ _ c.in-Ok.ensures.filled
+
+pub returns-in-Err-clause-last_piece : goal.returns-in-Err-clause-last_piece
+returns-in-Err-clause-last_piece g c = λ rest start first r front.
+    last_piece rest (g.S.Source.rest c.args.source.now) (g.S.Source.rest c.read.new.self) start _ c.args.taken c.args.begun.now (take c.in-Ok.given c.read.new.into) r
+    c.in-Ok.ensures.taken.0 first (g.S.Source.filled c.args.source.now) (g.S.Source.filled c.read.new.self) front _ _ c.in-Ok.ensures.filled
+
+pub returns-in-Ok-answer_piece-clause-pieces : goal.returns-in-Ok-answer_piece-clause-pieces
+returns-in-Ok-answer_piece-clause-pieces g c = λ first front.
+    let within : c.args.taken + c.in-Ok.given ≤ script_limit = first_of (omega arith, grind arith, search rules) in
+    let some : 1 ≤ c.in-Ok.given = first_of (omega arith, grind arith, search rules) in
+    pieces_more first (g.S.Source.filled c.args.source.now) (g.S.Source.filled c.read.new.self) c.args.taken c.in-Ok.given _ within some
+    (first_of (omega arith, grind arith, search rules)) front c.in-Ok.ensures.filled
