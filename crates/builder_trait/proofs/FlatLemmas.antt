@@ -1,4 +1,4 @@
--- What the flat kind keeps over a put and over the last turn.
+-- What the flat structure keeps over a put and over the last turn.
 use Rattle.std.proofs.Common.{◌≡◌, ℕ, ◌<◌, ◌≤◌, ◌^◌, Bool, true, false, IsTrue, List, [], ◌∷◌, ◌++◌, length, map, replicate, get_or, refl, sym, ap, ◌∙◌, arith, subst, Some, slice_get, slice_index, pow_mono, ⊎_elim}
 use Rattle.std.specs.List.{items_where_true}
 use Rattle.std.specs.Option.{option_to_list}

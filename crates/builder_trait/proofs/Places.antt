@@ -187,7 +187,7 @@ module _ {Item : Type 0} where
       subst (λ l. Permuted l ys) (unwrapped x (x ∷ xs))
       (subst (λ l. Permuted (map (λ o. unwrap_or o x) (map Some (x ∷ xs))) l) (unwrapped x ys) (Permuted-map (λ o. unwrap_or o x) p))
 
-  -- what a builder of any kind has kept makes a part
+  -- what a builder of any structure has kept makes a part
   pub IsPart-from_rising : {stamp : Item → ℕ} {before : Order → Item → Item → Bool} (part : Contents Item)
       → IsStrictTotalOrder stamp (before Second) → IsRising (before First) part.items → IsRising (before Second) part.reordered
       → map (slice_get part.items) part.places ≡ map Some part.reordered → length part.reordered ≡ length part.items

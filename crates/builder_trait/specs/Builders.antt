@@ -4,8 +4,8 @@ use Rattle.query_laws.specs.declared.item.Order.{Order}
 use Rattle.query_laws.specs.declared.item.Order.TheVariants.{First, Second}
 use Rattle.builder_trait.specs.Parts.{Contents, IsRising}
 
--- what was put in the first order; what was put in the second order, with the place that each has in the first order; the level, by which there is
--- room for `2 ^ at_level` items; whether the builder is sealed; and how many turns are left
+-- A builder between two calls: what was put in the first order; what was put in the second order, with the place that each has in the first
+-- order; the level, by which there is room for `2 ^ at_level` items; whether it is sealed; and how many turns are left.
 pub record Progress (Item : Type 0) : Type 0 where
   pub items : List Item
   pub reordered : List Item
@@ -15,7 +15,7 @@ pub record Progress (Item : Type 0) : Type 0 where
   pub left : ℕ
 
 module _ {Item : Type 0} where
-  -- nothing was put
+  -- a builder to which nothing was put
   abbrev pub begun : ℕ → Progress Item
   begun n = record { items = []; reordered = []; places = []; at_level = n; is_sealed = false; left = 0 }
 
@@ -35,7 +35,7 @@ module _ {Item : Type 0} where
     pub at_place : slice_get b.items at ≡ Some item
     pub after : IsAfter before item b.reordered
 
-  -- one more item in an order
+  -- a builder with one more item in an order
   abbrev pub with_put : Order → Item → ℕ → Progress Item → Progress Item
   with_put First item at b = record b { items = b.items ++ item ∷ [] }
   with_put Second item at b = record b { reordered = b.reordered ++ item ∷ []; places = b.places ++ at ∷ [] }
@@ -49,7 +49,7 @@ module _ {Item : Type 0} where
     pub placed : map (slice_get b.items) b.places ≡ map Some b.reordered
     pub complete : b.is_sealed ≡ true → length b.reordered ≡ length b.items
 
-  -- no more puts, and this many turns to go
+  -- a builder that is sealed, with this many turns to go
   abbrev pub sealed_with : ℕ → Progress Item → Progress Item
   sealed_with turns b = record b { is_sealed = true; left = turns }
 
@@ -63,14 +63,14 @@ module _ {Item : Type 0} where
     at_level = b.at_level;
   }
 
--- what the theorems on parts in levels rest on: the stamps and the two orders of the items, and the slope and the base of the kind
+-- what the theorems on parts in levels rest on: the stamps and the two orders of the items, and the slope and the base of the structure
 pub record PartProfile (Item : Type 0) : Type 0 where
   pub stamp : Item → ℕ
   pub before : Order → Item → Item → Bool
   pub slope : ℕ
   pub base : ℕ
 
--- the turns that a builder may take for n items at a level, by the slope and the base of its kind
+-- as many turns as a builder may have left for n items at a level: n at least, and at most as many as its slope and its base allow
 pub record IsQuota (slope base at_level n left : ℕ) : Type 0 where
   pub enough : n ≤ left
   pub bounded : 2 * left ≤ 2 ^ at_level * (slope * at_level + base)

@@ -1,4 +1,4 @@
--- What the flat kind keeps.
+-- What the flat structure keeps.
 use Rattle.std.specs.List.{flat_map}
 use Rattle.std.specs.Option.{option_to_list}
 use Rattle.std.specs.Prelude.{◌≡◌, ℕ, ◌+◌, ◌-◌, ◌<◌, ◌≤◌, ◌^◌, Bool, true, false, List, length, map, replicate, All, Some, slice_get}
@@ -15,9 +15,9 @@ module _ {Item : Type 0} where
   -- each row has room for all items of a level
   pub record HasRoom (items : Entries Item) (places : Entries ℕ) (flags : Entries Bool) (at_level : ℕ) : Type 0 where
     pub level_small : at_level < 32
-    pub room : 2 ^ at_level ≤ items.capacity
-    pub room_places : 2 ^ at_level ≤ places.capacity
-    pub room_flags : 2 ^ at_level ≤ flags.capacity
+    pub room : items.capacity ≡ 2 ^ at_level
+    pub room_places : places.capacity ≡ 2 ^ at_level
+    pub room_flags : flags.capacity ≡ 2 ^ at_level
 
   -- the rows of a builder: both orders rise, each place of the second order is that of an item, and there is room for all
   pub record IsFlatBuilding (before : Order → Item → Item → Bool) (items : Entries Item) (places : Entries ℕ) (flags : Entries Bool)

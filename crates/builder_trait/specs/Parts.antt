@@ -5,8 +5,8 @@ use Rattle.query_laws.specs.Permuted.{Permuted}
 use Rattle.query_laws.specs.declared.item.Order.{Order}
 use Rattle.query_laws.specs.declared.item.Order.TheVariants.{First, Second}
 
--- the items in the first order with a flag for each, true while it is live; the same items in the second order, with the place that each has in
--- the first order; and the level, by which there was room for `2 ^ at_level` items
+-- A part: the items in the first order with a flag for each, true while it is live; the same items in the second order, with the place that each
+-- has in the first order; and the level, by which there was room for `2 ^ at_level` items.
 pub record Contents (Item : Type 0) : Type 0 where
   pub items : List Item
   pub flags : List Bool
@@ -28,11 +28,11 @@ module _ {Item : Type 0} where
     pub each_place : Permuted part.places (range_with_len 0 (length part.items))
     pub same_items : Permuted part.reordered part.items
 
-  -- the live items, in the first order
+  -- the live items of a part, in the first order
   abbrev pub live_of : Contents Item → List Item
   live_of part = items_where_true part.flags part.items
 
-  -- the items of an order
+  -- the items of a part in an order
   abbrev pub in_order : Order → Contents Item → List Item
   in_order First part = part.items
   in_order Second part = part.reordered

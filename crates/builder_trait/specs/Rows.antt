@@ -1,4 +1,4 @@
--- What the rows of a kind are beside the items of a part.
+-- What the rows of a structure are beside the items of a part.
 use Rattle.std.specs.Prelude.{◌≡◌, ℕ, Bool, true, false, List, Some, slice_get, slice_set}
 use Rattle.builder_trait.specs.Parts.{Contents}
 

@@ -1,4 +1,4 @@
-//! A whole job in one call, by any kind of part.
+//! A whole job in one call, by any structure of parts.
 ghost use Rattle.std.specs.Prelude.{◌≡◌, ◌+◌, ◌-◌, ◌*◌, [], ◌∷◌, true};
 ghost use Rattle.query_laws.specs.StepLedger.{Spends};
 ghost use Rattle.builder_trait.specs.Builders.{begun, IsQuota};

@@ -1,7 +1,7 @@
-//! The flat kind: rows, and a binary search.
+//! The flat structure: rows, and a binary search.
 //!
-//! It keeps each item once, in the first order, with a flag, and the second order as places; and it answers no question. It stands for any other kind where only
-//! the contract of parts and builders matters.
+//! It keeps each item once, in the first order, with a flag, and the second order as places; and it answers no question. It stands for
+//! any other structure where only the contract of parts and builders matters.
 ghost use Rattle.std.specs.Prelude.{◌≡◌, ◌+◌, ◌-◌, ◌*◌, ◌<◌, ◌≤◌, ◌^◌, ℕ, IfOk, IfSome, IsNone, IsTrue, ◌↔◌, All, ◌≢◌, length, Some, slice_get, slice_set, refl, true, false};
 ghost use Rattle.std.specs.Option.{is_some};
 ghost use Rattle.query_laws.specs.StepLedger.{Spends, one_mark, one_touch};

@@ -1,4 +1,4 @@
-//! Kinds that keep rows beside their items: a kind is its rows, and the items are those of the flat kind.
+//! Structures that keep rows beside their items: one is its rows, and the items are those of the flat structure.
 ghost use Rattle.std.specs.Prelude.{◌≡◌, ◌+◌, ◌-◌, ◌<◌, ◌≤◌, ◌^◌, ◌%◌, ℕ, IfOk, IsErr, IsTrue, Some, length, slice_get};
 ghost use Rattle.query_laws.specs.StepLedger.{Spends};
 ghost use Rattle.query_laws.specs.declared.item.Order.TheVariants.{First, Second};
@@ -15,9 +15,9 @@ use std::alloc::Global;
 use std::marker::Model;
 use std::sync::ledger::Ledger;
 
-/// The rows that a kind of part keeps beside its items: first while they are built, then while they are read.
+/// The rows that a structure keeps beside its items: first while they are built, then while they are read.
 ///
-/// The items are put, flagged and marked by the flat kind; so rows never change them, and each call is given them to read. Only
+/// The items are put, flagged and marked by the flat structure; so rows never change them, and each call is given them to read. Only
 /// `room` takes memory.
 pub trait Rows: Drop + Sized {
     type Item: Item;
@@ -37,6 +37,9 @@ pub trait Rows: Drop + Sized {
 
     /// How many turns are left.
     ghost left: { Self → ℕ };
+
+    /// How many turns it takes to build the rows of so many items.
+    ghost turns_for: { ℕ → ℕ };
 
     /// The rows have what was put so far.
     ghost IsPutting: { Progress Self.Item → Self → Type 0 };
@@ -88,6 +91,7 @@ pub trait Rows: Drop + Sized {
         requires putting { IsPutting items.now self.old }
         requires complete { length items.now.reordered ≡ length items.now.items }
         ensures growing { IsGrowing (all_live items.now) self.new }
+        ensures turns { left self.new ≡ turns_for (length items.now.items) }
         ensures quota { let n = length items.now.items in IsQuota SLOPE BASE items.now.at_level n (n + left self.new) };
 
     /// How many turns are left: zero before the rows begin. It counts nothing.
@@ -162,7 +166,7 @@ pub trait AnsweringRows<Q: Question<Item = Self::Item>>: Rows {
         ensures cost { Spends steps.old steps.new 0 0 (ask_touches question.now items.now) };
 }
 
-/// Items, and the rows of a kind over them. Only a [`RowsBuilder`] makes one.
+/// Items, and the rows of a structure over them. Only a [`RowsBuilder`] makes one.
 #[derive(Drop)]
 pub struct RowsPart<R: Rows> {
     items: FlatPart<R::Item>,

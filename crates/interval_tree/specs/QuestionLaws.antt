@@ -1,4 +1,4 @@
--- The questions that the kind answers touch no more than the map allows.
+-- The questions that the structure answers touch no more than the map allows.
 use Rattle.std.proofs.Common.{◌≡◌, ℕ, ◌+◌, ◌*◌, ◌^◌, ◌<◌, ◌≤◌, ◌∙◌, false, List, [], ◌∷◌, length, map, filter, refl, ap, arith, pow_mono}
 use Rattle.std.specs.Prelude.{nat_le}
 use Rattle.builder_trait.specs.Parts.{Contents, live_of}

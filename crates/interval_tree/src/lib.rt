@@ -6,7 +6,7 @@
 //! that have begun, less those that ended before x, which are the first of the order by upper ends. Tournament and counts forget
 //! segments without changing their shape (weak deletion, Overmars 1983).
 //!
-//! A part keeps its segments by the flat kind, and these three trees, the rows of the kind, beside them.
+//! A part keeps its segments by the flat structure, and these three trees, its own rows, beside them.
 #![tactic(auto)]
 
 mod answers;

@@ -1,4 +1,4 @@
-//! The numbers of the kind, and the questions of the map that it answers.
+//! The numbers of the structure, and the questions of the map that it answers.
 ghost use Rattle.std.specs.Prelude.{false, length};
 ghost use Rattle.std.proofs.Common.{refl, arith};
 ghost use Rattle.map_questions.specs.Scans.{stab-scan, stab_count-scan};

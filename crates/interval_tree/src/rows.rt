@@ -1,4 +1,4 @@
-//! The rows of the kind: the three trees, and how far they have grown.
+//! The rows of the structure: the three trees, and how far they have grown.
 ghost use Rattle.std.specs.Prelude.{◌≡◌};
 
 use crate::search::index_of;
@@ -40,7 +40,7 @@ pub struct StabRows {
 }
 
 impl Rows for StabRows {
-    ghost use Rattle.std.specs.Prelude.{◌≡◌, ◌*◌, ◌+◌, refl};
+    ghost use Rattle.std.specs.Prelude.{◌≡◌, ◌*◌, ◌+◌, ◌-◌, refl};
     ghost use Rattle.std.proofs.Common.{arith};
     ghost use Rattle.interval_tree.specs.Rows.{AreKept};
     ghost use Rattle.interval_tree.specs.Costs.{walk_touches};
@@ -60,6 +60,8 @@ impl Rows for StabRows {
     ghost mark_touches = { walk_touches };
 
     ghost left = { λ rows. rows.left };
+
+    ghost turns_for = { λ n. 6 * n - 1 };
 
     ghost IsPutting = { IsPutting };
 

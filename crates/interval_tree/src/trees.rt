@@ -53,7 +53,7 @@ impl Trees {
         requires few { n ≤ 2 ^ 31 }
         ensures filling { (segments : List Segment) → length segments ≡ n → AreFilling segments self.new }
         ensures left { result ≡ turns_left n self.new }
-        ensures few { result ≤ 6 * n - 1 }
+        ensures turns { result ≡ 6 * n - 1 }
         ensures room { (cap : ℕ) → AreEmpty cap self.old → HaveRoom cap self.new }
     {
         if n > 0 {

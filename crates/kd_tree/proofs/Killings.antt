@@ -21,7 +21,7 @@ module _ (part : Contents Point) (rows : KdRows) (tree : IsTree part rows) where
   pub covered : length part.items ≤ span rows.depth
   covered = subst (λ d. length part.items ≤ span d) (sym tree.depth_is) (depth_covers (length part.items) few_items)
 
-  pub cheap : (h : ℕ) → length part.items ≤ 2 ^ h → 2 * rows.depth + 5 ≤ 16 * ((h + 2) * (h + 2)) - (h + 4)
+  pub cheap : (h : ℕ) → length part.items ≤ 2 ^ h → 2 * rows.depth + 5 ≤ 16 * (h + 2) - (h + 4)
   cheap h few =
       let low : height_of (length part.items) ≤ h = least_height (length part.items) h (omega (arith, few_items)) few in
       let twice : 2 * rows.depth ≤ h + 2 = omega (arith, depth_low (length part.items), low, tree.depth_is) in

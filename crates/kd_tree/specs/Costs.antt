@@ -1,18 +1,9 @@
--- The most touches of a mark, and of a question.
-use Rattle.std.specs.Prelude.{◌≡◌, ℕ, ◌+◌, ◌-◌, ◌*◌, ◌≤◌, false, List, length, filter}
-use Rattle.std.proofs.Common.{arith, subst}
+-- The most touches of a question.
+use Rattle.std.specs.Prelude.{ℕ, ◌+◌, ◌*◌, ◌≤◌, false, List, length, filter}
+use Rattle.std.proofs.Common.{arith}
 use Rattle.builder_trait.specs.Parts.{Contents, live_of}
 use Rattle.map_structures.specs.Touches.{PartTouches, AreFew}
 use Rattle.map_shapes.specs.declared.point.Point.{Point}
-
--- a larger part doesn't have a lower bound
-longer : (g d : ℕ) → 16 * ((g + 2) * (g + 2)) ≤ 16 * ((g + d + 2) * (g + d + 2))
-longer g d = omega arith
-
-pub mark_touches-rise : (g h : ℕ) → g ≤ h → 16 * ((g + 2) * (g + 2)) ≤ 16 * ((h + 2) * (h + 2))
-mark_touches-rise g h le =
-    let is : g + (h - g) ≡ h = omega arith in
-    subst (λ n. 16 * ((g + 2) * (g + 2)) ≤ 16 * ((n + 2) * (n + 2))) is (longer g (h - g))
 
 -- of a question, sixteen, and sixteen for each point of a part, dead ones included
 abbrev pub question_touches : ℕ → PartTouches

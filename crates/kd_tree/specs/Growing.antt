@@ -1,4 +1,4 @@
--- The rows of the kind: while they are put, while they grow, and once they are done.
+-- The rows of the structure: while they are put, while they grow, and once they are done.
 use Rattle.std.specs.Prelude.{◌≡◌, ℕ, ◌+◌, ◌-◌, ◌^◌, ◌<◌, ◌≤◌, ◌⊎◌, true, [], length, replicate}
 use Rattle.std.specs.List.{range_with_len}
 use Rattle.builder_trait.specs.Parts.{Contents}

@@ -5,7 +5,12 @@
 //! boxes of its four blocks: no live point of a block lies outside its box, and so none is nearer to a place than the box. A question walks the nearest
 //! block first, and leaves a block out whose box is farther than the worst of the points that it keeps.
 //!
-//! A part keeps its points by the flat kind, and these rows, those of the kind, beside them.
+//! A part keeps its points by the flat structure, and these rows beside them. That the blocks are split well isn't proved: it
+//! shows in touches alone.
+//!
+//! A pass exchanges places: each step is one exchange in an order and its inverse, so each place stands once, which is all that answers
+//! rest on. A node has the boxes of four blocks, so one touch reads four. That a box is the least one isn't proved after marks; that it
+//! has every live point is.
 #![tactic(auto)]
 
 mod area;

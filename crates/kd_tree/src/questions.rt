@@ -1,4 +1,4 @@
-//! The numbers of the kind, and the questions of the map that it answers.
+//! The numbers of the structure, and the questions of the map that it answers.
 ghost use Rattle.std.specs.Prelude.{false};
 ghost use Rattle.std.proofs.Common.{refl, arith};
 ghost use Rattle.map_questions.specs.Scans.{near-scan, near_k-scan};
@@ -17,7 +17,7 @@ use std::sync::ledger::Ledger;
 impl MapRows for KdRows {
     ghost few = { (Prim.omega arith, Prim.omega arith) };
 
-    ghost few_touches = { λ h. Prim.omega arith };
+    ghost few_touches = { λ h. Prim.grind arith };
 }
 
 impl AnsweringRows<Near> for KdRows {

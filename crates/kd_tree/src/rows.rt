@@ -1,4 +1,4 @@
-//! The rows of the kind: a k-d tree, from when it is put until it is read.
+//! The rows of the structure: a k-d tree, from when it is put until it is read.
 ghost use Rattle.std.specs.Prelude.{◌≡◌};
 
 use crate::area::Area;
@@ -19,7 +19,7 @@ use std::sync::ledger::Ledger;
 ///
 /// A question touches at most `16 * (n + 1)` entries of a part of n points, and mostly few: it walks the nearest block
 /// first and leaves out those that are farther than what it has. Let h be the least number such that there are at most `2^h`
-/// points: a mark touches at most `16 * (h + 2)^2`, and goes up only while a box changes. Nothing takes memory.
+/// points: a mark touches at most `16 * (h + 2)`, and goes up only while a box changes. Nothing takes memory.
 ///
 /// For each of the `2^level` points that there is room for, the rows take 8 bytes for the places in their order and where each stands,
 /// 4 1/2 for the second order and the counts of the passes, 9 for the leaves and, from 16 points on, at most 5 1/3 for the nodes.
@@ -54,7 +54,7 @@ pub struct KdRows {
 impl Rows for KdRows {
     ghost use Rattle.std.specs.Prelude.{◌≡◌, ◌*◌, ◌+◌, refl};
     ghost use Rattle.std.proofs.Common.{arith};
-    ghost use Rattle.kd_tree.specs.Costs.{mark_touches-rise};
+    ghost use Rattle.kd_tree.specs.Heights.{depth_for, nodes_in};
     ghost use Rattle.kd_tree.specs.Growing.{IsPutting, IsGrowing, IsTree};
     ghost use Rattle.kd_tree.specs.GrowingLaws.{IsTree-grown};
 
@@ -68,9 +68,11 @@ impl Rows for KdRows {
 
     ghost BASE = { 12 };
 
-    ghost mark_touches = { λ h. 16 * ((h + 2) * (h + 2)) };
+    ghost mark_touches = { λ h. 16 * (h + 2) };
 
     ghost left = { λ rows. rows.left };
+
+    ghost turns_for = { λ n. depth_for n * n + nodes_in (depth_for n) };
 
     ghost IsPutting = { IsPutting };
 
@@ -162,7 +164,7 @@ impl Rows for KdRows {
 
     ghost mark_touches_enough = { λ h. Prim.omega arith };
 
-    ghost mark_touches_rise = { mark_touches-rise };
+    ghost mark_touches_rise = { λ g h le. Prim.omega arith };
 
     ghost base_even = { refl };
 

@@ -11,7 +11,7 @@ use map_questions::OneQuestion;
 use map_shapes::Shaped;
 use query_laws::Question;
 
-/// A question of the definitions, which a kind answers as a scan of all items does.
+/// A question of the definitions, which a structure answers as a scan of all items does.
 pub trait MapQuestion<R: MapRows>: Question<Item = R::Item> + OneQuestion
 where
     R: AnsweringRows<Self>,

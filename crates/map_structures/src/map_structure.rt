@@ -1,4 +1,4 @@
-//! The numbers of a kind of the map.
+//! The numbers of a structure of the map.
 ghost use Rattle.std.specs.Prelude.{ℕ, ◌≤◌};
 ghost use Rattle.map_structures.specs.Touches.{touches_at};
 
@@ -6,7 +6,7 @@ use builder_trait::flat::FlatBuilder;
 use builder_trait::{Builder, Part, Rows, RowsBuilder};
 use map_shapes::Shaped;
 
-/// A kind that keeps to the numbers of the map: its turns are within a slope of 4 and a base of 12, and a mark touches no more than
+/// A structure that keeps to the numbers of the map: its turns are within a slope of 4 and a base of 12, and a mark touches no more than
 /// `16 * (h + 2)^2` in a part of at most `2^h` items.
 pub trait MapStructure: Builder {
     ghost few: { (Self.SLOPE ≤ 4) × (Self.BASE ≤ 12) };
@@ -22,7 +22,7 @@ impl<I: Shaped> MapStructure for FlatBuilder<I> {
     ghost few_touches = { λ h. Prim.grind arith };
 }
 
-/// The rows of such a kind.
+/// The rows of such a structure.
 pub trait MapRows: Rows {
     ghost few: { (Self.SLOPE ≤ 4) × (Self.BASE ≤ 12) };
 

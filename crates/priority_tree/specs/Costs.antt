@@ -1,6 +1,6 @@
--- The most touches of one question, and of one mark.
+-- The most touches of one question.
 use Rattle.std.specs.Prelude.{◌≡◌, ℕ, ◌+◌, ◌-◌, ◌*◌, ◌≤◌, List, length, filter}
-use Rattle.std.proofs.Common.{arith, subst}
+use Rattle.std.proofs.Common.{arith}
 use Rattle.builder_trait.specs.Parts.{Contents, live_of}
 use Rattle.map_structures.specs.Touches.{PartTouches, AreFew}
 use Rattle.map_model.specs.Shape.{is_above}
@@ -16,15 +16,6 @@ top_touches points = 16 * (height_of (length points) + 2)
 abbrev pub above_touches : ℕ → ℕ → ℕ → Contents Point → ℕ
 above_touches x1 x2 y part =
     16 * (height_of (length part.items) + 2 + length (filter (λ p. is_above x1 x2 y (shape_of p)) (live_of part)))
-
--- a larger part doesn't have a lower bound
-longer : (g d : ℕ) → 16 * ((g + 2) * (g + 2)) ≤ 16 * ((g + d + 2) * (g + d + 2))
-longer g d = omega arith
-
-pub mark_touches-rise : (g h : ℕ) → g ≤ h → 16 * ((g + 2) * (g + 2)) ≤ 16 * ((h + 2) * (h + 2))
-mark_touches-rise g h le =
-    let is : g + (h - g) ≡ h = omega arith in
-    subst (λ n. 16 * ((g + 2) * (g + 2)) ≤ 16 * ((n + 2) * (n + 2))) is (longer g (h - g))
 
 -- the same of any question to a part of at most 2 ^ g points
 abbrev pub question_touches : ℕ → PartTouches

@@ -1,8 +1,9 @@
 -- The tree under construction.
-use Rattle.std.specs.Prelude.{◌≡◌, ◌≢◌, ℕ, ◌+◌, ◌-◌, ◌*◌, ◌^◌, ◌<◌, ◌≤◌, true, List, length, min, Option, Some, None, slice_get, slice_index_or}
+use Rattle.std.specs.Prelude.{◌≡◌, ◌≢◌, ℕ, ◌+◌, ◌-◌, ◌*◌, ◌/◌, ◌^◌, ◌<◌, ◌≤◌, true, List, length, min, Option, Some, None, slice_get, slice_index_or}
 use Rattle.query_laws.specs.Permuted.{Permuted}
 use Rattle.query_laws.specs.StepLedger.{Entries}
 use Rattle.builder_trait.specs.Parts.{Contents}
+use Rattle.row_blocks.specs.Heights.{height_of}
 use Rattle.map_shapes.specs.declared.point.Point.{Point}
 use Rattle.priority_tree.specs.declared.entry.Entry.{Entry}
 use Rattle.priority_tree.specs.declared.leaf.Slot.{Slot}
@@ -35,6 +36,10 @@ pub record IsFilling (level : ℕ) (points : List Point) (heap : Heap) : Type 0 
 -- how many turns the blocks take that are higher than these: one for each height of each block
 abbrev pub turns_above : ℕ → ℕ → ℕ
 turns_above height at = 2 ^ (height - at) * (at + 2) - (height + 2)
+
+-- how many turns a tree over so many points takes: the same over leaves of sixteen, from the lowest blocks on
+abbrev pub turns_for : ℕ → ℕ
+turns_for n = let height = height_of ((n + 15) / 16) in 2 * 2 ^ height - (height + 2)
 
 -- The blocks of height `at` before the one at hand are heaps. In that one a hole goes down, and the others behind it have one in their place; no place
 -- above holds anything.

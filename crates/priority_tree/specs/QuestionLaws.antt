@@ -1,4 +1,4 @@
--- What the questions touch that the kind answers: in one part, and in all parts together.
+-- What the questions touch that the structure answers: in one part, and in all parts together.
 use Rattle.std.proofs.Common.{◌≡◌, ℕ, ◌+◌, ◌*◌, ◌^◌, ◌<◌, ◌≤◌, false, List, [], ◌∷◌, length, map, filter, refl, arith, pow_mono}
 use Rattle.std.specs.Prelude.{nat_le}
 use Rattle.std.proofs.lemmas.Grind.{common_steps}

@@ -6,7 +6,10 @@
 //! from its leaf to the root: in a place, or in its leaf. A point that dies leaves a hole, which is filled by the better point of the two halves
 //! below it, and so on down.
 //!
-//! A part keeps its points by the flat kind, and this tree, the rows of the kind, beside them.
+//! A part keeps its points by the flat structure, and this tree, its own rows, beside them.
+//!
+//! The place of a block stands at the leaf in its middle, so a block's subtree is an interval of both rows. A turn and a mark share one
+//! pull.
 #![tactic(auto)]
 
 mod answers;

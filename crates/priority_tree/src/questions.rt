@@ -1,4 +1,4 @@
-//! The numbers of the kind, and the questions of the map that it answers.
+//! The numbers of the structure, and the questions of the map that it answers.
 ghost use Rattle.std.specs.Prelude.{false, length};
 ghost use Rattle.std.proofs.Common.{refl, arith};
 ghost use Rattle.map_model.specs.Shape.{is_above};
@@ -14,7 +14,7 @@ use map_structures::{MapQuestion, MapRows};
 impl MapRows for TopRows {
     ghost few = { (Prim.omega arith, Prim.omega arith) };
 
-    ghost few_touches = { λ h. Prim.omega arith };
+    ghost few_touches = { λ h. Prim.grind arith };
 }
 
 impl MapQuestion<TopRows> for Top {

@@ -1,4 +1,4 @@
-//! The rows of the kind: the tree, from when the points are put until it is read.
+//! The rows of the structure: the tree, from when the points are put until it is read.
 ghost use Rattle.std.specs.Prelude.{◌≡◌};
 
 use crate::entry::Entry;
@@ -17,7 +17,7 @@ use std::sync::ledger::Ledger;
 ///
 /// Let h be the least number such that there are at most `2^h` points. A [`Top`](map_questions::Top) touches at most
 /// `16 * (h + 2)` entries, whatever the ties, an [`Above`](map_questions::Above) that lists k points at most `16 * (h + 2 + k)`, and a mark at most
-/// `16 * (h + 2)^2`. Nothing takes memory but the tally of an `Above`.
+/// `16 * (h + 2)`. Nothing takes memory but the tally of an `Above`.
 ///
 /// An entry of a leaf has sixteen places, of 16 bytes each, and an entry above the leaves takes 24. The points themselves, with the
 /// places of the second order and flags, take 37 bytes.
@@ -49,7 +49,7 @@ pub struct TopRows {
 impl Rows for TopRows {
     ghost use Rattle.std.specs.Prelude.{◌≡◌, ◌*◌, ◌+◌, refl};
     ghost use Rattle.std.proofs.Common.{arith};
-    ghost use Rattle.priority_tree.specs.Costs.{mark_touches-rise};
+    ghost use Rattle.priority_tree.specs.Growing.{turns_for};
     ghost use Rattle.priority_tree.specs.Live.{IsTree};
     ghost use Rattle.priority_tree.specs.Growing.{IsFilling, IsGrowing};
     ghost use Rattle.priority_tree.specs.GrowingLaws.{IsTree-grown};
@@ -64,9 +64,11 @@ impl Rows for TopRows {
 
     ghost BASE = { 12 };
 
-    ghost mark_touches = { λ h. 16 * ((h + 2) * (h + 2)) };
+    ghost mark_touches = { λ h. 16 * (h + 2) };
 
     ghost left = { λ rows. rows.left };
+
+    ghost turns_for = { turns_for };
 
     ghost IsPutting = { λ b rows. IsFilling b.at_level b.items rows.heap × (rows.left ≡ 0) };
 
@@ -158,7 +160,7 @@ impl Rows for TopRows {
 
     ghost mark_touches_enough = { λ h. Prim.omega arith };
 
-    ghost mark_touches_rise = { mark_touches-rise };
+    ghost mark_touches_rise = { λ g h le. Prim.omega arith };
 
     ghost base_even = { refl };
 

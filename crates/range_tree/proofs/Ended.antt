@@ -163,7 +163,7 @@ module _ (part : Contents Point) (rows : RangeTree) (grown : AreGrown part rows)
 -- what grows keeps all else
 pub IsGrowing-kept : (part : Contents Point) (old : RangeTree) → IsGrowing part old → (ranks : Ranked) (source target : Entries Carried) (at left : ℕ)
     → ranks.room ≡ old.ranks.room
-    → (0 < rows_to part.at_level → 2 ^ part.at_level ≤ source.capacity) → (0 < rows_to part.at_level → 2 ^ part.at_level ≤ target.capacity)
+    → (source.capacity ≡ old.top.capacity) → (target.capacity ≡ old.top.capacity)
     → (0 < left → AreGrown part (record old { ranks = ranks; source = source; target = target; at = at; left = left }))
     → (0 < left → at < 64 * words_for (length part.items))
     → (left ≡ 0 → AreRows part old.height (rows_to old.height) ranks source.items)
@@ -240,7 +240,7 @@ module _ (part : Contents Point) (old : RangeTree) (growing : IsGrowing part old
     pub IsGrowing-on : old.at + 1 < 64 * words_for (length part.items) → IsGrowing part (record old { ranks = ranks; target = target; at = old.at + 1; left = old.left - 1 })
     IsGrowing-on inside =
         IsGrowing-kept part old growing ranks old.source target (old.at + 1) (old.left - 1) room growing.room.source
-        (λ some. omega (arith, growing.room.target some, capacity)) (λ left. grown) (λ left. inside)
+        (capacity ∙ growing.room.target) (λ left. grown) (λ left. inside)
         (λ none. absurd (omega (arith, none, more_left part (record old { ranks = ranks; target = target; at = old.at + 1; left = old.left - 1 }) grown inside)))
 
     -- at its end
@@ -249,6 +249,6 @@ module _ (part : Contents Point) (old : RangeTree) (growing : IsGrowing part old
     IsGrowing-turned end =
         let rows : RangeTree = record old { ranks = ranks; target = target; at = old.at + 1; left = old.left - 1 } in
         let words : 0 < words_for (length part.items) = omega (arith, end) in
-        IsGrowing-kept part old growing ranks target old.source 0 (old.left - 1) room (λ some. omega (arith, growing.room.target some, capacity)) growing.room.source
+        IsGrowing-kept part old growing ranks target old.source 0 (old.left - 1) room (capacity ∙ growing.room.target) growing.room.source
         (λ left. AreGrown-next part rows grown end (next_below part rows grown end left)) (λ left. omega (arith, words))
         (λ none. AreRows-ended part rows grown end (last_ended part rows grown end words none))

@@ -133,7 +133,7 @@ module _ (b : Progress Point) (rows : RangeTree) (item : Point) (place : ℕ) (p
         )
 
     pub room-source : length rows.source.items < rows.source.capacity
-    room-source = omega (arith, fewer, putting.room.source some_rows, ap length (putting.source some_rows), length-map b.places (carried_of b.items))
+    room-source = omega (arith, fewer, putting.room.source, putting.room.top some_rows, ap length (putting.source some_rows), length-map b.places (carried_of b.items))
 
     pub room-target : length rows.target.items < rows.target.capacity
-    room-target = omega (arith, fewer, putting.room.target some_rows, ap length (putting.target some_rows), length-map b.places (carried_of b.items))
+    room-target = omega (arith, fewer, putting.room.target, putting.room.top some_rows, ap length (putting.target some_rows), length-map b.places (carried_of b.items))

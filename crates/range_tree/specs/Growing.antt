@@ -15,12 +15,12 @@ use Rattle.range_tree.specs.Tree.{IsTop, AreLeaves, IsRow, IsTree, weight_of}
 -- there is room for all that a builder of this level takes
 pub record HasRoom (at_level : ℕ) (rows : RangeTree) : Type 0 where
   pub small : at_level < 32
-  pub xs : 2 ^ at_level ≤ rows.xs.capacity
-  pub leaves : (2 ^ at_level + 15) / 16 ≤ rows.leaves.capacity
-  pub top : 0 < rows_to at_level → 2 ^ at_level ≤ rows.top.capacity
-  pub source : 0 < rows_to at_level → 2 ^ at_level ≤ rows.source.capacity
-  pub target : 0 < rows_to at_level → 2 ^ at_level ≤ rows.target.capacity
-  pub ranks : rows_to at_level * 2 ^ at_level ≤ rows.ranks.room
+  pub xs : rows.xs.capacity ≡ 2 ^ at_level
+  pub leaves : rows.leaves.capacity ≡ (2 ^ at_level + 15) / 16
+  pub top : 0 < rows_to at_level → rows.top.capacity ≡ 2 ^ at_level
+  pub source : rows.source.capacity ≡ rows.top.capacity
+  pub target : rows.target.capacity ≡ rows.top.capacity
+  pub ranks : rows.ranks.room ≡ rows_to at_level * 2 ^ at_level
   pub none : rows_to at_level ≡ 0 → rows.top.capacity ≡ 0
 
 -- the point at a place as it is carried down

@@ -1,4 +1,4 @@
--- The questions that the kind answers are those of the definitions, which scan all items; and what they touch.
+-- The questions that the structure answers are those of the definitions, which scan all items; and what they touch.
 use Rattle.std.proofs.Common.{◌≡◌, ℕ, ◌+◌, ◌*◌, ◌^◌, ◌<◌, ◌≤◌, ◌∙◌, Bool, false, List, [], ◌∷◌, length, map, filter, refl, ap, arith, pow_mono}
 use Rattle.std.specs.Prelude.{count_by, sum_by, nat_le}
 use Rattle.std.proofs.lemmas.Grind.{common_steps}

@@ -70,7 +70,7 @@ pub record AreRows (part : Contents Point) (height count : ℕ) (ranks : Ranked)
   pub each : (q : ℕ) → q < count → IsRow part.items part.flags (height - q) q (rows q) ranks
   pub last : map (λ c. c.place) carried ≡ rows count
 
--- the rows of the kind over a part
+-- the rows of the structure over a part
 pub record IsTree (part : Contents Point) (rows : RangeTree) : Type 0 where
   pub few : length part.items ≤ 2 ^ 31
   pub height : rows.height ≡ height_of (length part.items)

@@ -1,4 +1,4 @@
-//! The kind: its rows are a tree in a box.
+//! The structure: its rows are a tree in a box.
 ghost use Rattle.std.specs.Prelude.{◌≡◌};
 
 use crate::measure::Measure;
@@ -36,6 +36,7 @@ impl Rows for RangeRows {
     ghost use Rattle.std.specs.Prelude.{◌≡◌, ◌*◌, ◌+◌, refl};
     ghost use Rattle.std.proofs.Common.{arith};
     ghost use Rattle.range_tree.specs.Costs.{mark_touches-rise};
+    ghost use Rattle.range_tree.specs.Heights.{rows_for, words_for};
     ghost use Rattle.range_tree.specs.Growing.{IsPutting, IsGrowing, IsKept, IsKept-grown};
 
     type Item = Point;
@@ -51,6 +52,8 @@ impl Rows for RangeRows {
     ghost mark_touches = { λ h. 16 * ((h + 2) * (h + 2)) };
 
     ghost left = { λ rows. rows.tree.value.left };
+
+    ghost turns_for = { λ n. rows_for n * (64 * words_for n) };
 
     ghost IsPutting = { λ b rows. IsPutting b rows.tree.value };
 

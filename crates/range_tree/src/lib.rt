@@ -7,7 +7,15 @@
 //! that a rectangle takes whole, two of each row at most. Places at both ends that no block of `2^9` places has are scanned, by
 //! y that stand apart from the points.
 //!
-//! A part keeps its points by the flat kind, and these rows beside them, in a box.
+//! A part keeps its points by the flat structure, and these rows beside them, in a box.
+//!
+//! A row keeps one bit a place and no entries, so nothing is searched below the first row. What died is counted, and not what lives:
+//! the trees over a block's words are zero when a part is built, so no turn builds them. The rows lie in a box, since parts and
+//! builders are moved often; the box has a struct of its own, so that no proof about the tree speaks of it.
+//!
+//! A rectangle over at most 1,024 places of the first order is scanned for a count, 2,048 for a sum, 8,192 for a list: a leaf costs
+//! less than one way down the rows. Tried and slower: searches with conditional moves, 1.6 to 2 times as long as with a branch; a count
+//! by a filter with a branch, 2.7 times as long as one that compares both bounds.
 #![tactic(auto)]
 
 mod answers;

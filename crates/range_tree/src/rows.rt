@@ -47,6 +47,7 @@ impl Rows for RangeTree {
     ghost use Rattle.std.specs.Prelude.{◌≡◌, ◌*◌, ◌+◌, refl};
     ghost use Rattle.std.proofs.Common.{arith};
     ghost use Rattle.range_tree.specs.Costs.{mark_touches-rise};
+    ghost use Rattle.range_tree.specs.Heights.{rows_for, words_for};
     ghost use Rattle.range_tree.specs.Growing.{IsPutting, IsGrowing, IsKept, IsKept-grown};
 
     type Item = Point;
@@ -62,6 +63,8 @@ impl Rows for RangeTree {
     ghost mark_touches = { λ h. 16 * ((h + 2) * (h + 2)) };
 
     ghost left = { λ rows. rows.left };
+
+    ghost turns_for = { λ n. rows_for n * (64 * words_for n) };
 
     ghost IsPutting = { IsPutting };
 

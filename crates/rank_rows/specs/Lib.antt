@@ -3,5 +3,4 @@ pub mod Words
 pub mod Nodes
 pub mod Putting
 pub mod Cursors
-pub mod Odds
 pub mod Ranked

@@ -32,6 +32,7 @@ place_at v row k = 64 * (row * v.stride) + k
 abbrev pub slice_of : {A : Type 0} → Ranked → List A → ℕ → ℕ → ℕ → List A
 slice_of {A} v xs row from to = slice_range xs (place_at v row from) (place_at v row to)
 
+-- how many bits are set
 abbrev pub how_many : List Bool → ℕ
 how_many bits = count_by (λ bit. bit) bits
 
@@ -66,11 +67,11 @@ pub record IsNextRow (v : Ranked) (row : ℕ) : Type 0 where
   pub unended : length v.second < place_at v row (64 * v.stride)
   pub high : row + 6 < v.height
 
--- the place at k of a row is dead, and weighs nothing
+-- the places in which that at k of a row is dead, and weighs nothing
 abbrev pub marked : (row k : ℕ) → Ranked → Ranked
 marked row k v = record v { live = slice_set v.live (place_at v row k) false; weights = slice_set v.weights (place_at v row k) 0 }
 
--- one more place, which is live
+-- the places with one more, which is live
 abbrev pub with_place : Bool → ℕ → Ranked → Ranked
 with_place second weight v = record v {
   second = v.second ++ second ∷ [];
@@ -123,7 +124,7 @@ pub record AreTrees (words : List Word) (weights : List ℕ) (stride height : �
 pub record IsKept (words : Entries Word) (weights : Entries ℕ) (stride height : ℕ) (cursor : Cursor) : Type 0 where
   pub entries : length words.items ≡ (length weights.items + 63) / 64
   pub within : length weights.items ≤ weights.capacity
-  pub room : (weights.capacity + 63) / 64 ≤ words.capacity
+  pub room : words.capacity ≡ (weights.capacity + 63) / 64
   pub small : weights.capacity ≤ 2 ^ 40
   pub some : 0 < stride
   pub few : stride ≤ 2 ^ 25

@@ -32,9 +32,9 @@ pub record IsFenwick (places : List Place) (weights : Entries (List ℕ)) (masks
   pub weights_each : length weights.items ≡ length nodes.items
   pub mask_each : length masks.items ≡ length nodes.items
   pub within : len ≤ cap
-  pub room : entries_for cap ≤ nodes.capacity
-  pub room_weights : entries_for cap ≤ weights.capacity
-  pub room_masks : entries_for cap ≤ masks.capacity
+  pub room : nodes.capacity ≡ entries_for cap
+  pub room_weights : weights.capacity ≡ entries_for cap
+  pub room_masks : masks.capacity ≡ entries_for cap
   pub few : cap ≤ 2 ^ 31
   pub small : sum_by live_amount places ≤ len * (2 ^ 32 - 1)
   pub total_over : IsOver places 0 len total

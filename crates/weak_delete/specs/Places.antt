@@ -2,14 +2,14 @@
 use Rattle.std.specs.Prelude.{◌≡◌, ℕ, List, [], Bool, true, false, IsTrue, ◌&&◌, nat_le, if◌then◌else◌, slice_index_or, slice_set}
 use Rattle.weak_delete.specs.declared.place.Place.{Place}
 
--- a structure over places that is filled by puts, sealed, and built by turns
+-- places in order, each with an amount and live until it is cleared, in a structure that is filled by puts, sealed, and built by turns
 pub record LivePlaces : Type 0 where
   pub places : List Place
   pub capacity : ℕ
   pub sealed : Bool
   pub left : ℕ
 
--- room, and no places
+-- room for so many places, and none of them put
 abbrev pub nothing_put : ℕ → LivePlaces
 nothing_put cap = record { places = []; capacity = cap; sealed = false; left = 0 }
 
@@ -18,6 +18,7 @@ pub record IsBuilt (s : LivePlaces) : Type 0 where
   pub sealed : s.sealed ≡ true
   pub turned : s.left ≡ 0
 
+-- a place with an amount, which is live
 abbrev pub live_place : ℕ → Place
 live_place amount = record { amount = amount; live = true }
 
@@ -28,6 +29,7 @@ no_place = record { amount = 0; live = false }
 abbrev pub place_at : List Place → ℕ → Place
 place_at places k = slice_index_or places k no_place
 
+-- a place is live
 abbrev pub is_live : Place → Bool
 is_live place = place.live
 

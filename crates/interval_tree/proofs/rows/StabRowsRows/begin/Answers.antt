@@ -19,4 +19,7 @@ returns-clause-growing c =
 pub returns-clause-quota : goal.returns-clause-quota
 returns-clause-quota c =
     IsQuota-begun (length c.args.segments.now.items) c.args.segments.now.at_level c.begin-self.result c.len-len.ensures.valid.few
-    (omega (arith, c.begin-self.ensures.few, c.len-len.ensures.value))
+    (omega (arith, c.begin-self.ensures.turns, c.len-len.ensures.value))
+
+pub returns-clause-turns : goal.returns-clause-turns
+returns-clause-turns c = omega (arith, c.begin-self.ensures.turns, c.len-len.ensures.value)

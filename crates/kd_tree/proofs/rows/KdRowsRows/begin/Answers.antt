@@ -22,3 +22,11 @@ returns-clause-quota c =
     ap (λ d. d * c.len-len.result) (c.from.ensures ∙ depth) ∙ ap (λ m. depth_for n * m) c.len-len.ensures.value in
     IsQuota-left n b.at_level _ c.len-len.ensures.valid.small c.len-len.ensures.valid.few
     (omega (arith, product, c.nodes_in.ensures.value, ap nodes_in depth))
+
+pub returns-clause-turns : goal.returns-clause-turns
+returns-clause-turns c =
+    let n = length c.args.points.now.items in
+    let depth : c.depth_for-depth.result ≡ depth_for n = c.depth_for-depth.ensures.value ∙ ap depth_for c.len-len.ensures.value in
+    let product : c.from.result * c.len-len.result ≡ depth_for n * n =
+    ap (λ d. d * c.len-len.result) (c.from.ensures ∙ depth) ∙ ap (λ m. depth_for n * m) c.len-len.ensures.value in
+    omega (arith, product, c.nodes_in.ensures.value, ap nodes_in depth)

@@ -65,3 +65,18 @@ returns-else-rows-gt0-clause-quota c =
     let b = c.args.points.now in
     subst (λ l. IsQuota 4 12 b.at_level (length b.items) (length b.items + l)) (sym c.requires.putting.none_left)
     (IsQuota-rowless (length b.items) b.at_level c.len-len.ensures.valid.few)
+
+pub returns-then-rows-gt0-clause-turns : goal.returns-then-rows-gt0-clause-turns
+returns-then-rows-gt0-clause-turns c =
+    let n = length c.args.points.now.items in
+    let height = c.height_of-self.ensures.value ∙ ap height_of c.len-len.ensures.value in
+    let words : c.div_ceil-words.result ≡ words_for n = omega (arith, c.div_ceil-words.ensures, c.len-len.ensures.value) in
+    ap (λ r. r * (64 * c.div_ceil-words.result)) (c.rows_for-rows.ensures ∙ ap rows_to height) ∙ ap (λ w. rows_to (height_of n) * (64 * w)) words
+
+pub returns-else-rows-gt0-clause-turns : goal.returns-else-rows-gt0-clause-turns
+returns-else-rows-gt0-clause-turns c =
+    let n = length c.args.points.now.items in
+    let height = c.height_of-self.ensures.value ∙ ap height_of c.len-len.ensures.value in
+    let none : rows_to (height_of n) ≡ 0 = omega (arith, c.rows_for-rows.ensures, c.if-rows-gt0.false, ap rows_to height) in
+    let nothing : rows_to (height_of n) * (64 * words_for n) ≡ 0 = ap (λ r. r * (64 * words_for n)) none ∙ (let zero : 0 * (64 * words_for n) ≡ 0 = omega arith in zero) in
+    c.requires.putting.none_left ∙ sym nothing
