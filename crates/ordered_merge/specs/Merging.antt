@@ -15,8 +15,8 @@ pub record Reading : Type 0 where
   pub table : List (Option ℕ)
   pub reread : ℕ
 
--- room for so many items of each part; what was read of each; how many items were taken; the item that the first order read last; and
--- how many turns are left
+-- A merge: room for so many items of each part; what was read of each; how many items were taken; the item that the first order read last; and
+-- how many turns are left.
 pub record Merging (Item : Type 0) : Type 0 where
   pub capacity : ℕ
   pub a : Reading
@@ -40,7 +40,7 @@ pub record TakesLive (flags : List Bool) (old new : List (Option ℕ)) : Type 0 
   pub taken : (k : ℕ) → length old ≤ k → k < length new → slice_get (map is_some new) k ≡ slice_get flags k
 
 module _ {Item : Type 0} where
-  -- not begun
+  -- a merge that isn't begun, with room for so many items of each part
   abbrev pub unbegun : ℕ → Merging Item
   unbegun n = record { capacity = n; a = nothing_read; b = nothing_read; taken = 0; reached = None; left = 0 }
 
@@ -52,6 +52,7 @@ module _ {Item : Type 0} where
   abbrev pub HasNewPlaces : List (Option ℕ) → List Item → List Item → Type 0
   HasNewPlaces table xs merged = (k n : ℕ) → slice_get table k ≡ Some (Some n) → slice_get merged n ≡ slice_get xs k
 
+  -- no item of one list has the stamp of an item of the other
   abbrev pub StampsDiffer : (Item → ℕ) → List Item → List Item → Type 0
   StampsDiffer stamp xs ys = (k l : ℕ) (x y : Item) → slice_get xs k ≡ Some x → slice_get ys l ≡ Some y → stamp x ≢ stamp y
 
@@ -117,7 +118,8 @@ module _ {Item : Type 0} where
         (live_reordered_before b.reread (chosen b.table other))
     pub placed : map (slice_get builder.items) builder.places ≡ map Some builder.reordered
 
-  -- the builder holds in both orders what the items read so far give: those that the tables took
+  -- The builder holds in both orders what was taken among the items read so far, in the second order each with its place. What was read of both parts
+  -- stands before all the rest; the second order begins once the first has read all; and the turns left are the items still to read.
   pub record Merges (profile : PartProfile Item) (m : Merging Item) (part other : Contents Item)
       (b : Progress Item) : Type 0 where
     pub sources : AreSources profile.stamp m.capacity b.at_level part.items other.items
@@ -142,7 +144,7 @@ module _ {Item : Type 0} where
   abbrev pub taken_reordered : List (Option ℕ) → Contents Item → List Item
   taken_reordered table part = items_where_true (flags_reordered (chosen table part)) part.reordered
 
-  -- all is read, and the builder holds in both orders exactly what the tables took, each item of the second order with its place
+  -- a merge has read all, and the builder holds in both orders exactly what the tables took, each item of the second order with its place
   pub record IsWhole (before : Order → Item → Item → Bool) (m : Merging Item) (part other : Contents Item) (b : Progress Item) : Type 0 where
     pub read : length m.a.table ≡ length part.items
     pub other_read : length m.b.table ≡ length other.items
@@ -152,9 +154,10 @@ module _ {Item : Type 0} where
     pub as_many : length b.reordered ≡ length b.items
 
 module _ {Item Part Builder : Type 0} (contents : Part → Contents Item) (progress : Builder → Progress Item) where
-  -- the same of parts and builders, by what contracts see of them
+  -- the builder holds what the merge has read of two parts so far
   abbrev pub MergesInto : PartProfile Item → Merging Item → Part → Part → Builder → Type 0
   MergesInto profile m a b builder = Merges profile m (contents a) (contents b) (progress builder)
 
+  -- a call read n items of two parts into a builder
   abbrev pub ReadsInto : ℕ → Merging Item → Merging Item → Part → Part → Builder → Builder → Type 0
   ReadsInto n old new a b builder fresh = HasRead n old new (contents a) (contents b) (progress builder) (progress fresh)

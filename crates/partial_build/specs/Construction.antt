@@ -10,9 +10,8 @@ use Rattle.ordered_merge.specs.Merging.{Merging, Merges, unbegun}
 use Rattle.partial_build.specs.NewPart.{Growth, put_of, IsAllLive}
 use Rattle.partial_build.specs.Quota.{quota}
 
--- the level that the new part goes to; the ticks done; what was read of the two sources, and which of their items were taken; the
--- new part, with those of its items that are marked; and the items that died in a source after they were taken, and wait to be
--- marked
+-- A construction: the level that the new part goes to; the ticks done; what was read of the two sources, and which of their items were taken;
+-- the new part, with those of its items that are marked; and the items that died in a source after they were taken, and wait to be marked.
 pub record Construction (Item : Type 0) : Type 0 where
   pub level : ℕ
   pub ticks : ℕ
@@ -42,12 +41,19 @@ module _ {Item : Type 0} where
     pub most : turns_left profile new + turns ≤ turns_left profile old
     pub exact : old.part.is_sealed ≡ true → turns_left profile new + turns ≡ turns_left profile old
 
+  -- No work of a tick is done beside its turns: each item that is read in an order takes one, and where all is read then, so does each item of the new
+  -- part until it is built.
+  pub record IsPaid (turns : ℕ) (old new : Construction Item) : Type 0 where
+    pub read : old.merge.left ≤ new.merge.left + turns
+    pub made : old.part.is_sealed ≡ false → new.part.is_sealed ≡ true → old.merge.left + length new.part.contents.items ≤ new.part.left + turns
+
   -- The marks of a tick: where the part is built after it those of two items that waited, or of all where fewer did; and just these wait no longer.
   pub record AreDrained (marks : ℕ) (old new : Construction Item) : Type 0 where
     pub two : marks ≡ (if new.part.is_built then min 2 (length old.waiting) else 0)
     pub fewer : length new.waiting + marks ≡ length old.waiting
 
-  -- Right after a tick, and before an item is noted: what is left can be done in the ticks to come.
+  -- Right after a tick, and before an item is noted: the turns left fit the ticks up to half of them, a quota each; and no more items wait than ticks
+  -- are done, and no more than are to come.
   pub record IsOnTime (profile : PartProfile Item) (c : Construction Item) : Type 0 where
     pub in_time : turns_left profile c ≤ (half_of c - c.ticks) * quota profile.slope profile.base c.level
     pub few_waiting : length c.waiting ≤ c.ticks
@@ -84,7 +90,8 @@ module _ {Item : Type 0} where
     pub other_up_to_date : IsUpToDate profile.stamp part waiting m.b.table b
     pub waits : AreWaiting profile.stamp m part a b waiting
 
-  -- the construction of the new part of a and b, as these are now
+  -- A construction and its two sources, as these are now: of what was read of them exactly that is live which was taken, and is neither dead in
+  -- the new part nor waits to be marked there.
   abbrev pub Builds : PartProfile Item → Construction Item → Contents Item → Contents Item → Type 0
   Builds profile c a b = KeepsUp profile c.merge c.part.contents c.waiting a b
 

@@ -6,7 +6,7 @@ ghost use Rattle.builder_trait.specs.Parts.{Contents, marked, live_of};
 ghost use Rattle.builder_trait.specs.Builders.{begun, all_live};
 ghost use Rattle.ordered_merge.specs.Merging.{unbegun, is_passed};
 ghost use Rattle.partial_build.specs.Quota.{quota};
-ghost use Rattle.partial_build.specs.Construction.{Builds, AreTaken, AreDrained, IsOnTime, IsPublished, turns_left};
+ghost use Rattle.partial_build.specs.Construction.{Builds, AreTaken, AreDrained, IsOnTime, IsPaid, IsPublished, turns_left};
 
 use crate::new_part::NewPart;
 use crate::room::Tables;
@@ -81,7 +81,7 @@ impl<B: Builder> Build<B> {
     }
 
     /// One tick: a quota of turns, fewer only where the part is built by fewer, and none once it is built; and then, where it is built,
-    /// two marks of items that wait, or of all where fewer wait. Sixteen touches at most for each turn, and those of the kind for each mark.
+    /// two marks of items that wait, or of all where fewer wait. Sixteen touches at most for each turn, and those of the structure for each mark.
     pub fn tick<L: Ledger>(&mut self, a: &B::Part, b: &B::Part, steps: &mut Steps<L>)
         requires early { self.old.ticks < 2 ^ self.old.level }
         requires builds { Builds ⟦<B as Profiled>⟧.profile self.old (B.Part.Part.contents a.now) (B.Part.Part.contents b.now) }
@@ -89,6 +89,7 @@ impl<B: Builder> Build<B> {
         ensures ticked { (self.new.level ≡ self.old.level) × (self.new.ticks ≡ self.old.ticks + 1) }
         ensures on_time { IsOnTime ⟦<B as Profiled>⟧.profile self.new }
         ensures taken { AreTaken ⟦<B as Profiled>⟧.profile (steps.new.turns - steps.old.turns) self.old self.new }
+        ensures paid { IsPaid (steps.new.turns - steps.old.turns) self.old self.new }
         ensures drained { AreDrained (steps.new.marks - steps.old.marks) self.old self.new }
         ensures cost { let turns = steps.new.turns - steps.old.turns in let marks = steps.new.marks - steps.old.marks in
             Spends steps.old steps.new turns marks (16 * turns + marks * B.Part.Part.mark_touches self.old.level) }
@@ -115,6 +116,7 @@ impl<B: Builder> Build<B> {
         ensures builds { Builds ⟦<B as Profiled>⟧.profile self.new (B.Part.Part.contents a.now) (B.Part.Part.contents b.now) }
         ensures same { self.new ≡ record self.old { merge = self.new.merge; part = self.new.part } }
         ensures left { self.new.merge.left + count ≡ self.old.merge.left }
+        ensures sealed { self.old.part.is_sealed ≡ false → self.new.part.is_sealed ≡ true → length self.new.part.contents.items ≤ self.new.part.left }
         ensures fewer { turns_left ⟦<B as Profiled>⟧.profile self.new + count ≤ turns_left ⟦<B as Profiled>⟧.profile self.old }
         ensures exact { count ≡ 0 → turns_left ⟦<B as Profiled>⟧.profile self.new ≡ turns_left ⟦<B as Profiled>⟧.profile self.old }
         ensures cost { Spends steps.old steps.new count 0 (16 * count) }
@@ -132,6 +134,7 @@ impl<B: Builder> Build<B> {
     fn grow<L: Ledger>(&mut self, most: u64, steps: &mut Steps<L>)
         requires read { 0 < self.old.merge.left → most ≡ 0 }
         ensures same { self.new ≡ record self.old { part = record self.new.part { contents = self.old.part.contents } } }
+        ensures sealed { self.new.part.is_sealed ≡ self.old.part.is_sealed }
         ensures turns { steps.new.turns - steps.old.turns ≤ most }
         ensures all_turns { steps.new.turns - steps.old.turns < most → self.new.part.is_built ≡ true }
         ensures left { turns_left ⟦<B as Profiled>⟧.profile self.new + (steps.new.turns - steps.old.turns) ≡ turns_left ⟦<B as Profiled>⟧.profile self.old }
@@ -151,6 +154,7 @@ impl<B: Builder> Build<B> {
           part = record self.old.part { contents = self.new.part.contents };
           waiting = self.new.waiting;
         } }
+        ensures items { self.new.part.contents.items ≡ self.old.part.contents.items }
         ensures marks { steps.new.marks - steps.old.marks ≡ (if self.old.part.is_built then min most (length self.old.waiting) else 0) }
         ensures drained { length self.new.waiting + (steps.new.marks - steps.old.marks) ≡ length self.old.waiting }
         ensures cost { let marks = steps.new.marks - steps.old.marks in
@@ -173,6 +177,7 @@ impl<B: Builder> Build<B> {
           part = record self.old.part { contents = self.new.part.contents };
           waiting = self.new.waiting;
         } }
+        ensures items { self.new.part.contents.items ≡ self.old.part.contents.items }
         ensures marks { steps.new.marks - steps.old.marks ≡ min 1 (length self.old.waiting) }
         ensures drained { length self.new.waiting + (steps.new.marks - steps.old.marks) ≡ length self.old.waiting }
         ensures cost { let marks = steps.new.marks - steps.old.marks in

@@ -92,19 +92,6 @@ impl<B: Builder> Model for Room<B> {
 }
 
 impl<B: Builder> Room<B> {
-    /// Room for a construction into a level.
-    ///
-    /// `NoMemory` where memory for it isn't given. Nothing else of this crate takes memory but [`Tables::room`].
-    pub fn new(alloc: Global, level: u32) -> Result<Room<B>, NoMemory>
-        requires least { 1 ≤ level }
-        requires most { level < 32 }
-        ensures { IfOk result (λ room. room ≡ level) }
-    {
-        let builder = B::room(alloc, level)?;
-        let tables = Tables::room(alloc, level)?;
-        Ok(Room { builder, tables })
-    }
-
     /// Room made of a builder to which nothing was put, as [`Builder::recycle`] makes one, and of tables for its level.
     pub fn of(builder: B, tables: Tables<B>) -> Room<B>
         requires { B.progress builder ≡ begun tables }

@@ -27,6 +27,7 @@ loop-drained-preserved g c =
         part = record v.part { contents = c.mark_next.new.self.part.contents };
         waiting = c.mark_next.new.self.waiting;
       }) before.same;
+      items = c.mark_next.ensures.items ∙ before.items;
       marks = omega (arith, all, before.marks, before.drained, c.mark_next.ensures.marks);
       drained = omega (arith, all, before.drained, c.mark_next.ensures.drained);
       spent = subst (λ n. Spends c.args.steps.now c.mark_next.new.steps 0 n (n * touches)) (sym all)

@@ -12,6 +12,7 @@ invariant-loop-drained g l = record {
     part = record l.initial.self.part { contents = l.self.part.contents };
     waiting = l.self.waiting;
   };
+  items : l.self.part.contents.items ≡ l.initial.self.part.contents.items;
   marks : l.steps.marks - l.initial.steps.marks ≡ min l._drained (length l.initial.self.waiting);
   drained : length l.self.waiting + (l.steps.marks - l.initial.steps.marks) ≡ length l.initial.self.waiting;
   spent : Spends l.initial.steps l.steps 0 (l.steps.marks - l.initial.steps.marks)

@@ -1,9 +1,9 @@
-use Rattle.std.proofs.Common.{◌≡◌, ℕ, Bool, true, ◌+◌, ◌-◌, ◌^◌, ◌∙◌, if◌then◌else◌, inl, inr, ap, sym, subst, arith, length, ⊎_elim}
+use Rattle.std.proofs.Common.{◌≡◌, ℕ, zero, suc, refl, Bool, true, ◌+◌, ◌-◌, ◌^◌, ◌<◌, ◌∙◌, if◌then◌else◌, inl, inr, ap, sym, subst, arith, length, ⊎_elim}
 use Rattle.std.proofs.lemmas.Bool.{cases_lt}
 use Rattle.builder_trait.specs.Builders.{PartProfile}
 use Rattle.partial_build.specs.Quota.{quota}
 use Rattle.partial_build.specs.Construction.{Construction, Builds, turns_left}
-use Rattle.partial_build.proofs.Clock.{twice, built_ended, ended_built, IsTicked, IsTicked-paid}
+use Rattle.partial_build.proofs.Clock.{twice, built_ended, ended_built, turns_left-sealed, IsTicked, IsTicked-paid}
 use Rattle.partial_build.proofs.build.Build.tick.Given.{Over}
 use Rattle.partial_build.proofs.build.Build.tick.Goals as goal
 
@@ -99,3 +99,39 @@ drain-requires g c =
     let a = contents c.args.a.now in
     let b = contents c.args.b.now in
     record { some = (a, b, subst (λ v. Builds (profile g) v a b) (sym c.grow.ensures.same) c.read.ensures.builds) }
+
+none_if : (n : ℕ) → (0 < n → ⊥) → n ≡ 0
+none_if zero some = refl
+none_if (suc n) some = absurd (some (omega arith))
+
+pub returns-clause-paid : goal.returns-clause-paid
+returns-clause-paid g c =
+    let merge : c.self-2.inside.merge.left ≡ c.read.new.self.merge.left =
+    ap (λ v. v.merge.left) c.self-2.view_is ∙ ap (λ v. v.merge.left) c.drain.ensures.same ∙ ap (λ v. v.merge.left) c.grow.ensures.same in
+    record {
+      read = omega (arith, merge, c.read.ensures.left, c.read.ensures.cost.turns_spent, c.grow.ensures.cost.turns_spent, c.drain.ensures.cost.turns_spent);
+      made = λ open_still closed.
+          let sealed : c.read.new.self.part.is_sealed ≡ true =
+          sym c.grow.ensures.sealed ∙ sym (ap (λ v. v.part.is_sealed) c.drain.ensures.same) ∙ sym (ap (λ v. v.part.is_sealed) c.self-2.view_is) ∙ closed in
+          let left : c.self-2.inside.part.left ≡ c.grow.new.self.part.left = ap (λ v. v.part.left) c.self-2.view_is ∙ ap (λ v. v.part.left) c.drain.ensures.same in
+          let items : length c.self-2.inside.part.contents.items ≡ length c.read.new.self.part.contents.items =
+          ap (λ v. length v.part.contents.items) c.self-2.view_is ∙ ap length c.drain.ensures.items ∙ ap (λ v. length v.part.contents.items) c.grow.ensures.same in
+          let ended : c.self-2.inside.merge.left ≡ 0 =
+          none_if c.self-2.inside.merge.left (λ some. let no : ⊥ = cc (sym closed ∙ (c.self-2.invariant.unsealed some).0) in no) in
+          omega (
+            arith,
+            ended,
+            merge,
+            c.read.ensures.sealed open_still sealed,
+            turns_left-sealed (profile g) c.read.new.self sealed,
+            turns_left-sealed (profile g) c.grow.new.self (c.grow.ensures.sealed ∙ sealed),
+            c.grow.ensures.left,
+            ap (λ v. v.merge.left) c.grow.ensures.same,
+            left,
+            items,
+            c.read.ensures.left,
+            c.read.ensures.cost.turns_spent,
+            c.grow.ensures.cost.turns_spent,
+            c.drain.ensures.cost.turns_spent,
+          );
+    }
