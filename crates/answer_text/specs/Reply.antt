@@ -10,6 +10,7 @@ use Rattle.answer_text.specs.declared.refusal.Refusal.TheVariants as causes
 use Rattle.answer_text.specs.declared.reply.Reply.{Reply}
 use Rattle.answer_text.specs.declared.reply.Reply.TheVariants as variants
 
+-- a cause as the definitions have it
 abbrev pub refusal_of : Refusal → refusals.Refusal
 refusal_of causes.Line = refusals.Line
 refusal_of causes.Command = refusals.Command
@@ -28,6 +29,7 @@ refusal_of (causes.Unknown id) = refusals.Unknown id
 refusal_of causes.Full = refusals.Full
 refusal_of causes.NoMemory = refusals.NoMemory
 
+-- a reply without what it cost, as the definitions have it
 abbrev pub reply_of : Reply → replies.Reply
 reply_of variants.Made = replies.Made
 reply_of (variants.Updated spent) = replies.Updated
@@ -37,6 +39,7 @@ reply_of (variants.Size n) = replies.Sized n
 reply_of (variants.Recent ids) = replies.Latest ids
 reply_of (variants.Refused cause) = replies.Refused (refusal_of cause)
 
+-- what a reply tells that it cost, as the definitions have it
 abbrev pub cost_of : Reply → costs.Cost
 cost_of variants.Made = costs.Untold
 cost_of (variants.Updated spent) = costs.Updating (spent_of spent)

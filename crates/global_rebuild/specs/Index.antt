@@ -17,7 +17,8 @@ pub record Shadow (P Item : Type 0) : Type 0 where
   pub stack : Stacked P Item
   pub cursor : Option ℕ
 
--- the stack that answers; the shadow, while a rebuild runs; and what is left of the stacks that earlier rebuilds put out of use, oldest first
+-- An index: the stack that answers; the shadow, while a rebuild runs; and what is left of the stacks that earlier rebuilds put out of use, oldest
+-- first.
 pub record Indexed (P Item : Type 0) : Type 0 where
   pub main : Stacked P Item
   pub shadow : Option (Shadow P Item)
@@ -46,7 +47,7 @@ parts_in k i = parts_at k i.main + option_map_or (λ r. parts_at k r.stack) i.sh
 abbrev pub shadow_weight : {P Item : Type 0} → Indexed P Item → ℕ
 shadow_weight i = option_map_or (λ r. weight_of r.stack.levels) i.shadow 0
 
--- the same of its rooms that are held
+-- the weight of the rooms that the shadow holds, 0 where none is being made
 abbrev pub shadow_rooms : {P Item : Type 0} → Indexed P Item → ℕ
 shadow_rooms i = option_map_or (λ r. rooms_of r.stack) i.shadow 0
 
@@ -67,6 +68,7 @@ abbrev pub IsForecast : {P Item : Type 0} → Stacked P Item → Type 0
 IsForecast s = rooms_of s ≤ 2 + forecast_of s.levels
 
 module _ {P Item : Type 0} (contents : P → Contents Item) where
+  -- how many items are live in a stack
   abbrev pub live_in : Stacked P Item → ℕ
   live_in s = length (live_items contents s.levels)
 
@@ -130,7 +132,7 @@ module _ {P Item : Type 0} (contents : P → Contents Item) where
     of_main : is_some old.shadow ≡ true → is_some new.shadow ≡ false → FreesOneOf old.main.levels old new → FreesOne old new
     of_retired : (s : Stacked P Item) → Contains old.retired s → FreesOneOf s.levels old new → FreesOne old new
 
-  -- more of the weight is dead than half of what is live, and eight
+  -- more of a stack's weight is dead than half of what is live, and eight
   abbrev pub is_heavy : Stacked P Item → Bool
   is_heavy main = nat_lt (live_in main + 16) (2 * dead_in main)
 
@@ -144,13 +146,13 @@ module _ {P Item : Type 0} (contents : P → Contents Item) where
   abbrev pub IsQuiet : Stacked P Item → Type 0
   IsQuiet main = 2 * dead_in main ≤ live_in main + 16
 
-  -- memory is there for a delete, and while a rebuild runs it is four items ahead, and some are left
+  -- an index that is ready for an update: memory is there for a delete, and while a rebuild runs it is four items ahead, and some are left
   pub record IsPrepared (i : Indexed P Item) : Type 0 where
     pub main : 1 ≤ i.main.spare
     pub shadow : (r : Shadow P Item) → i.shadow ≡ Some r
         → (1 ≤ r.stack.spare) × IsInTime 4 i.main r × (1 ≤ live_in i.main - live_in r.stack)
 
-  -- What holds of an index between any two calls.
+  -- What holds of an index between any two calls: the inequalities at the head of src/lib.rt.
   pub record IsIndex (i : Indexed P Item) : Type 0 where
     pub quiet : i.shadow ≡ None → IsQuiet i.main
     pub in_time : (r : Shadow P Item) → i.shadow ≡ Some r → IsInTime 0 i.main r
@@ -161,7 +163,7 @@ module _ {P Item : Type 0} (contents : P → Contents Item) where
     abbrev pub asked_of : (Item → Item → Bool) → Item → Stacked P Item → ℕ
     asked_of first x s = parts_asked contents stamp (stamp x) s.levels + noted first x contents stamp s.levels
 
-    -- the same of both stacks: of the shadow where the item was handed over, since it stands before the cursor
+    -- what a delete asks of both stacks: of the shadow where the item was handed over, since it stands before the cursor
     abbrev pub asked_of_both : (Item → Item → Bool) → Item → ℕ → List (Entry Item) → Indexed P Item → ℕ
     asked_of_both first x handle es i = asked_of first x i.main
         + option_map_or (λ r. if is_linked handle (before_cursor r.cursor es) then asked_of first x r.stack else 0) i.shadow 0
@@ -172,7 +174,8 @@ module _ {P Item : Type 0} (contents : P → Contents Item) where
       pub live : Permuted (live_items contents r.stack.levels) (map (λ e. e.item) (before_cursor r.cursor es))
       pub below : All (λ x. stamp x < stamp_at stamp r.cursor es stamps) (all_items contents r.stack.levels)
 
-    -- the index is that of the items of a chain, and the stamps of all its items, dead ones included, are below a number
+    -- The index is that of the items of a chain, whose stamps rise: these are live in the main stack, and those before the cursor in the shadow. The
+    -- stamps of all its items, dead ones included, are below a number.
     pub record IsIndexOf (i : Indexed P Item) (es : List (Entry Item)) (stamps : ℕ) : Type 0 where
       pub live : Permuted (live_items contents i.main.levels) (map (λ e. e.item) es)
       pub below : All (λ x. stamp x < stamps) (all_items contents i.main.levels)

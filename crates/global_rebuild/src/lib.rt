@@ -34,6 +34,15 @@
 //! - Once all are handed over (`w = 0`) the shadow becomes the main stack, and `3D' <= n` is more than a quiet index wants.
 //!
 //! So D is at most `n + 9`, and the main stack weighs at most `2n + 9`, the shadow at most `4n / 3`: n alone bounds the work of an update.
+//! For each g with `2n + 10` below `2^(g+1)`, n being the live items before, preparation and commit together take at most
+//! `6 * (q(0) + .. + q(g))` turns, q being the quota of a level, and `18 * g + 6` marks. A question is put to at most `3 * (g + 1)` parts.
+//!
+//! A caller keeps the chain, and one relation to it, with a number that it counts itself, above every stamp in the index: `IsIndexOf`.
+//! Memory is freed by preparations alone, one part at most in each, of the highest level of a stack that is put out of use.
+//!
+//! The index keeps no number above its stamps: the relation to the chain has one, which the owner of the chain counts anyway. How many
+//! items are left to walk by is the difference of two live counts, and no field. Stacks out of use stand in a list, since a small index
+//! may be rebuilt again before all of one is given up.
 #![tactic(auto)]
 
 mod index;

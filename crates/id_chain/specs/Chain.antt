@@ -7,16 +7,18 @@ pub record Entry (I : Type 0) : Type 0 where
   pub handle : ℕ
   pub item : I
 
--- the entries in order of append, how many appends need no further memory, and the handle that the next one gives
+-- a chain: its entries in order of append, how many appends need no further memory, and the handle that the next one gives
 pub record ChainState (I : Type 0) : Type 0 where
   pub entries : List (Entry I)
   pub spare : ℕ
   pub next_handle : ℕ
 
+-- a code of entries, by which proofs tell two of them apart, made of a code of items
 abbrev pub entry_code : {I : Type 0} → Coded I → Coded (Entry I)
 entry_code {I} code =
     code_by (ℕ × I) (coded× coded_ℕ code) (λ e. (e.handle, e.item)) (λ p. record { handle = p.0; item = p.1 }) (λ _. refl)
 
+-- a code of chains, by which proofs tell two of them apart, made of a code of items
 abbrev pub chain_code : {I : Type 0} → Coded I → Coded (ChainState I)
 chain_code {I} code =
     code_by
@@ -42,11 +44,12 @@ module _ {I : Type 0} where
   item_at handle [] = None
   item_at handle (e ∷ es) = if e.handle == handle then Some e.item else item_at handle es
 
-  -- the entries before a handle, and those after it
+  -- the entries before a handle
   abbrev pub before : ℕ → List (Entry I) → List (Entry I)
   before handle [] = []
   before handle (e ∷ es) = if e.handle == handle then [] else e ∷ before handle es
 
+  -- the entries after a handle
   abbrev pub after : ℕ → List (Entry I) → List (Entry I)
   after handle [] = []
   after handle (e ∷ es) = if e.handle == handle then es else after handle es
@@ -79,10 +82,11 @@ module _ {I : Type 0} where
   last_or prev [] = prev
   last_or prev (e ∷ es) = last_or (Some e.handle) es
 
-  -- the handles at the two ends of a list
+  -- the handle of the first entry
   abbrev pub first_handle : List (Entry I) → Option ℕ
   first_handle es = first_or es None
 
+  -- the handle of the last entry
   abbrev pub last_handle : List (Entry I) → Option ℕ
   last_handle es = last_or None es
 

@@ -3,12 +3,13 @@ use Rattle.std.specs.Prelude.{◌≡◌, ℕ, ◌==◌, if◌then◌else◌, Lis
 use Rattle.std.specs.Coded.{Coded, code_by, coded×, coded_ℕ, coded_list, coded_option}
 use Rattle.id_chain.specs.Chain.{Entry, entry_code}
 
--- the entries in order of append, how many adds there were, and the identifier that an add is prepared for
+-- a directory: its entries in order of append, how many adds there ever were, and the identifier that an add is prepared for
 pub record DirectoryState (I : Type 0) : Type 0 where
   pub entries : List (Entry I)
   pub adds : ℕ
   pub pending : Option ℕ
 
+-- a code of directories, by which proofs tell two of them apart, made of a code of items
 abbrev pub directory_code : {I : Type 0} → Coded I → Coded (DirectoryState I)
 directory_code {I} code =
     code_by
@@ -28,12 +29,12 @@ module _ {I : Type 0} (id_of : I → ℕ) where
   handle_of id [] = None
   handle_of id (e ∷ es) = if id_of e.item == id then Some e.handle else handle_of id es
 
-  -- that item
+  -- the item with this identifier
   abbrev pub item_of : ℕ → List (Entry I) → Option I
   item_of id [] = None
   item_of id (e ∷ es) = if id_of e.item == id then Some e.item else item_of id es
 
-  -- the entries without it, all others in their order
+  -- the entries without that of an identifier, all others in their order
   abbrev pub without : ℕ → List (Entry I) → List (Entry I)
   without id [] = []
   without id (e ∷ es) = if id_of e.item == id then es else e ∷ without id es

@@ -7,7 +7,7 @@ use Rattle.log_levels.specs.Levels.{live_items, parts_of}
 use Rattle.log_levels.specs.Slots.{Slots}
 
 module _ {P I Q A T E : Type 0} where
-  -- where it isn't refused, the answers of all of them are joined to what was answered before
+  -- A question was put to all complete parts of levels: where it isn't refused, their answers are joined to what was answered before.
   pub record HasAsked (contents : P → Contents I) (join : Q → A → A → A) (value : Q → List I → A) (levels : List (Slots P I)) (result : Result T E)
       (old new : OpenQuestion Q A) : Type 0 where
     pub if_ok : IfOk result (λ _. new ≡ record old {
@@ -17,7 +17,7 @@ module _ {P I Q A T E : Type 0} where
     })
 
 module _ {P I : Type 0} where
-  -- on no level are there more than three, and each is of its level
+  -- on no level are there more than three complete parts, and each is of its level
   pub record AreThreeAtMost (contents : P → Contents I) (levels : List (Slots P I)) : Type 0 where
     pub three : All (λ l. length l.parts ≤ 3) levels
     pub of_level : All (λ l. All (λ p. IsOfLevel l.level (contents p)) l.parts) levels

@@ -12,7 +12,7 @@ pub record AreHeld {X : Type 0} (IsOne : X → Type 0) (most : ℕ) (xs : List X
   pub few : length xs ≤ most
   pub place : most ≤ room
 
--- the part is one of a level
+-- a part of a level, with no more items than that has room for
 pub record IsOfLevel {Item : Type 0} (level : ℕ) (part : Contents Item) : Type 0 where
   pub at_level : part.at_level ≡ level
   pub fits : length part.items ≤ 2 ^ level

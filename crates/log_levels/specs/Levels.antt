@@ -9,11 +9,12 @@ one_more [] = []
 one_more (m ∷ above) = record m { parts = m.parts + 1 } ∷ above
 
 module _ {P Item : Type 0} where
-  -- the parts in memory of the lowest level, and of all
+  -- the parts in memory of the lowest level
   abbrev pub lowest_held : List (Slots P Item) → ℕ
   lowest_held [] = 0
   lowest_held (l ∷ above) = held_in l
 
+  -- the parts in memory of all levels
   abbrev pub held_of : List (Slots P Item) → ℕ
   held_of [] = 0
   held_of (l ∷ above) = held_in l + held_of above
@@ -23,6 +24,7 @@ module _ {P Item : Type 0} where
   lowest_tables [] = 0
   lowest_tables (l ∷ above) = tables_in l
 
+  -- the weight of levels: 2 ^ i for each complete part of level i
   abbrev pub weight_of : List (Slots P Item) → ℕ
   weight_of [] = 0
   weight_of (l ∷ above) = weight_in l + weight_of above
@@ -32,6 +34,7 @@ module _ {P Item : Type 0} where
   waiting_of [] = 0
   waiting_of (l ∷ above) = waiting_in l + waiting_of above
 
+  -- how many complete parts there are
   abbrev pub parts_of : List (Slots P Item) → ℕ
   parts_of [] = 0
   parts_of (l ∷ above) = length l.parts + parts_of above
@@ -47,7 +50,7 @@ module _ {P Item : Type 0} where
     live_items [] = []
     live_items (l ∷ above) = live_items above ++ live_in contents l
 
-    -- their items, dead ones included
+    -- the items of all complete parts, dead ones included, those of the highest level first
     abbrev pub all_items : List (Slots P Item) → List Item
     all_items [] = []
     all_items (l ∷ above) = all_items above ++ items_in contents l

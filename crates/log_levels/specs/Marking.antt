@@ -42,12 +42,13 @@ module _ {P Item : Type 0} where
     read_into [] = 0
     read_into (l ∷ above) = read_by before x l
 
-    -- How many constructions a live item comes to wait in where it dies: only the two oldest parts of a level are read, and by the construction into
-    -- the level above.
     module _ (contents : P → Contents Item) (stamp : Item → ℕ) where
+      -- 1 where the item lives in one of a level's two oldest parts and the construction into the level above has read it
       abbrev pub noted_above : Slots P Item → List (Slots P Item) → ℕ
       noted_above l above = if has_stamp stamp (stamp x) (flat_map (λ p. live_of (contents p)) (take 2 l.parts)) then read_into above else 0
 
+      -- In how many constructions a live item comes to wait where it dies: one at most, since only the two oldest parts of a level are read, and by
+      -- the construction into the level above.
       abbrev pub noted : List (Slots P Item) → ℕ
       noted [] = 0
       noted (l ∷ above) = noted above + noted_above l above

@@ -15,7 +15,7 @@ pub data TakesTick (level : ℕ) (old new : Option ℕ) : Type 0 where
   ends : (n : ℕ) → old ≡ Some n → n + 1 ≡ 2 ^ level → new ≡ None → TakesTick level old new
 
 module _ {P Item : Type 0} where
-  -- the level takes its next tick in time
+  -- the construction into the level, if one runs, is on time
   abbrev pub IsPunctual : PartProfile Item → Slots P Item → Type 0
   IsPunctual profile l = (c : Construction Item) → l.construction ≡ Some c → IsOnTime profile c
 
@@ -43,7 +43,7 @@ module _ {P Item : Type 0} where
       abbrev pub IsConstructionOf : P → P → Slots P Item → Type 0
       IsConstructionOf a b l = (c : Construction Item) → l.construction ≡ Some c → Builds profile c (contents a) (contents b)
 
-      -- it is made of the two oldest parts of the level below
+      -- the construction into the upper level is made of the two oldest parts of the lower one
       abbrev pub IsFed : Slots P Item → Slots P Item → Type 0
       IsFed lower upper = (a b : P) (rest : List P) → lower.parts ≡ a ∷ b ∷ rest → IsConstructionOf a b upper
 

@@ -9,9 +9,9 @@ use Rattle.ordered_merge.specs.Merging.{is_passed}
 use Rattle.partial_build.specs.Construction.{Construction, turns_left}
 use Rattle.partial_build.specs.Quota.{quota}
 
--- the complete parts of a level, oldest first; the construction of its next part, which is made of the two oldest parts of the level
--- below; whether there is room for the one after that; how many builders are kept, each made of a part that was retired; and the tables
--- of how many constructions that ended
+-- A level: its complete parts, oldest first; the construction of its next part, which is made of the two oldest parts of the level below; whether
+-- there is room for the one after that; how many builders are kept, each made of a part that was retired; and the tables of how many constructions
+-- that ended.
 pub record Slots (P Item : Type 0) : Type 0 where
   pub level : ℕ
   pub parts : List P
@@ -41,7 +41,7 @@ module _ {P Item : Type 0} where
   abbrev pub clock_of : Slots P Item → Option ℕ
   clock_of l = option_map (λ c. c.ticks) l.construction
 
-  -- the items that wait to be marked in its part, 0 where none runs
+  -- the items that wait to be marked in the construction into a level, 0 where none runs
   abbrev pub waiting_in : Slots P Item → ℕ
   waiting_in l = option_map_or (λ c. length c.waiting) l.construction 0
 
@@ -49,7 +49,7 @@ module _ {P Item : Type 0} where
   abbrev pub read_by : (Item → Item → Bool) → Item → Slots P Item → ℕ
   read_by before x l = option_map_or (λ c. one_if (is_passed before c.merge.reached x)) l.construction 0
 
-  -- the turns that a tick may take of it: those that it has left, and a quota where it begins
+  -- the turns that a tick may take of the construction into a level: those that it has left, and a quota where it begins
   abbrev pub turns_to_go : PartProfile Item → Slots P Item → ℕ
   turns_to_go profile l = option_map_or (turns_left profile) l.construction (quota profile.slope profile.base l.level)
 
@@ -62,6 +62,7 @@ module _ {P Item : Type 0} where
   abbrev pub tables_in : Slots P Item → ℕ
   tables_in l = l.tables + one_if (is_some l.construction) + one_if l.has_room
 
+  -- what is in memory of a level: parts in whatever use, and tables of constructions
   abbrev pub in_memory : Slots P Item → InMemory
   in_memory l = record { parts = held_in l; tables = tables_in l }
 
@@ -88,9 +89,11 @@ module _ {P Item : Type 0} where
     pub no_construction : l.construction ≡ None
 
   module _ (contents : P → Contents Item) where
+    -- the live items of a level's complete parts
     abbrev pub live_in : Slots P Item → List Item
     live_in l = flat_map (λ p. live_of (contents p)) l.parts
 
+    -- the items of a level's complete parts, dead ones included
     abbrev pub items_in : Slots P Item → List Item
     items_in l = flat_map (λ p. (contents p).items) l.parts
 

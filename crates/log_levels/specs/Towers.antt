@@ -21,7 +21,7 @@ module _ {P Item : Type 0} where
   HaveRooms due lower [] = due lower → ⊥
   HaveRooms due lower (next ∷ above) = (due lower → next.has_room ≡ true) × HaveRooms due next above
 
-  -- the same from the lowest of these levels on
+  -- above each of some levels that is due there is room for a construction
   abbrev pub HaveRoomsAbove : (Slots P Item → Type 0) → List (Slots P Item) → Type 0
   HaveRoomsAbove due [] = Unit {0}
   HaveRoomsAbove due (lower ∷ above) = HaveRooms due lower above
@@ -73,7 +73,7 @@ module _ {P Item : Type 0} where
       pub levels : AreAllLevels all
       pub punctual : All (IsPunctual profile) all
 
-  -- each level takes exactly one tick
+  -- Each level takes exactly one tick: its construction goes on by one, ends with its last, or begins with its first, or none runs.
   abbrev pub TakeTicks : List (Slots P Item) → List (Slots P Item) → Type 0
   TakeTicks [] new = new ≡ []
   TakeTicks (l ∷ old) [] = ⊥

@@ -33,6 +33,10 @@
 //!   was at `2^k - 1`: that is the inequality without the `+ 1` for three parts.
 //!
 //! What a level retires it keeps, as memory for its next parts: in whatever use, at most five parts of a level are in memory.
+//!
+//! Five are all that may ever be retired there; to keep fewer would free the others in some update. Inserts alone use five: after 17
+//! into an empty stack level 2 has three complete parts, a construction, and a room for the next. The levels are a crate of their own,
+//! so that a wrong tick breaks a public contract.
 #![tactic(auto)]
 
 mod asking;

@@ -87,7 +87,7 @@ module _ {P Item : Type 0} where
   IsBounded k (l ∷ above) n = n + k * 2 ^ l.level ≤ k * 2 ^ 32
 
   module _ (contents : P → Contents Item) where
-    -- levels hold what they held, and the rooms that were due, by any kind
+    -- levels hold what they held, and the rooms that were due, whatever the structure
     pub record IsKept (old new : List (Slots P Item)) : Type 0 where
       pub each : AreKept old new
       pub same : HaveSameItems contents old new

@@ -9,7 +9,7 @@ module _ {P Item : Type 0} where
   rooms_in [] = 0
   rooms_in (l ∷ above) = (if l.has_room then 2 ^ l.level else 0) + rooms_in above
 
-  -- the same of a stack, with those for single items
+  -- the weight of the rooms that a stack holds for constructions to begin, with the builders for single items
   abbrev pub rooms_of : Stacked P Item → ℕ
   rooms_of s = s.starters + rooms_in s.levels
 

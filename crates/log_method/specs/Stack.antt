@@ -8,7 +8,7 @@ use Rattle.log_levels.specs.Levels.{weight_of, live_items, all_items, parts_of, 
 use Rattle.log_levels.specs.Neighbours.{IsPunctual}
 use Rattle.log_levels.specs.Towers.{AreAllLevels, IsDue, IsDueSoon, HaveRoomsAbove}
 
--- all levels, lowest first; how many ticks need no more memory; how many builders stand ready for single items
+-- a stack: all levels, lowest first; how many ticks need no more memory; how many builders stand ready for single items
 pub record Stacked (P Item : Type 0) : Type 0 where
   pub levels : List (Slots P Item)
   pub spare : ℕ

@@ -83,7 +83,7 @@ asked_fixed a b ha hb e =
     let touches = number_end 10 (omega arith) a.touches b.touches [] [] ha.2 hb.2 behind in
     λ i. record { parts = parts.0 i; part_bound = parts.1 i; touches = touches.0 i }
 
--- texts of two kinds differ in their second byte at the latest
+-- what an update and a question tell of their costs differs in its second byte at the latest
 differ : (k : ℕ) {xs ys : List ℕ} → xs ≡ ys → (get_or xs k 0 ≡ get_or ys k 0 → ⊥) → ⊥
 differ k e unlike = unlike (ap (λ l. get_or l k 0) e)
 

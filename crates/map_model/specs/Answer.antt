@@ -6,17 +6,28 @@ use Rattle.map_model.specs.Index as indexes
 use Rattle.map_model.specs.State.{Item}
 use Rattle.map_model.specs.Found.{Found, Peak, found_le, peak_le, sorted_by}
 
+-- a question about the items of one layer
 pub data Question : Type 0 where
+  -- how many points are inside the rectangle
   CountIn : (rect : Rect) → Question
+  -- what these weigh together
   SumIn : (rect : Rect) → Question
+  -- their identifiers, ascending
   ListIn : (rect : Rect) → Question
+  -- the point that is nearest to (x, y): the first by squared distance and then identifier
   Near : (x y : ℕ) → Question
+  -- the first k of these
   Nearest : (k x y : ℕ) → Question
+  -- the identifiers of the points from x1 to x2 that are at least as high as y, ascending
   Above : (x1 x2 y : ℕ) → Question
+  -- the highest point from x1 to x2, of several at one height that of the least identifier
   Top : (x1 x2 : ℕ) → Question
+  -- the identifiers of the segments over x, ascending
   Stab : (x : ℕ) → Question
+  -- how many segments are over x
   StabCount : (x : ℕ) → Question
 
+-- what a question is answered: a variant a question, in their order
 pub data Answer : Type 0 where
   Counted : (n : ℕ) → Answer
   Summed : (n : ℕ) → Answer
@@ -52,6 +63,7 @@ kind_asked (Top x1 x2) = Points
 kind_asked (Stab x) = Segments
 kind_asked (StabCount x) = Segments
 
+-- the items whose shape passes a test
 abbrev pub items_with : (Shape → Bool) → List Item → List Item
 items_with test items = filter (λ item. test item.shape) items
 
@@ -67,6 +79,7 @@ by_distance x y items = sorted_by found_le (map (λ item. record { dist = square
 abbrev pub by_height : ℕ → ℕ → List Item → List Peak
 by_height x1 x2 items = sorted_by peak_le (map (λ item. record { y = height_of item.shape; id = item.id }) (items_with (is_between x1 x2) items))
 
+-- the answer to a question over all items of a layer, by a scan of them
 abbrev pub answer_over : List Item → Question → Answer
 answer_over items (CountIn rect) = Counted (count_by (λ item. is_inside rect item.shape) items)
 answer_over items (SumIn rect) = Summed (sum_by (λ item. weight_of item.shape) (items_with (is_inside rect) items))

@@ -4,14 +4,21 @@ use Rattle.map_model.specs.Shape.{Shape, Kind}
 use Rattle.map_model.specs.Index.{IndexSet}
 use Rattle.map_model.specs.Answer as questions
 
+-- a command about the layer of a name
 pub data Command : Type 0 where
+  -- a new layer, which has no items
   MakeLayer : (name : List ℕ) (kind : Kind) (indexes : IndexSet) → Command
   -- `add` of a point and `seg` of a segment
   Add : (name : List ℕ) (id : ℕ) (shape : Shape) → Command
+  -- the item of an identifier goes
   Drop : (name : List ℕ) (id : ℕ) → Command
+  -- a question about the items
   Ask : (name : List ℕ) (question : questions.Question) → Command
+  -- the shape of an identifier
   Get : (name : List ℕ) (id : ℕ) → Command
+  -- how many live items there are
   Size : (name : List ℕ) → Command
+  -- the identifiers of the last k items, the last one first
   Recent : (name : List ℕ) (k : ℕ) → Command
 
 -- the layer that a command names

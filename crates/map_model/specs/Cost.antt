@@ -16,9 +16,13 @@ pub record QuestionCost : Type 0 where
   pub part_bound : ℕ
   pub touches : ℕ
 
+-- what a reply tells that its command cost
 pub data Cost : Type 0 where
+  -- nothing: a reply to anything but an accepted update or an answered question
   Untold : Cost
+  -- what an accepted update cost
   Updating : Spent → Cost
+  -- what an answered question cost
   Asking : QuestionCost → Cost
 
 -- ` A/B`
@@ -67,19 +71,21 @@ pub record Bounds : Type 0 where
   pub marks : ℕ
   pub parts : ℕ
 
+-- the bounds in one index of a layer of n live items, by their greatest level
 abbrev pub bounds_at : ℕ → Bounds
 bounds_at n =
     let level = greatest_level n in
     record { level = level; turns = turns_up_to level; marks = marks_up_to level; parts = parts_up_to level }
 
--- an update goes to each index
+-- the most turns of an update of a layer: it goes to each index
 abbrev pub turn_bound : Layer → ℕ
 turn_bound layer = index_count layer.indexes * (bounds_at (live_count layer)).turns
 
+-- the most marks of an update of a layer
 abbrev pub mark_bound : Layer → ℕ
 mark_bound layer = index_count layer.indexes * (bounds_at (live_count layer)).marks
 
--- a question asks one index
+-- the most parts that a question to a layer asks: they are of one index
 abbrev pub part_bound : Layer → ℕ
 part_bound layer = (bounds_at (live_count layer)).parts
 

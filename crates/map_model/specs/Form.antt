@@ -13,13 +13,16 @@ pub data Field : Type 0 where
   -- how many are asked for
   Amount : Field
 
+-- the least and the greatest number of a field
 pub record Limits : Type 0 where
   pub least : ℕ
   pub greatest : ℕ
 
+-- as many as may be asked for
 abbrev pub greatest_amount : ℕ
 greatest_amount = 64
 
+-- an identifier has 64 bits, a coordinate or a weight 31, and an amount is from 1 to 64
 abbrev pub limits_of : Field → Limits
 limits_of Id = record { least = 0; greatest = greatest_id }
 limits_of Coordinate = record { least = 0; greatest = greatest_coordinate }
@@ -27,17 +30,20 @@ limits_of Amount = record { least = 1; greatest = greatest_amount }
 
 -- which coordinates are in order
 pub data Order : Type 0 where
+  -- no order is asked for
   Free : Order
   -- the first is at most the second
   Ends : Order
   -- the first is at most the third, and the second at most the fourth
   Corners : Order
 
+-- the coordinates are in order
 abbrev pub is_ordered : Order → List ℕ → Bool
 is_ordered Free places = true
 is_ordered Ends places = nat_le (slice_index places 0) (slice_index places 1)
 is_ordered Corners places = nat_le (slice_index places 0) (slice_index places 2) && nat_le (slice_index places 1) (slice_index places 3)
 
+-- a line's form: a command word, the name of a layer, numbers, and for a new layer its kind and indexes
 pub record Form : Type 0 where
   pub word : List ℕ
   -- the numbers after the name
@@ -46,6 +52,7 @@ pub record Form : Type 0 where
   pub has_indexes : Bool
   pub order : Order
 
+-- the command words, one a form
 pub data Verb : Type 0 where
   Layer : Verb
   Add : Verb
@@ -64,12 +71,15 @@ pub data Verb : Type 0 where
   Size : Verb
   Recent : Verb
 
+-- a form whose numbers are all
 abbrev pub row : List ℕ → List Field → Order → Form
 row word fields order = record { word = word; fields = fields; has_indexes = false; order = order }
 
+-- the corners of a rectangle
 abbrev pub corner_fields : List Field
 corner_fields = Coordinate ∷ Coordinate ∷ Coordinate ∷ Coordinate ∷ []
 
+-- the table: each command word with the fields of the numbers after the name, and which of them are in order
 unfoldable pub form : Verb → Form
 form Layer = record { word = codes "layer"; fields = []; has_indexes = true; order = Free }
 form Add = row (codes "add") (Id ∷ Coordinate ∷ Coordinate ∷ Coordinate ∷ []) Free
@@ -88,6 +98,7 @@ form Get = row (codes "get") (Id ∷ []) Free
 form Size = row (codes "size") [] Free
 form Recent = row (codes "recent") (Amount ∷ []) Free
 
+-- all command words
 unfoldable pub verbs : List Verb
 verbs = Layer ∷ Add ∷ Seg ∷ Drop ∷ Count ∷ Sum ∷ ListIds ∷ Near ∷ Nearest ∷ Above ∷ Top ∷ Stab ∷ StabCount ∷ Get ∷ Size ∷ Recent ∷ []
 

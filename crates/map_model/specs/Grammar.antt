@@ -34,6 +34,7 @@ is_digits field word = is_filled word && all_ascii_digits word
 abbrev pub is_within : Field → ℕ → Bool
 is_within field n = nat_le (limits_of field).least n && nat_le n (limits_of field).greatest
 
+-- the number that a word's digits say is within the limits of its field
 abbrev pub is_in_range : Field → List ℕ → Bool
 is_in_range field word = is_within field (digits_value 10 word)
 
@@ -49,6 +50,7 @@ has_words f words = if f.has_indexes then nat_le (length f.fields + 2) (length w
 
 -- ---- what the fields say
 
+-- what the words after the command word say
 pub record Values : Type 0 where
   pub name : List ℕ
   pub id : ℕ
@@ -78,6 +80,7 @@ with_values (field ∷ fields) (word ∷ words) v = with_values fields words (wi
 abbrev pub place : Values → ℕ → ℕ
 place v k = slice_index v.places k
 
+-- the rectangle of the first four coordinates
 abbrev pub rect_of : Values → Rect
 rect_of v = record { x1 = place v 0; y1 = place v 1; x2 = place v 2; y2 = place v 3 }
 
@@ -107,10 +110,12 @@ abbrev pub takes_word : Kind → List ℕ → Bool
 takes_word Points word = bytes_eq word (codes "range") || bytes_eq word (codes "near") || bytes_eq word (codes "top")
 takes_word Segments word = bytes_eq word (codes "stab")
 
+-- no word stands twice
 abbrev pub is_distinct : List (List ℕ) → Bool
 is_distinct [] = true
 is_distinct (word ∷ words) = not (list_any (bytes_eq word) words) && is_distinct words
 
+-- the set of the indexes that words name
 abbrev pub index_set : List (List ℕ) → IndexSet
 index_set words = record {
   range = list_any (λ word. bytes_eq word (codes "range")) words;
@@ -119,6 +124,7 @@ index_set words = record {
   stab = list_any (λ word. bytes_eq word (codes "stab")) words;
 }
 
+-- what a line says: a command, or nothing, or what is wrong with it
 abbrev pub Parsed : Type 0
 Parsed = Result (Option Command) LineFault
 
@@ -128,6 +134,7 @@ parse_indexes verb v kind words =
     if list_all (takes_word kind) words && is_distinct words then Ok (Some (command_of verb (record v { kind = kind; indexes = index_set words })))
     else Err faults.Index
 
+-- the kind and the indexes at the end of a line that makes a layer: Kind where it is neither `points` nor `segments`
 abbrev pub parse_kind : verbs.Verb → Values → List (List ℕ) → Parsed
 parse_kind verb v [] = Err faults.Fields
 parse_kind verb v (word ∷ words) =
@@ -147,10 +154,12 @@ parse_fields verb f name words =
     else (if f.has_indexes then parse_kind verb (with_values f.fields words (named name)) (drop (length f.fields) words)
     else Ok (Some (command_of verb (with_values f.fields words (named name)))))))))
 
+-- the words after the command word
 abbrev pub parse_form : verbs.Verb → Form → List (List ℕ) → Parsed
 parse_form verb f [] = Err faults.Fields
 parse_form verb f (name ∷ words) = parse_fields verb f name words
 
+-- the words after a command word that was looked up: Command where there is none
 abbrev pub parse_verb : Option verbs.Verb → List (List ℕ) → Parsed
 parse_verb None words = Err faults.Command
 parse_verb (Some verb) words = parse_form verb (form verb) words
@@ -163,8 +172,13 @@ parse_words line (word ∷ words) =
     else (if not (list_all is_printable line) then Err faults.Line
     else parse_verb (verb_of word) words)
 
+-- a line whose carriage return is dropped: Line where it has more than 256 bytes
 abbrev pub parse_text : List ℕ → Parsed
 parse_text line = if nat_lt longest_line (length line) then Err faults.Line else parse_words line (words line)
 
+-- What a line says. The first fault that holds is the answer, in this order: more than 256 bytes, one carriage return at the end not counted
+-- (Line); a line without a word or of a comment says nothing; a byte that isn't printable (Line); no command word (Command); another number of
+-- words than the form's (Fields); no name (Name); a number that isn't digits (Number), or past its limits (Range); coordinates out of order
+-- (Order); no kind (Kind); an index that the kind doesn't take, or that comes twice (Index).
 abbrev pub parse : List ℕ → Parsed
 parse line = parse_text (without_return line)

@@ -6,6 +6,7 @@ pub data LineFault : Type 0 where
   Command : LineFault
   -- another number of words than the form has
   Fields : LineFault
+  -- no name of a layer
   Name : LineFault
   -- a number that isn't one or more digits
   Number : LineFault
@@ -13,6 +14,7 @@ pub data LineFault : Type 0 where
   Range : LineFault
   -- a lower end past its upper end
   Order : LineFault
+  -- no kind of layer
   Kind : LineFault
   -- an index that the kind doesn't take, or one that stands twice
   Index : LineFault

@@ -15,27 +15,34 @@ pub record Outcome : Type 0 where
   pub state : State
   pub reply : Reply
 
+-- the map with a reply
 abbrev pub replied : State → Reply → Outcome
 replied state reply = record { state = state; reply = reply }
 
+-- the map as it is, and a refusal
 abbrev pub refused : State → Refusal → Outcome
 refused state cause = replied state (Refused cause)
 
+-- the two kinds are one
 abbrev pub is_same_kind : Kind → Kind → Bool
 is_same_kind Points Points = true
 is_same_kind Points Segments = false
 is_same_kind Segments Points = false
 is_same_kind Segments Segments = true
 
+-- a layer has the name
 abbrev pub is_taken : List ℕ → State → Bool
 is_taken name state = is_some (layer_named name state)
 
+-- an empty layer comes at the end; Taken where one has the name, then NoRoom where there are eight
 abbrev pub make_layer : State → List ℕ → Kind → IndexSet → Outcome
 make_layer state name kind indexes =
     if is_taken name state then refused state Taken
     else (if nat_le most_layers (length state) then refused state NoRoom
     else replied (state ++ record { name = name; kind = kind; indexes = indexes; items = [] } ∷ []) Made)
 
+-- the item comes at the end of its layer; NoLayer, then Kind where the shape is of the other kind, Duplicate where the identifier is live,
+-- Full where the layer has 65,536 items
 abbrev pub add_to : State → List ℕ → ℕ → Shape → Option Layer → Outcome
 add_to state name id shape None = refused state NoLayer
 add_to state name id shape (Some layer) =
@@ -44,12 +51,14 @@ add_to state name id shape (Some layer) =
     else (if nat_le most_items (live_count layer) then refused state Full
     else replied (with_items name (with_item (record { id = id; shape = shape })) state) Updated))
 
+-- the item goes; NoLayer, then Unknown where the identifier isn't live
 abbrev pub drop_from : State → List ℕ → ℕ → Option Layer → Outcome
 drop_from state name id None = refused state NoLayer
 drop_from state name id (Some layer) =
     if is_live id layer.items then replied (with_items name (without_item id) state) Updated
     else refused state (Unknown id)
 
+-- the answer over all items; NoLayer, then Kind where the question is about the other kind, Index where the layer lacks the index for it
 abbrev pub ask_of : State → Question → Option Layer → Outcome
 ask_of state question None = refused state NoLayer
 ask_of state question (Some layer) =
@@ -57,22 +66,27 @@ ask_of state question (Some layer) =
     else (if not (has layer.indexes (index_of question)) then refused state Index
     else replied state (Answered (answer_over layer.items question)))
 
+-- a shape, or Unknown where there is none
 abbrev pub got : State → ℕ → Option Shape → Outcome
 got state id None = refused state (Unknown id)
 got state id (Some shape) = replied state (Got shape)
 
+-- the shape of an identifier; NoLayer, then Unknown where it isn't live
 abbrev pub get_from : State → ℕ → Option Layer → Outcome
 get_from state id None = refused state NoLayer
 get_from state id (Some layer) = got state id (shape_of id layer.items)
 
+-- how many live items there are; NoLayer
 abbrev pub size_of : State → Option Layer → Outcome
 size_of state None = refused state NoLayer
 size_of state (Some layer) = replied state (Sized (live_count layer))
 
+-- the identifiers of the last k items; NoLayer
 abbrev pub recent_of : State → ℕ → Option Layer → Outcome
 recent_of state k None = refused state NoLayer
 recent_of state k (Some layer) = replied state (Latest (latest k layer.items))
 
+-- What a command makes of a map, and its reply. The first refusal that holds is the reply, and the map then stays as it is.
 abbrev pub step : State → Command → Outcome
 step state (MakeLayer name kind indexes) = make_layer state name kind indexes
 step state (Add name id shape) = add_to state name id shape (layer_named name state)

@@ -10,6 +10,7 @@ use Rattle.map_model.specs.Grammar.{Parsed, parse}
 
 -- ---- costs
 
+-- the command adds an item
 abbrev pub adds : Command → Bool
 adds (MakeLayer name kind indexes) = false
 adds (Add name id shape) = true
@@ -19,10 +20,12 @@ adds (Get name id) = false
 adds (Size name) = false
 adds (Recent name k) = false
 
+-- what an update may have spent in the layer of a name
 abbrev pub IsSpentIn : Option Layer → Bool → Cost → Type 0
 IsSpentIn (Some layer) adding (Updating spent) = IsSpent layer adding spent
 IsSpentIn _ adding _ = ⊥
 
+-- what a question may have asked in the layer of a name
 abbrev pub IsAskedIn : Option Layer → Cost → Type 0
 IsAskedIn (Some layer) (Asking asked) = IsAsked layer asked
 IsAskedIn _ _ = ⊥
@@ -40,18 +43,21 @@ IsCost layer adding (Refused cause) cost = cost ≡ Untold
 
 -- ---- one line
 
--- what a line is answered, and the map after it: nothing, or a reply with what it cost
+-- a reply with what it cost
 pub record Told : Type 0 where
   pub reply : Reply
   pub cost : Cost
 
+-- what a line is answered, a reply or nothing, and the map after it
 pub record Given : Type 0 where
   pub told : Option Told
   pub state : State
 
+-- no answer: the map stays
 abbrev pub nothing : State → Given
 nothing state = record { told = None; state = state }
 
+-- a refusal: the map stays, and no cost is told
 abbrev pub refused : State → Reply → Given
 refused state reply = record { told = Some (record { reply = reply; cost = Untold }); state = state }
 
@@ -65,6 +71,8 @@ pub record Executes (state : State) (command : Command) (given : Given) : Type 0
 abbrev pub may_lack_memory : State → Command → Bool
 may_lack_memory state command = takes_memory command && not (is_refusal (step state command).reply)
 
+-- What a line that was read may be given: nothing where it says nothing, a refusal where it has a fault, and for a command the machine's
+-- reply at some cost that is allowed, or `no memory` where it takes memory and nothing else refuses it.
 abbrev pub AnswersTo : State → Parsed → Given → Type 0
 AnswersTo state (Ok None) given = given ≡ nothing state
 AnswersTo state (Err fault) given = given ≡ refused state (Refused (refusal_of_fault fault))
@@ -75,6 +83,7 @@ AnswersTo state (Ok (Some command)) given =
 abbrev pub Answers : State → List ℕ → Given → Type 0
 Answers state line given = AnswersTo state (parse line) given
 
+-- the bytes of an answer: the reply's line, if there is a reply
 abbrev pub written_for : Bool → Option Told → List ℕ
 written_for ledger None = []
 written_for ledger (Some told) = reply_line ledger told.reply told.cost
@@ -109,24 +118,29 @@ pub record Interrupted (ledger : Bool) (start : State) (lines : List (List ℕ))
 
 -- ---- the machine's own run, memory always being found, without the ledger
 
+-- the machine's reply to a line that was read
 abbrev pub machine_reply : State → Parsed → Option Reply
 machine_reply state (Ok None) = None
 machine_reply state (Ok (Some command)) = Some (step state command).reply
 machine_reply state (Err fault) = Some (Refused (refusal_of_fault fault))
 
+-- the map after it
 abbrev pub machine_state : State → Parsed → State
 machine_state state (Ok None) = state
 machine_state state (Ok (Some command)) = (step state command).state
 machine_state state (Err fault) = state
 
+-- the bytes of a reply without costs
 abbrev pub line_for : Option Reply → List ℕ
 line_for None = []
 line_for (Some reply) = reply_line false reply Untold
 
+-- what the machine answers to lines, one after another
 abbrev pub machine_text : State → List (List ℕ) → List ℕ
 machine_text state [] = []
 machine_text state (line ∷ lines) = line_for (machine_reply state (parse line)) ++ machine_text (machine_state state (parse line)) lines
 
+-- the map that the machine's run over lines leads to
 abbrev pub machine_end : State → List (List ℕ) → State
 machine_end state [] = state
 machine_end state (line ∷ lines) = machine_end (machine_state state (parse line)) lines

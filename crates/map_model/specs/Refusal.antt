@@ -2,6 +2,7 @@
 use Rattle.std.specs.Prelude.{ℕ, List, codes, ◌++◌, decimal}
 use Rattle.map_model.specs.LineFault as faults
 
+-- why a line or a command is refused
 pub data Refusal : Type 0 where
   Line : Refusal
   Command : Refusal
@@ -10,14 +11,21 @@ pub data Refusal : Type 0 where
   Number : Refusal
   Range : Refusal
   Order : Refusal
+  -- no layer has the name
   NoLayer : Refusal
   Kind : Refusal
   Index : Refusal
+  -- a layer has the name already
   Taken : Refusal
+  -- there are eight layers already
   NoRoom : Refusal
+  -- the layer has an item of this identifier
   Duplicate : (id : ℕ) → Refusal
+  -- the layer has no item of this identifier
   Unknown : (id : ℕ) → Refusal
+  -- the layer has 65,536 items already
   Full : Refusal
+  -- memory is lacking
   NoMemory : Refusal
 
 -- what the refused line is answered

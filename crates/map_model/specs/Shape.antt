@@ -8,16 +8,21 @@ pub record Rect : Type 0 where
   pub x2 : ℕ
   pub y2 : ℕ
 
+-- what the items of a layer are: all of one kind
 pub data Kind : Type 0 where
+  -- points with a weight
   Points : Kind
+  -- horizontal segments
   Segments : Kind
 
+-- a point or a horizontal segment
 pub data Shape : Type 0 where
   -- at (x, y), with a weight
   Point : (x y w : ℕ) → Shape
   -- from (lo, y) to (hi, y)
   Segment : (lo hi y : ℕ) → Shape
 
+-- the kind of a shape
 abbrev pub kind_of : Shape → Kind
 kind_of (Point x y w) = Points
 kind_of (Segment lo hi y) = Segments
@@ -42,14 +47,17 @@ abbrev pub is_stabbed : ℕ → Shape → Bool
 is_stabbed x (Point x' y w) = false
 is_stabbed x (Segment lo hi y) = nat_le lo x && nat_le x hi
 
+-- the weight of a point
 abbrev pub weight_of : Shape → ℕ
 weight_of (Point x y w) = w
 weight_of (Segment lo hi y) = 0
 
+-- how high a shape lies
 abbrev pub height_of : Shape → ℕ
 height_of (Point x y w) = y
 height_of (Segment lo hi y) = y
 
+-- how far two numbers are apart
 abbrev pub difference : ℕ → ℕ → ℕ
 difference a b = (a - b) + (b - a)
 

@@ -9,17 +9,18 @@ pub record Item : Type 0 where
   pub id : ℕ
   pub shape : Shape
 
--- a name, a kind, the indexes, and the live items in order of add
+-- a layer: its name, its kind, its indexes, and its live items in order of add
 pub record Layer : Type 0 where
   pub name : List ℕ
   pub kind : Kind
   pub indexes : IndexSet
   pub items : List Item
 
--- the layers in order of creation
+-- a map: its layers in order of creation, at most 8, each of at most 65,536 items
 abbrev pub State : Type 0
 State = List Layer
 
+-- the map without layers
 abbrev pub empty_map : State
 empty_map = []
 
@@ -28,15 +29,19 @@ pub record HasDistinctKeys (state : State) : Type 0 where
   pub names : AllPairs (λ a b. a.name ≢ b.name) state
   pub ids : All (λ layer. AllPairs (λ a b. a.id ≢ b.id) layer.items) state
 
+-- as many layers as a map may have
 abbrev pub most_layers : ℕ
 most_layers = 8
 
+-- as many items as a layer may have
 abbrev pub most_items : ℕ
 most_items = 65536
 
+-- how many items a layer has
 abbrev pub live_count : Layer → ℕ
 live_count layer = length layer.items
 
+-- an item has this identifier
 abbrev pub is_live : ℕ → List Item → Bool
 is_live id items = list_any (λ item. item.id == id) items
 
@@ -58,8 +63,10 @@ changed change layer = record layer { items = change layer.items }
 abbrev pub with_items : List ℕ → (List Item → List Item) → State → State
 with_items name change layers = map (λ layer. if bytes_eq layer.name name then changed change layer else layer) layers
 
+-- one more item, at the end
 abbrev pub with_item : Item → List Item → List Item
 with_item item items = items ++ item ∷ []
 
+-- the items of other identifiers
 abbrev pub without_item : ℕ → List Item → List Item
 without_item id items = filter (λ item. not (item.id == id)) items

@@ -1,12 +1,13 @@
--- A text's lines.
+-- A text's lines. A text is a list of bytes, each a number from 0 to 255; a line feed is the byte 10.
 use Rattle.std.specs.Prelude.{◌==◌, ℕ, List, [], ◌∷◌, if◌then◌else◌, count_by, codes, nat_eq, Bool, not}
 use Rattle.std.specs.List.{onto_first, list_all, starts_with}
 
--- cut at each line feed; a last line without one counts where it isn't empty
+-- the lines of a text, which is cut at each line feed; a last line without one counts where it isn't empty
 abbrev pub lines : List ℕ → List (List ℕ)
 lines [] = []
 lines (byte ∷ bytes) = if byte == 10 then [] ∷ lines bytes else onto_first byte (lines bytes)
 
+-- a byte more at the front of the first line, if there is one
 abbrev pub onto_first_if_any : ℕ → List (List ℕ) → List (List ℕ)
 onto_first_if_any byte [] = []
 onto_first_if_any byte (line ∷ lines) = (byte ∷ line) ∷ lines

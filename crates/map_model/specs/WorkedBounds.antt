@@ -2,6 +2,7 @@
 use Rattle.std.specs.Prelude.{◌≡◌}
 use Rattle.map_model.specs.Cost.{greatest_level, bounds_at}
 
+-- the bounds of one index, computed for layers of so many live items
 pub record WorkedBounds : Type 0 where
   pub from_0 : bounds_at 0 ≡ record { level = 3; turns = 480; marks = 60; parts = 12 }
   pub from_3 : bounds_at 3 ≡ record { level = 4; turns = 672; marks = 78; parts = 15 }

@@ -3,6 +3,7 @@ use Rattle.std.specs.Prelude.{◌≡◌, List, [], ◌∷◌, ◌++◌, codes, r
 use Rattle.map_model.specs.State.{empty_map}
 use Rattle.map_model.specs.Output.{machine_text}
 
+-- what single lines are answered, computed
 pub record WorkedLines : Type 0 where
   pub blank : machine_text empty_map (codes "layer a points range" ∷ codes " " ∷ []) ≡ codes "ok\n"
   pub comment_of_any_bytes : machine_text empty_map (codes "layer a points range" ∷ (35 ∷ 255 ∷ []) ∷ []) ≡ codes "ok\n"

@@ -4,6 +4,7 @@ use Rattle.map_model.specs.Text.{lines, whole_lines, refusals}
 use Rattle.map_model.specs.State.{empty_map}
 use Rattle.map_model.specs.Output.{machine_text}
 
+-- what whole scripts are answered, computed
 pub record WorkedRows : Type 0 where
   pub empty : machine_text empty_map (lines []) ≡ []
   pub silent : machine_text empty_map (lines (codes "\n \t\n# add\n\t#x y\n")) ≡ []

@@ -1,8 +1,15 @@
 //! What a map of layers is, what a script's line says and what it is answered: the definitions that every other crate's
 //! contracts speak of, and the laws that hold of them.
 //!
-//! The definitions are in `specs/`; `docs/DEFINITIONS.md` reads them aloud. Each function here is a law: it does
-//! nothing, and its contract holds of every map, every script and everything that may be written for it.
+//! The definitions are in `specs/`: numbers are whole and without limit, lists count from 0, and a text is a list of bytes.
+//! Each function here is a law: it does nothing, and its contract holds of every map, every script and everything that may
+//! be written for it.
+//!
+//! The definitions name no type of the program: a crate above says by a function of its `specs/` what its own types mean here
+//! (`command_of`, `reply_of`, `map_of`). An output is a relation by recursion over the lines, and no function of a script, since memory
+//! may be refused at any line that takes some. What a reply cost stands beside it, and any costs that are allowed will do: so bytes fix
+//! the map though costs differ ([`end_is_fixed`]). Points and segments are added by one command, and the nine questions are one, since
+//! their refusals are the same.
 #![tactic(auto)]
 
 ghost use Rattle.std.specs.Prelude.{◌≡◌, ℕ, ◌+◌, ◌*◌, ◌^◌, ◌<◌, ◌≤◌, Bool, true, false, List, [], ◌∷◌, ◌++◌, Ok, Some, None, Contains, codes, IsTrue, nat_eq};

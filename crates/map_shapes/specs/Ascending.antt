@@ -1,4 +1,4 @@
--- Numbers in ascending order.
+-- Numbers in ascending order. Two lists are joined by sorting both together: it says the same as a merge, and its laws are those of sorting.
 use Rattle.std.specs.Prelude.{ℕ, List, [], ◌∷◌, ◌++◌, nat_le, if◌then◌else◌}
 
 -- a number put before the first one that isn't less

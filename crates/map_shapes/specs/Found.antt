@@ -4,15 +4,19 @@ use Rattle.map_model.specs.Found as model
 use Rattle.map_shapes.specs.declared.found.Found.{Found}
 use Rattle.map_shapes.specs.declared.peak.Peak.{Peak}
 
+-- a found point as the definitions have it
 abbrev pub found_of : Found → model.Found
 found_of f = record { dist = f.dist; id = f.id }
 
+-- a high point as the definitions have it
 abbrev pub peak_of : Peak → model.Peak
 peak_of p = record { y = p.y; id = p.id }
 
+-- the way back: a found point of the definitions
 abbrev pub found_from : model.Found → Found
 found_from f = record { dist = f.dist; id = f.id }
 
+-- the way back: a high point of the definitions
 abbrev pub peak_from : model.Peak → Peak
 peak_from p = record { y = p.y; id = p.id }
 

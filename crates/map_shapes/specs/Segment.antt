@@ -3,6 +3,7 @@ use Rattle.map_model.specs.Shape as model
 use Rattle.map_model.specs.State.{Item}
 use Rattle.map_shapes.specs.declared.segment.Segment.{Segment}
 
+-- a segment without identifier and stamp, as the definitions have it
 abbrev pub shape_of_segment : Segment → model.Shape
 shape_of_segment s = model.Segment s.lo s.hi s.y
 

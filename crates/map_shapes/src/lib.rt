@@ -1,4 +1,8 @@
 //! The shapes of a map, the names of its layers, the questions about points in a rectangle, and what replies tell.
+//!
+//! A [`Point`], a [`Segment`] and a [`Rect`] have their ranges and orders as ghost fields: no other value can be made. Points and
+//! segments are items in two orders. [`CountIn`] and [`SumIn`] are tallied by a `Total`, which stays at 2^64 - 1 and never
+//! refuses, and [`ListIn`] by an [`IdTally`], which refuses where memory isn't given.
 #![tactic(auto)]
 
 mod count_in;
@@ -43,6 +47,3 @@ pub use shape::Shape;
 pub use shaped::Shaped;
 pub use spent::Spent;
 pub use sum_in::SumIn;
-
-#[cfg(test)]
-mod tests;

@@ -12,7 +12,7 @@ use Rattle.program_words.specs.declared.job.Job.{Job}
 use Rattle.program_words.specs.declared.job.WordsFault.{WordsFault}
 use Rattle.program_words.specs.declared.job.WordsFault.TheVariants.{Usage, NoMemory}
 
--- why the words are refused, by the kind of clap's error
+-- why the words are refused, by clap's error
 abbrev pub fault_by : ErrorKind → WordsFault
 fault_by OutOfMemory = NoMemory
 fault_by _ = Usage
@@ -21,9 +21,11 @@ fault_by _ = Usage
 abbrev pub IsNumberBelow : ℕ → List ℕ → Type 0
 IsNumberBelow limit text = IsNumeral 10 (without_leading_plus text) × (number_of text < limit)
 
+-- the text says that a flag is set, or isn't
 abbrev pub IsFlag : List ℕ → Type 0
 IsFlag text = (text ≡ codes "true") ⊎ (text ≡ codes "false")
 
+-- it holds of an argument's text, where there is one
 abbrev pub IfGiven : (List ℕ → Type 0) → List ℕ → ArgMatches → Type 0
 IfGiven P argument m = (text : List ℕ) → one_text (found_of m) argument ≡ Some text → P text
 
@@ -33,9 +35,11 @@ pub record HasValues (m : ArgMatches) : Type 0 where
   pub seed : IfGiven (IsNumberBelow (2 ^ 64)) (codes "make") m
   pub size : IfGiven (IsNumberBelow (2 ^ 32)) (codes "size") m
 
+-- the number of an argument
 abbrev pub number_in : ArgMatches → List ℕ → Option ℕ
 number_in m argument = option_map number_of (one_text (found_of m) argument)
 
+-- a flag is set
 abbrev pub flag_in : ArgMatches → List ℕ → Bool
 flag_in m argument = option_map_or (λ text. bytes_eq text (codes "true")) (one_text (found_of m) argument) false
 

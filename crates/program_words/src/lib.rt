@@ -1,4 +1,11 @@
 //! The words after the program's name: which job they ask for.
+//!
+//! Which words are accepted, and what stands in them, is clap's own function of this command line, and that a size stands beside a
+//! seed alone. [`read_words`] is exact but for memory: the same words may always be answered `NoMemory`, since clap's contract says
+//! nowhere that memory is found.
+//!
+//! The words are read by a crate of its own, without the program's name before them: a function that carries clap's clauses is slow to
+//! prove. 1,000 rounds are this program's default and not clap's, which would stand beside a missing seed.
 #![tactic(auto)]
 
 ghost use Rattle.std.specs.Prelude.{◌≡◌, true, false, [], ◌∷◌, codes};
@@ -27,6 +34,3 @@ pub fn worked_words()
     ensures twice { accepts (codes "--ledger" ∷ codes "--ledger" ∷ []) ≡ false }
     ensures stray { accepts (codes "x" ∷ []) ≡ false }
 {}
-
-#[cfg(test)]
-mod tests;

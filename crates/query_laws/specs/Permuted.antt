@@ -1,4 +1,4 @@
--- Lists with the same items.
+-- Lists with the same items: a relation by cases, since std's word has no lemmas on filters.
 use Rattle.std.specs.Prelude.{List, [], ◌∷◌}
 
 -- the second list has the items of the first, each as often, in some order

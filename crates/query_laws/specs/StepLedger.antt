@@ -27,10 +27,11 @@ nothing_counted = record { turns = 0; marks = 0; touches = 0; lap_start = record
 abbrev pub lap_of : ℕ → ℕ → ℕ
 lap_of start now = min (now - start) (2 ^ 64 - 1)
 
--- the most turns, and the most marks, of one lap so far, the running one too
+-- the most turns of one lap so far, the running one too
 abbrev pub most_lap_turns : Counts → ℕ
 most_lap_turns steps = max steps.lap_start.most_turns (lap_of steps.lap_start.turns steps.turns)
 
+-- the most marks of one lap so far, the running one too
 abbrev pub most_lap_marks : Counts → ℕ
 most_lap_marks steps = max steps.lap_start.most_marks (lap_of steps.lap_start.marks steps.marks)
 
@@ -53,13 +54,15 @@ pub record AtLapStart (steps : Counts) : Type 0 where
   pub no_marks : steps.lap_start.marks ≡ steps.marks
   pub no_touches : steps.lap_start.touches ≡ steps.touches
 
--- one more turn, mark or touch, and nothing else changes
+-- one more turn, and nothing else changes
 abbrev pub one_turn : Counts → Counts
 one_turn steps = record steps { turns = steps.turns + 1 }
 
+-- one more mark, and nothing else changes
 abbrev pub one_mark : Counts → Counts
 one_mark steps = record steps { marks = steps.marks + 1 }
 
+-- one more touch, and nothing else changes
 abbrev pub one_touch : Counts → Counts
 one_touch steps = record steps { touches = steps.touches + 1 }
 

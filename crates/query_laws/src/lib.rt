@@ -18,6 +18,3 @@ pub use item::{Item, Named, Order};
 pub use question::{Question, Tally, derived_laws};
 pub use step_ledger::NoMemory;
 pub use total::Total;
-
-#[cfg(test)]
-mod tests;

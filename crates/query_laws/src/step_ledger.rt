@@ -3,7 +3,16 @@
 //! Three things are counted. A turn is one unit of building work. A mark is one attempt to mark an item of a part as dead.
 //! A touch is one read or write of one entry of a [`Row`].
 //!
-//! Time, bytes, the copying and freeing of vectors, the work of std's maps, and reads of anything but a `Row` are not.
+//! Time, bytes, the copying and freeing of vectors, the work of std's maps, and reads of anything but a `Row` are not. What a
+//! turn or a mark stands for is the word of the code that counts it.
+//!
+//! Only the calls here raise a count of a [`Steps`]. Anyone may make another one, whose counts tell nothing of the first. A lap
+//! hides nothing: how often one was begun is counted, and the most turns and marks of one are kept. So whoever holds the `Steps`
+//! of many updates sees the dearest of them, without a look between two.
+//!
+//! A count is kept as the amount before the lap and that in it. A lap that ends is compared with the most as the next begins, so a turn
+//! or a mark costs nothing more. No call lowers a count, a [`Steps`] is no copy of another, and one that is made anew has another
+//! ledger: so no edit takes a count back.
 ghost use Rattle.std.specs.Prelude.{◌≡◌, ℕ};
 ghost use Rattle.query_laws.specs.StepLedger.{nothing_counted, lap_begun, one_turn, one_mark, one_touch, lap_of, most_lap_turns, most_lap_marks};
 

@@ -1,4 +1,0 @@
-use Rattle.query_laws.proofs.tests.counts_rows_and_laps.Given as goal
-
-abbrev pub ghosts-row_and_laps : goal.ghosts-row_and_laps
-ghosts-row_and_laps g a = record { name = a.blank.name; parts = a.blank.parts }
