@@ -237,10 +237,7 @@ module _ {Item : Type 0} (stamp : Item → ℕ) (hits : Item → Bool) (touches 
       → IsAskRefusal index refusable result → IsOf (λ part. part) stamp index es stamps → MayBeFew index → MaySpend touches index old new
       → (index ≡ None → new ≡ old) → IsTouching (most_of (of_part (greatest_level (length es))) (length es)) result old new
   touching index refusable (Ok given) refused of parts spent nothing = few_touches index of parts spent nothing
-  touching index refusable (Err ask.NoLayer) refused of parts spent nothing = absurd refused
-  touching index refusable (Err ask.WrongKind) refused of parts spent nothing = absurd refused
   touching index refusable (Err ask.NoIndex) refused of parts spent nothing = nothing (gone index refused)
-  touching index refusable (Err (ask.Unknown id)) refused of parts spent nothing = absurd refused
   touching index refusable (Err ask.NoMemory) refused of parts spent nothing = few_touches index of parts spent nothing
 
   pub asked_told : {old new : Counts} (index : Option (Indexed (Contents Item) Item)) (asked : QuestionCost) (most : ℕ) → IsOf (λ part. part) stamp index es stamps

@@ -7,14 +7,14 @@ use Rattle.map_structures.specs.Touches.{PartTouches}
 use Rattle.map_model.specs.Cost.{bounds_at}
 use Rattle.map_shapes.specs.declared.question_cost.QuestionCost.{QuestionCost}
 use Rattle.layer_kinds.specs.declared.faults.AskFault.{AskFault}
-use Rattle.layer_kinds.specs.declared.faults.AskFault.TheVariants.{NoLayer, WrongKind, NoIndex, Unknown, NoMemory}
+use Rattle.layer_kinds.specs.declared.faults.AskFault.TheVariants.{NoIndex, NoMemory}
 
--- so many as the index has complete parts, of which no level has more than three
+-- so many parts as the index has complete ones, of which no level has more than three
 abbrev pub IsEveryPart : {P Item : Type 0} → Option (Indexed P Item) → ℕ → Type 0
 IsEveryPart None parts = ⊥
 IsEveryPart (Some index) parts = (parts ≡ parts_of index.main.levels) × All (λ l. length l.parts ≤ 3) index.main.levels
 
--- the most touches of any question to n items, at these of one part
+-- the most touches of any question to n items, by those in one part
 abbrev pub most_of : PartTouches → ℕ → ℕ
 most_of touches n = (bounds_at n).parts * touches.part + touches.hit * n + touches.item * (2 * n + 9)
 
@@ -33,11 +33,8 @@ pub record IsReading (old new : Counts) : Type 0 where
   pub touches : old.touches ≤ new.touches
   pub same_lap : new.lap_start ≡ old.lap_start
 
--- One that is answered or that memory refused touches so much at most, and any other that is refused counts nothing.
+-- A question that is answered or that memory refused touches so much at most, and one that is refused for another cause counts nothing.
 abbrev pub IsTouching : {T : Type 0} → ℕ → Result T AskFault → Counts → Counts → Type 0
 IsTouching most (Ok given) old new = new.touches ≤ old.touches + most
-IsTouching most (Err NoLayer) old new = new ≡ old
-IsTouching most (Err WrongKind) old new = new ≡ old
 IsTouching most (Err NoIndex) old new = new ≡ old
-IsTouching most (Err (Unknown id)) old new = new ≡ old
 IsTouching most (Err NoMemory) old new = new.touches ≤ old.touches + most

@@ -7,15 +7,15 @@ use Rattle.global_rebuild.specs.Index.{Indexed, IsIndexOf, IsPrepared}
 use Rattle.layer_kinds.specs.Shares.{Rate, Rates}
 
 module _ {P Item : Type 0} where
-  -- the rate of one, where it is there
+  -- the rate of an index, where it is there
   abbrev pub rates_of : Rate → Option (Indexed P Item) → Rates
   rates_of rate index = option_map (λ _. rate) index ∷ []
 
   module _ (contents : P → Contents Item) where
-    -- where it is there, it is that of the entries, and every stamp in it is below a number
+    -- where an index is there, it is that of the entries, and every stamp in it is below a number
     abbrev pub IsOf : (Item → ℕ) → Option (Indexed P Item) → List (Entry Item) → ℕ → Type 0
     IsOf stamp index es stamps = IfSome index (λ i. IsIndexOf contents stamp i es stamps)
 
-    -- where it is there, it is prepared
+    -- where an index is there, it is prepared
     abbrev pub IsReady : Option (Indexed P Item) → Type 0
     IsReady index = IfSome index (IsPrepared contents)

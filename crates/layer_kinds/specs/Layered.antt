@@ -6,9 +6,9 @@ use Rattle.map_model.specs.State.{Item, most_items, is_live, with_item, without_
 use Rattle.layer_kinds.specs.declared.faults.AskFault.{AskFault}
 use Rattle.layer_kinds.specs.declared.faults.AskFault.TheVariants as ask
 use Rattle.layer_kinds.specs.declared.faults.UpdateFault.{UpdateFault}
-use Rattle.layer_kinds.specs.declared.faults.UpdateFault.TheVariants.{NoLayer, WrongKind, Duplicate, Unknown, Full, NoMemory}
+use Rattle.layer_kinds.specs.declared.faults.UpdateFault.TheVariants.{Duplicate, Unknown, Full, NoMemory}
 
--- its name, the entries in order of add, how many adds there ever were, and the indexes over the entries
+-- a layer: its name, its entries in order of add, how many adds there ever were, and the indexes over the entries
 pub record Layered (X I : Type 0) : Type 0 where
   pub name : List ℕ
   pub entries : List (Entry I)
@@ -23,8 +23,6 @@ items_of item_of es = map (λ e. item_of e.item) es
 -- of memory.
 abbrev pub IsAdd : {T : Type 0} → List Item → Item → List Item → Result T UpdateFault → Type 0
 IsAdd old item new (Ok done) = (is_live item.id old ≡ false) × (length old < most_items) × (new ≡ with_item item old)
-IsAdd old item new (Err NoLayer) = ⊥
-IsAdd old item new (Err WrongKind) = ⊥
 IsAdd old item new (Err (Duplicate id)) = (is_live item.id old ≡ true) × (id ≡ item.id) × (new ≡ old)
 IsAdd old item new (Err (Unknown id)) = ⊥
 IsAdd old item new (Err Full) = (is_live item.id old ≡ false) × (most_items ≤ length old) × (new ≡ old)
@@ -33,8 +31,6 @@ IsAdd old item new (Err NoMemory) = (is_live item.id old ≡ false) × (length o
 -- An identifier that isn't live is refused, and any other item is taken out, but for want of memory.
 abbrev pub IsRemoval : {T : Type 0} → List Item → ℕ → List Item → Result T UpdateFault → Type 0
 IsRemoval old id new (Ok done) = (is_live id old ≡ true) × (new ≡ without_item id old)
-IsRemoval old id new (Err NoLayer) = ⊥
-IsRemoval old id new (Err WrongKind) = ⊥
 IsRemoval old id new (Err (Duplicate other)) = ⊥
 IsRemoval old id new (Err (Unknown other)) = (is_live id old ≡ false) × (other ≡ id) × (new ≡ old)
 IsRemoval old id new (Err Full) = ⊥
@@ -43,8 +39,5 @@ IsRemoval old id new (Err NoMemory) = (is_live id old ≡ true) × (new ≡ old)
 -- A question is refused exactly where the index isn't there, but for want of memory, where its tally can refuse.
 abbrev pub IsAskRefusal : {T I : Type 0} → Option I → Bool → Result T AskFault → Type 0
 IsAskRefusal index refusable (Ok given) = is_some index ≡ true
-IsAskRefusal index refusable (Err ask.NoLayer) = ⊥
-IsAskRefusal index refusable (Err ask.WrongKind) = ⊥
 IsAskRefusal index refusable (Err ask.NoIndex) = is_some index ≡ false
-IsAskRefusal index refusable (Err (ask.Unknown id)) = ⊥
 IsAskRefusal index refusable (Err ask.NoMemory) = (is_some index ≡ true) × (refusable ≡ true)

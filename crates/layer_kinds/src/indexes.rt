@@ -11,7 +11,7 @@ ghost use Rattle.layer_kinds.specs.Indexing.{rates_of, IsOf, IsReady};
 
 use builder_trait::{Builder, Part};
 use global_rebuild::Index;
-pub use has::{First, Has, Next};
+pub use has::Has;
 use id_chain::{Chain, Handle};
 use map_shapes::Shaped;
 use map_structures::MapStructure;
@@ -75,7 +75,7 @@ pub trait Indexes: Drop + Sized {
         ensures there { rates self.new ≡ rates self.old }
         ensures cost { CostsShares delete_turns delete_marks (2 * length chain.now.entries + 10) (rates self.old) steps.old steps.new };
 
-    /// All are of kinds of the map.
+    /// All are of structures of the map.
     ghost low: { (s : Self) → AreLow (rates s) };
 }
 

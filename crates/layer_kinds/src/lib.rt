@@ -1,8 +1,17 @@
-//! A layer of items of one kind, with the indexes over them, of which each may be there or not, and which may be of several kinds.
+//! A layer of items of one kind, with the indexes over them, of which each may be there or not, and which may be of several structures.
 //!
 //! One index is a [`LayerIndex`], and two together are [`Indexes`] again, so what holds of several is proved once. An update is prepared
 //! in all of them before it is done in one: where memory is refused to the last, none has lost an item. A [`KindLayer`] has the items by
 //! identifier beside them.
+//!
+//! A call costs at most the sum of the shares of the indexes that are there, each by its own slope and base, also where the last was
+//! refused memory. With n items before and h the greatest number with `2^h <= 2n + 10`, an update, done or refused memory, takes at most
+//! `12h^2 + 108h + 48` turns and `18h + 6` marks in each index, and touches 16 entries a turn and `16 * (h + 2)^2` a mark at most. One that
+//! is refused for another cause takes nothing. A question is put to each complete part of one index, of which no level has more than
+//! three.
+//!
+//! Several indexes are pairs of indexes, and no struct with a field for each: a further one adds no proof. A layer of one kind is a crate of
+//! its own, since its calls decide on the order of refusals, and that memory is taken before anything changes.
 #![tactic(auto)]
 
 mod bounds;
@@ -12,5 +21,5 @@ mod kind_layer;
 
 pub use bounds::Bounds;
 pub use faults::{AskFault, UpdateFault};
-pub use indexes::{First, Has, Indexes, LayerIndex, Next};
+pub use indexes::{Has, Indexes, LayerIndex};
 pub use kind_layer::{KindLayer, ask_layer};

@@ -11,14 +11,13 @@ use Rattle.map_model.specs.Command.{MakeLayer, Add, Drop, Ask}
 use Rattle.map_model.specs.Refusal as refusals
 use Rattle.map_model.specs.Reply.{Made, Updated, Answered, Refused, is_refusal}
 use Rattle.map_model.specs.Machine.{Outcome, step, is_same_kind, is_taken, replied, refused}
-use Rattle.layer_kinds.specs.declared.faults.UpdateFault.{UpdateFault}
-use Rattle.layer_kinds.specs.declared.faults.UpdateFault.TheVariants.{NoLayer, WrongKind, Duplicate, Unknown, Full, NoMemory}
-use Rattle.layer_kinds.specs.declared.faults.AskFault.{AskFault}
-use Rattle.layer_kinds.specs.declared.faults.AskFault.TheVariants as ask
-use Rattle.layer_kinds.specs.Layered.{IsRemoval}
-use Rattle.map_layers.specs.Layer.{IsAddTo}
+use Rattle.map_layers.specs.declared.faults.UpdateFault.{UpdateFault}
+use Rattle.map_layers.specs.declared.faults.UpdateFault.TheVariants.{NoLayer, WrongKind, Duplicate, Unknown, Full, NoMemory}
+use Rattle.map_layers.specs.declared.faults.AskFault.{AskFault}
+use Rattle.map_layers.specs.declared.faults.AskFault.TheVariants as ask
+use Rattle.map_layers.specs.Layer.{IsAddTo, IsRemovalFrom}
 use Rattle.map_layers.specs.Questions.{IsOfKind, IsThere, IsRefusal}
-use Rattle.map_layers.specs.Replies.{updated, asked, IsAnswered}
+use Rattle.map_layers.specs.Replies.{updated, questioned, IsAnswered}
 
 -- From one map to another, the items of the layer of a name are others.
 pub record IsRenewed (name : List ℕ) (old new : State) (layer : Layer) (items : List Item) : Type 0 where
@@ -50,7 +49,7 @@ module _ (old new : State) (name : List ℕ) (id : ℕ) (layer : Layer) (items :
     IsAnswered-add (Ok done) added =
         step-add true false false added.0 added.1.0 (lt-leb most_items (live_count layer) added.1.1)
         ∙ ap (λ (s : State). replied s Updated) (sym (h.changed (with_item item) added.1.2))
-    IsAnswered-add (Err NoLayer) added = absurd added.1
+    IsAnswered-add (Err NoLayer) added = absurd added
     IsAnswered-add (Err WrongKind) added =
         step-add false (is_live id layer.items) (nat_le most_items (live_count layer)) added.0 refl refl
         ∙ (λ i. refused (sym (h.same added.1) i) refusals.Kind)
@@ -74,7 +73,7 @@ module _ (old new : State) (name : List ℕ) (id : ℕ) (layer : Layer) (items :
   step-drop : (live : Bool) → is_live id layer.items ≡ live → step old (Drop name id) ≡ dropping live
   step-drop live is_live = rw h.found (rw is_live refl)
 
-  pub IsAnswered-drop : {T : Type 0} (result : Result T UpdateFault) → IsRemoval layer.items id items result
+  pub IsAnswered-drop : {T : Type 0} (result : Result T UpdateFault) → IsRemovalFrom layer.items id items result
       → IsAnswered old (Drop name id) new (updated result)
   IsAnswered-drop (Ok done) removed =
       step-drop true removed.0 ∙ ap (λ (s : State). replied s Updated) (sym (h.changed (without_item id) removed.1))
@@ -113,7 +112,7 @@ module _ (old : State) (name : List ℕ) (question : Question) where
     step-ask of_kind there is_kind is_there = rw found (rw is_kind (rw is_there refl))
 
     pub IsAnswered-ask : {T : Type 0} (answer : T → Answer) (result : Result T AskFault) → IsRefusal layer question result
-        → IfOk result (λ t. answer t ≡ answer_over layer.items question) → IsAnswered old (Ask name question) old (asked (λ t. Answered (answer t)) result)
+        → IfOk result (λ t. answer t ≡ answer_over layer.items question) → IsAnswered old (Ask name question) old (questioned (λ t. Answered (answer t)) result)
     IsAnswered-ask answer (Ok t) refused same = step-ask true true refused.0 refused.1 ∙ ap (λ a. replied old (Answered a)) (sym same)
     IsAnswered-ask answer (Err ask.NoLayer) refused same = absurd refused
     IsAnswered-ask answer (Err ask.WrongKind) refused same = step-ask false (has layer.indexes (index_of question)) refused refl

@@ -9,15 +9,17 @@ use Rattle.map_model.specs.Cost.{bounds_at, IsSpent, IsAsked}
 use Rattle.map_shapes.specs.Cost.{spent_of, asked_of}
 use Rattle.map_shapes.specs.declared.question_cost.QuestionCost.{QuestionCost}
 use Rattle.map_shapes.specs.declared.spent.Spent.{Spent}
-use Rattle.layer_kinds.specs.declared.faults.AskFault.{AskFault}
-use Rattle.layer_kinds.specs.declared.faults.UpdateFault.{UpdateFault}
 use Rattle.layer_kinds.specs.Costs as kinds
-use Rattle.layer_kinds.specs.Asking.{IsTouching, most_of}
+use Rattle.layer_kinds.specs.Asking as asking
+use Rattle.layer_kinds.specs.Asking.{most_of}
+use Rattle.map_layers.specs.declared.faults.AskFault.{AskFault}
+use Rattle.map_layers.specs.declared.faults.UpdateFault.{UpdateFault}
+use Rattle.map_layers.specs.Faults.{IfUpdated, IfAsked}
 use Rattle.map_layers.specs.Layer.{LayerState, items_in, held_by, IsEveryPart}
 
 -- An update that is done or that memory refused is within the bounds, and any other that is refused costs nothing.
 abbrev pub IsCost : {T : Type 0} → state.Layer → Result T UpdateFault → Counts → Counts → Type 0
-IsCost layer result old new = kinds.IsCost (index_count layer.indexes) (live_count layer) result old new
+IsCost layer result old new = IfUpdated (λ r. kinds.IsCost (index_count layer.indexes) (live_count layer) r old new) (new ≡ old) (new ≡ old) result
 
 -- what it cost is told
 pub record IsTold (layer : state.Layer) (adds : Bool) (spent : Spent) (old new : Counts) : Type 0 where
@@ -33,20 +35,28 @@ pub record IsAsking (layer : state.Layer) (most : ℕ) (asked : QuestionCost) (o
   pub turns : new.turns ≡ old.turns
   pub marks : new.marks ≡ old.marks
 
+-- One that is answered or that memory refused touches so much at most, and any other that is refused counts nothing.
+abbrev pub IsTouching : {T : Type 0} → ℕ → Result T AskFault → Counts → Counts → Type 0
+IsTouching most result old new = IfAsked (λ r. asking.IsTouching most r old new) (new ≡ old) result
+
 -- the most touches, by the greatest level that a part of the layer may have, and the live items
 abbrev pub most_in : state.Layer → (ℕ → ℕ → ℕ) → ℕ
 most_in layer most = most (bounds_at (live_count layer)).level (live_count layer)
 
 -- ---- the same for the layer of a name, where there is one
 
+-- An update of the layer of a name is within its bounds, where it is done or memory refused it; where there is no layer, or it is refused for
+-- another cause, nothing is counted.
 abbrev pub IsCostIn : {T : Type 0} → Option state.Layer → Result T UpdateFault → Counts → Counts → Type 0
 IsCostIn None result old new = new ≡ old
 IsCostIn (Some layer) result old new = IsCost layer result old new
 
+-- what an update of the layer of a name cost is told as it was counted, within its bounds
 abbrev pub IsToldIn : Option state.Layer → Bool → Spent → Counts → Counts → Type 0
 IsToldIn None adds spent old new = ⊥
 IsToldIn (Some layer) adds spent old new = IsTold layer adds spent old new
 
+-- what an answered question to the layer of a name cost is told as it was counted, within its bounds
 abbrev pub IsAskingIn : Option state.Layer → (ℕ → ℕ → ℕ) → QuestionCost → Counts → Counts → Type 0
 IsAskingIn None most asked old new = ⊥
 IsAskingIn (Some layer) most asked old new = IsAsking layer (most_in layer most) asked old new
@@ -57,7 +67,7 @@ abbrev pub IsTouchingIn : {T : Type 0} → Option state.Layer → (ℕ → PartT
 IsTouchingIn None touches result old new = new ≡ old
 IsTouchingIn (Some layer) touches result old new = IsTouching (most_in layer (λ level n. most_of (touches level) n)) result old new
 
--- every complete part of an index, with as many live items as the layer has
+-- so many parts as the index of a layer has complete ones, of which no level has more than three, and as many live items as the layer has
 abbrev pub IsEveryPartIn : Option LayerState → Index → ℕ → ℕ → Type 0
 IsEveryPartIn None index parts live = ⊥
 IsEveryPartIn (Some layer) index parts live = IsEveryPart (held_by layer.held index) parts × (live ≡ length (items_in layer))

@@ -1,46 +1,34 @@
 -- What contracts see of a layer of either kind, and what an add does to its items.
-use Rattle.std.specs.Prelude.{◌≡◌, ℕ, ◌≤◌, true, false, All, List, Option, None, Some, Result, Err, length, map, sum_by}
-use Rattle.std.specs.Option.{is_some, option_map}
-use Rattle.global_rebuild.specs.Index.{Indexed}
-use Rattle.layer_kinds.specs.declared.faults.UpdateFault.{UpdateFault}
-use Rattle.layer_kinds.specs.declared.faults.UpdateFault.TheVariants.{WrongKind}
-use Rattle.layer_kinds.specs.Layered.{Layered, items_of, IsAdd}
+use Rattle.std.specs.Prelude.{◌≡◌, ℕ, ◌≤◌, true, false, All, List, Option, None, Some, Result, length, map, sum_by}
+use Rattle.std.specs.Option.{is_some}
+use Rattle.layer_kinds.specs.Layered.{Layered, items_of, IsAdd, IsRemoval}
 use Rattle.map_model.specs.Shape as model
 use Rattle.map_model.specs.Index.{Index, Range, Near, Top, Stab, IndexSet}
 use Rattle.map_model.specs.Machine.{is_same_kind}
 use Rattle.map_model.specs.State as state
 use Rattle.map_model.specs.State.{Item}
-use Rattle.map_layers.specs.declared.layer.Sort.{Sort}
-use Rattle.map_layers.specs.declared.layer.Sort.TheVariants.{Points, Segments}
+use Rattle.map_layers.specs.declared.faults.UpdateFault.{UpdateFault}
+use Rattle.map_layers.specs.declared.layer.Shapes.{Shapes}
+use Rattle.map_layers.specs.declared.layer.Shapes.TheVariants.{Points, Segments}
+use Rattle.map_layers.specs.Faults.{IfUpdated}
 
--- of an index that is there, how many complete parts each level has
-abbrev pub parts_held : {P I : Type 0} → Option (Indexed P I) → Option (List ℕ)
-parts_held index = option_map (λ i. map (λ l. length l.parts) i.main.levels) index
-
--- of each index
+-- of each index that is there, how many complete parts each level has
 pub record Held : Type 0 where
   pub range : Option (List ℕ)
   pub near : Option (List ℕ)
   pub top : Option (List ℕ)
   pub stab : Option (List ℕ)
 
+-- that of an index
 abbrev pub held_by : Held → Index → Option (List ℕ)
 held_by held Range = held.range
 held_by held Near = held.near
 held_by held Top = held.top
 held_by held Stab = held.stab
 
--- which are there
+-- which indexes are there
 abbrev pub set_of : Held → IndexSet
 set_of held = record { range = is_some held.range; near = is_some held.near; top = is_some held.top; stab = is_some held.stab }
-
--- those of points, and that of segments
-module _ {P Q R I J K : Type 0} where
-  abbrev pub points_held : Option (Indexed P I) → Option (Indexed Q J) → Option (Indexed R K) → Held
-  points_held range near top = record { range = parts_held range; near = parts_held near; top = parts_held top; stab = None }
-
-abbrev pub segments_held : {P I : Type 0} → Option (Indexed P I) → Held
-segments_held stab = record { range = None; near = None; top = None; stab = parts_held stab }
 
 -- a layer as the definitions have it, how many adds there ever were, and what its indexes hold
 pub record LayerState : Type 0 where
@@ -48,33 +36,38 @@ pub record LayerState : Type 0 where
   pub adds : ℕ
   pub held : Held
 
+-- the layer as the definitions have it
 abbrev pub layer_of : LayerState → state.Layer
 layer_of l = l.layer
 
+-- its name
 abbrev pub name_in : LayerState → List ℕ
 name_in l = l.layer.name
 
+-- how many adds there ever were
 abbrev pub adds_in : LayerState → ℕ
 adds_in l = l.adds
 
+-- its items, in order of add
 abbrev pub items_in : LayerState → List Item
 items_in l = l.layer.items
 
 module _ {X I : Type 0} (kind : model.Kind) (item_of : I → Item) (held : X → Held) where
-  -- a layer of items of one kind, over such indexes
+  -- a layer of items of one kind, over such indexes, as the definitions have it
   abbrev pub layer_seen : Layered X I → state.Layer
   layer_seen l = record { name = l.name; kind = kind; indexes = set_of (held l.indexes); items = items_of item_of l.entries }
 
+  -- a layer of items of one kind as contracts see it
   abbrev pub seen : Layered X I → LayerState
   seen l = record { layer = layer_seen l; adds = l.adds; held = held l.indexes }
 
-  -- nothing of it is another, but for items and what indexes hold
+  -- nothing of a layer is another, but for items and what its indexes hold
   abbrev pub IsKept : Layered X I → Layered X I → Type 0
   IsKept old new = layer_seen new ≡ record (layer_seen old) { items = items_of item_of new.entries }
 
 module _ {P S I J : Type 0} (points : Layered P I → LayerState) (segments : Layered S J → LayerState) where
   -- a layer of either kind
-  abbrev pub seen_of : Sort P S I J → LayerState
+  abbrev pub seen_of : Shapes P S I J → LayerState
   seen_of (Points l) = points l
   seen_of (Segments l) = segments l
 
@@ -85,5 +78,10 @@ IsEveryPart (Some counts) parts = (parts ≡ sum_by (λ n. n) counts) × All (λ
 
 -- An item of the other kind is refused, and then as in a layer of its kind.
 abbrev pub IsAddTo : {T : Type 0} → state.Layer → Item → List Item → Result T UpdateFault → Type 0
-IsAddTo layer item new (Err WrongKind) = (is_same_kind layer.kind (model.kind_of item.shape) ≡ false) × (new ≡ layer.items)
-IsAddTo layer item new result = (is_same_kind layer.kind (model.kind_of item.shape) ≡ true) × IsAdd layer.items item new result
+IsAddTo layer item new result = IfUpdated
+    (λ r. (is_same_kind layer.kind (model.kind_of item.shape) ≡ true) × IsAdd layer.items item new r)
+    ⊥ ((is_same_kind layer.kind (model.kind_of item.shape) ≡ false) × (new ≡ layer.items)) result
+
+-- An item is taken out or refused as in a layer of one kind.
+abbrev pub IsRemovalFrom : {T : Type 0} → List Item → ℕ → List Item → Result T UpdateFault → Type 0
+IsRemovalFrom old id new result = IfUpdated (λ r. IsRemoval old id new r) ⊥ ⊥ result

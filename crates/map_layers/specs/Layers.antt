@@ -9,6 +9,7 @@ pub record LayersState : Type 0 where
   pub layers : List LayerState
   pub updates : ℕ
 
+-- no layer yet, and no update
 abbrev pub no_layers : LayersState
 no_layers = record { layers = []; updates = 0 }
 
@@ -16,16 +17,19 @@ no_layers = record { layers = []; updates = 0 }
 abbrev pub map_of : LayersState → State
 map_of l = map layer_of l.layers
 
+-- a layer has the name
 abbrev pub has_name : List ℕ → LayerState → Bool
 has_name name l = bytes_eq (name_in l) name
 
--- the layer of a name, and its place
+-- the layer of a name
 abbrev pub named : List ℕ → List LayerState → Option LayerState
 named name layers = find (has_name name) layers
 
+-- the place of that layer
 abbrev pub place_named : List ℕ → List LayerState → Option ℕ
 place_named name layers = position_from (has_name name) 0 layers
 
+-- the names of the layers
 abbrev pub names_of : List LayerState → List (List ℕ)
 names_of layers = map name_in layers
 

@@ -1,5 +1,5 @@
+pub mod Faults
 pub mod Layer
-pub mod IndexesLaws
 pub mod Questions
 pub mod Costs
 pub mod Replies

@@ -10,9 +10,7 @@ use Rattle.map_model.specs.Index.{Index, Range, Near, Top, Stab, has}
 use Rattle.map_model.specs.Machine.{is_same_kind}
 use Rattle.map_model.specs.State as state
 use Rattle.map_shapes.specs.declared.question_cost.QuestionCost.{QuestionCost}
-use Rattle.layer_kinds.specs.declared.faults.AskFault.{AskFault}
-use Rattle.layer_kinds.specs.declared.faults.AskFault.TheVariants.{NoLayer, WrongKind, NoIndex, Unknown, NoMemory}
-use Rattle.layer_kinds.specs.Asking.{IsAsking, IsReading, IsTouching, most_of}
+use Rattle.layer_kinds.specs.Asking.{IsAsking, IsReading, most_of}
 use Rattle.range_tree.specs.Costs as range
 use Rattle.range_tree.specs.QuestionLaws as ranges
 use Rattle.kd_tree.specs.Costs as near
@@ -20,6 +18,9 @@ use Rattle.priority_tree.specs.Costs as top
 use Rattle.priority_tree.specs.QuestionLaws as tops
 use Rattle.interval_tree.specs.Costs as stab
 use Rattle.interval_tree.specs.QuestionLaws as stabs
+use Rattle.map_layers.specs.declared.faults.AskFault.{AskFault}
+use Rattle.map_layers.specs.declared.faults.AskFault.TheVariants.{NoLayer, WrongKind, NoIndex, Unknown, NoMemory}
+use Rattle.map_layers.specs.Costs.{IsTouching}
 use Rattle.map_layers.specs.Layer.{LayerState, items_in, held_by, IsEveryPart}
 
 -- a question, its answer, how many parts were consulted, and how many live items they have
@@ -36,6 +37,7 @@ touches_by Near level = near.question_touches level
 touches_by Top level = top.question_touches level
 touches_by Stab level = stab.question_touches level
 
+-- what a question touches in a part of at most 2 ^ level items
 abbrev pub touches_for : Question → ℕ → PartTouches
 touches_for question level = touches_by (index_of question) level
 
@@ -51,10 +53,11 @@ most_for level parts n (answers.Highest peak) = tops.most_touches level parts 0
 most_for level parts n (answers.Stabbed ids) = stabs.most_touches level parts (length ids)
 most_for level parts n (answers.StabCounted count) = stabs.most_touches level parts 0
 
--- whether a layer is of the kind that is asked, and whether it has the index
+-- whether a layer is of the kind that a question is about
 abbrev pub IsOfKind : state.Layer → Question → Bool → Type 0
 IsOfKind layer question b = is_same_kind layer.kind (kind_asked question) ≡ b
 
+-- whether a layer has the index for a question
 abbrev pub IsThere : state.Layer → Question → Bool → Type 0
 IsThere layer question b = has layer.indexes (index_of question) ≡ b
 

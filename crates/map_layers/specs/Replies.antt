@@ -8,15 +8,17 @@ use Rattle.map_model.specs.Machine.{step}
 use Rattle.map_model.specs.Output.{may_lack_memory}
 use Rattle.map_layers.specs.declared.faults.CreateFault.{CreateFault}
 use Rattle.map_layers.specs.declared.faults.CreateFault.TheVariants as create
-use Rattle.layer_kinds.specs.declared.faults.UpdateFault.{UpdateFault}
-use Rattle.layer_kinds.specs.declared.faults.UpdateFault.TheVariants as update
-use Rattle.layer_kinds.specs.declared.faults.AskFault.{AskFault}
-use Rattle.layer_kinds.specs.declared.faults.AskFault.TheVariants as ask
+use Rattle.map_layers.specs.declared.faults.UpdateFault.{UpdateFault}
+use Rattle.map_layers.specs.declared.faults.UpdateFault.TheVariants as update
+use Rattle.map_layers.specs.declared.faults.AskFault.{AskFault}
+use Rattle.map_layers.specs.declared.faults.AskFault.TheVariants as ask
 
+-- why a layer isn't made, as the definitions have it
 abbrev pub refusal_of_create : CreateFault → refusals.Refusal
 refusal_of_create create.Taken = refusals.Taken
 refusal_of_create create.NoRoom = refusals.NoRoom
 
+-- why an update is refused, as the definitions have it
 abbrev pub refusal_of_update : UpdateFault → refusals.Refusal
 refusal_of_update update.NoLayer = refusals.NoLayer
 refusal_of_update update.WrongKind = refusals.Kind
@@ -25,6 +27,7 @@ refusal_of_update (update.Unknown id) = refusals.Unknown id
 refusal_of_update update.Full = refusals.Full
 refusal_of_update update.NoMemory = refusals.NoMemory
 
+-- why a question is refused, as the definitions have it
 abbrev pub refusal_of_ask : AskFault → refusals.Refusal
 refusal_of_ask ask.NoLayer = refusals.NoLayer
 refusal_of_ask ask.WrongKind = refusals.Kind
@@ -32,18 +35,20 @@ refusal_of_ask ask.NoIndex = refusals.Index
 refusal_of_ask (ask.Unknown id) = refusals.Unknown id
 refusal_of_ask ask.NoMemory = refusals.NoMemory
 
+-- what the making of a layer is replied
 abbrev pub created : {T : Type 0} → Result T CreateFault → Reply
 created (Ok done) = Made
 created (Err fault) = Refused (refusal_of_create fault)
 
+-- what an add or a drop is replied
 abbrev pub updated : {T : Type 0} → Result T UpdateFault → Reply
 updated (Ok done) = Updated
 updated (Err fault) = Refused (refusal_of_update fault)
 
 -- a question's reply, where an answer is what it says
-abbrev pub asked : {T : Type 0} → (T → Reply) → Result T AskFault → Reply
-asked reply_of (Ok given) = reply_of given
-asked reply_of (Err fault) = Refused (refusal_of_ask fault)
+abbrev pub questioned : {T : Type 0} → (T → Reply) → Result T AskFault → Reply
+questioned reply_of (Ok given) = reply_of given
+questioned reply_of (Err fault) = Refused (refusal_of_ask fault)
 
 -- A command is answered on a map as the machine that scans it does; where memory is lacking for it, the machine would refuse nothing,
 -- and the map stays.

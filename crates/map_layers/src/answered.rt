@@ -8,6 +8,8 @@ use query_laws::Question;
 use std::marker::Model;
 
 /// The answer to a question over the parts that were consulted. Only one that parts gave makes it.
+///
+/// It is a [`Given`] whose type names neither the part nor the question: all indexes of a map answer with this one type.
 #[derive(Drop)]
 pub struct Answered {
     question: AnyQuestion,
@@ -27,7 +29,7 @@ impl Model for Answered {
 
 impl Answered {
     /// What parts gave.
-    pub(crate) fn new<P: Answers<Q>, Q: Question<Item = P::Item> + OneQuestion>(
+    pub fn new<P: Answers<Q>, Q: Question<Item = P::Item> + OneQuestion>(
         given: Given<P, Q>,
     ) -> Answered
         ensures { result ≡ record { question = Q.asks given.question; answer = Q.tells given.answer; parts = given.parts; live = given.live } }

@@ -10,10 +10,10 @@ ghost use Rattle.map_model.specs.State as state;
 ghost use Rattle.map_shapes.specs.IndexSet.{index_set_of};
 ghost use Rattle.map_shapes.specs.Kind as kinds;
 ghost use Rattle.map_shapes.specs.Shape.{model_shape};
-ghost use Rattle.map_layers.specs.Layer.{name_in, items_in, layer_seen, IsKept, IsAddTo};
+ghost use Rattle.map_layers.specs.Layer.{name_in, items_in, layer_seen, IsKept, IsAddTo, IsRemovalFrom};
 ghost use Rattle.map_questions.specs.Any.{question_of};
 ghost use Rattle.map_layers.specs.Questions.{Asks};
-ghost use Rattle.layer_kinds.specs.Layered.{items_of, IsRemoval};
+ghost use Rattle.layer_kinds.specs.Layered.{items_of};
 ghost use Rattle.map_layers.specs.Costs.{IsCost, IsTold};
 
 use crate::{Answered, AskFault, NamedIndexes, OverPoints, OverSegments, UpdateFault};
@@ -29,12 +29,12 @@ use std::sync::ledger::Ledger;
 /// A layer of points, or of segments. Contracts see it as the definitions do, beside what its indexes hold.
 #[derive(Drop)]
 pub struct Layer<P: OverPoints, S: OverSegments> {
-    sort: Sort<P, S>,
+    shapes: Shapes<P, S>,
 }
 
-/// The layer, by its kind.
+/// A layer by the kind of its shapes.
 #[derive(Drop)]
-enum Sort<P: OverPoints, S: OverSegments> {
+enum Shapes<P: OverPoints, S: OverSegments> {
     Points(KindLayer<P>),
     Segments(KindLayer<S>),
 }
@@ -44,7 +44,7 @@ impl<P: OverPoints, S: OverSegments> Model for Layer<P, S> {
 
     ghost Value = { LayerState };
 
-    ghost view = { λ l. seen_of (seen P.Item.kind P.Item.item_of P.held) (seen S.Item.kind S.Item.item_of S.held) l.sort };
+    ghost view = { λ l. seen_of (seen P.Item.kind P.Item.item_of P.held) (seen S.Item.kind S.Item.item_of S.held) l.shapes };
 }
 
 /// What fills a place that no layer has yet.
@@ -56,8 +56,8 @@ impl<P: OverPoints, S: OverSegments> MadeWith<Global> for Layer<P, S> {
             top: false,
             stab: false,
         };
-        let sort = Sort::Points(KindLayer::new(alloc, no_name(), P::of_set(alloc, none)));
-        Layer { sort }
+        let shapes = Shapes::Points(KindLayer::new(alloc, no_name(), P::of_set(alloc, none)));
+        Layer { shapes }
     }
 }
 
@@ -68,22 +68,24 @@ impl<P: OverPoints, S: OverSegments> Layer<P, S> {
         ensures made { result.layer ≡ record { name = name; kind = kinds.kind_of kind; indexes = index_set_of indexes; items = [] } }
         ensures adds { result.adds ≡ 0 }
     {
-        let sort = match kind {
-            Kind::Points => { Sort::Points(KindLayer::new(alloc, name, P::of_set(alloc, indexes))) }
+        let shapes = match kind {
+            Kind::Points => {
+                Shapes::Points(KindLayer::new(alloc, name, P::of_set(alloc, indexes)))
+            }
             Kind::Segments => {
-                Sort::Segments(KindLayer::new(alloc, name, S::of_set(alloc, indexes)))
+                Shapes::Segments(KindLayer::new(alloc, name, S::of_set(alloc, indexes)))
             }
         };
-        Layer { sort }
+        Layer { shapes }
     }
 
     /// Whether it has this name.
     pub(crate) fn has_name(&self, name: &Name) -> bool
         ensures { result ≡ bytes_eq (name_in self.now) name.now }
     {
-        match &self.sort {
-            Sort::Points(points) => points.has_name(name),
-            Sort::Segments(segments) => segments.has_name(name),
+        match &self.shapes {
+            Shapes::Points(points) => points.has_name(name),
+            Shapes::Segments(segments) => segments.has_name(name),
         }
     }
 
@@ -92,9 +94,9 @@ impl<P: OverPoints, S: OverSegments> Layer<P, S> {
         ensures count { result ≡ length (items_in self.now) }
         ensures few { result ≤ 2 ^ 16 }
     {
-        match &self.sort {
-            Sort::Points(points) => points.len(),
-            Sort::Segments(segments) => segments.len(),
+        match &self.shapes {
+            Shapes::Points(points) => points.len(),
+            Shapes::Segments(segments) => segments.len(),
         }
     }
 
@@ -102,9 +104,9 @@ impl<P: OverPoints, S: OverSegments> Layer<P, S> {
     pub(crate) fn get(&self, id: u64) -> Option<Shape>
         ensures { option_map model_shape result ≡ state.shape_of id (items_in self.now) }
     {
-        match &self.sort {
-            Sort::Points(points) => points.get(id),
-            Sort::Segments(segments) => segments.get(id),
+        match &self.shapes {
+            Shapes::Points(points) => points.get(id),
+            Shapes::Segments(segments) => segments.get(id),
         }
     }
 
@@ -113,9 +115,9 @@ impl<P: OverPoints, S: OverSegments> Layer<P, S> {
         requires { k ≤ 64 }
         ensures { result ≡ latest k (items_in self.now) }
     {
-        match &self.sort {
-            Sort::Points(points) => points.recent(k),
-            Sort::Segments(segments) => segments.recent(k),
+        match &self.shapes {
+            Shapes::Points(points) => points.recent(k),
+            Shapes::Segments(segments) => segments.recent(k),
         }
     }
 
@@ -129,9 +131,15 @@ impl<P: OverPoints, S: OverSegments> Layer<P, S> {
         requires lap { AtLapStart steps.old }
         ensures { Asks self.now (question_of question.now) result steps.old steps.new }
     {
-        match &self.sort {
-            Sort::Points(points) => P::ask(points, alloc, question, steps),
-            Sort::Segments(segments) => S::ask(segments, alloc, question, steps),
+        match (&self.shapes, question) {
+            (Shapes::Points(points), AnyQuestion::Points(question)) => {
+                Ok(P::ask(points, alloc, question, steps)?)
+            }
+            (Shapes::Segments(segments), AnyQuestion::Segments(question)) => {
+                Ok(S::ask(segments, alloc, question, steps)?)
+            }
+            (Shapes::Points(_), AnyQuestion::Segments(_)) => Err(AskFault::WrongKind),
+            (Shapes::Segments(_), AnyQuestion::Points(_)) => Err(AskFault::WrongKind),
         }
     }
 
@@ -151,9 +159,9 @@ impl<P: OverPoints, S: OverSegments> Layer<P, S> {
         ensures cost { IsCost self.old.layer result steps.old steps.new }
         ensures told { IfOk result (λ spent. IsTold self.old.layer true spent steps.old steps.new) }
     {
-        match &mut self.sort {
-            Sort::Points(points) => add_to(points, id, shape, steps),
-            Sort::Segments(segments) => add_to(segments, id, shape, steps),
+        match &mut self.shapes {
+            Shapes::Points(points) => add_to(points, id, shape, steps),
+            Shapes::Segments(segments) => add_to(segments, id, shape, steps),
         }
     }
 
@@ -164,15 +172,15 @@ impl<P: OverPoints, S: OverSegments> Layer<P, S> {
         steps: &mut Steps<L>,
     ) -> Result<Spent, UpdateFault>
         requires lap { AtLapStart steps.old }
-        ensures removed { IsRemoval (items_in self.old) id (items_in self.new) result }
+        ensures removed { IsRemovalFrom (items_in self.old) id (items_in self.new) result }
         ensures same { self.new.layer ≡ record self.old.layer { items = items_in self.new } }
         ensures adds { self.new.adds ≡ self.old.adds }
         ensures cost { IsCost self.old.layer result steps.old steps.new }
         ensures told { IfOk result (λ spent. IsTold self.old.layer false spent steps.old steps.new) }
     {
-        match &mut self.sort {
-            Sort::Points(points) => remove_from(points, id, steps),
-            Sort::Segments(segments) => remove_from(segments, id, steps),
+        match &mut self.shapes {
+            Shapes::Points(points) => remove_from(points, id, steps),
+            Shapes::Segments(segments) => remove_from(segments, id, steps),
         }
     }
 }
@@ -195,7 +203,7 @@ fn add_to<X: NamedIndexes, L: Ledger>(
     ensures told { IfOk result (λ spent. IsTold (layer_seen X.Item.kind X.Item.item_of X.held layer.old) true spent steps.old steps.new) }
 {
     match X::item(id, shape) {
-        Some(item) => layer.add(item, steps),
+        Some(item) => Ok(layer.add(item, steps)?),
         None => Err(UpdateFault::WrongKind),
     }
 }
@@ -207,13 +215,13 @@ fn remove_from<X: NamedIndexes, L: Ledger>(
     steps: &mut Steps<L>,
 ) -> Result<Spent, UpdateFault>
     requires lap { AtLapStart steps.old }
-    ensures removed { IsRemoval (items_of X.Item.item_of layer.old.entries) id (items_of X.Item.item_of layer.new.entries) result }
+    ensures removed { IsRemovalFrom (items_of X.Item.item_of layer.old.entries) id (items_of X.Item.item_of layer.new.entries) result }
     ensures same { IsKept X.Item.kind X.Item.item_of X.held layer.old layer.new }
     ensures adds { layer.new.adds ≡ layer.old.adds }
     ensures cost { IsCost (layer_seen X.Item.kind X.Item.item_of X.held layer.old) result steps.old steps.new }
     ensures told { IfOk result (λ spent. IsTold (layer_seen X.Item.kind X.Item.item_of X.held layer.old) false spent steps.old steps.new) }
 {
-    layer.remove(id, steps)
+    Ok(layer.remove(id, steps)?)
 }
 
 /// A name for a place that no layer has.

@@ -15,7 +15,7 @@ ghost use Rattle.map_shapes.specs.IndexSet.{index_set_of};
 ghost use Rattle.map_shapes.specs.Shape.{model_shape};
 ghost use Rattle.map_layers.specs.Layers.{no_layers, map_of, named};
 ghost use Rattle.map_layers.specs.Costs.{IsCostIn, IsToldIn};
-ghost use Rattle.map_layers.specs.Replies.{created, updated, asked, IsAnswered};
+ghost use Rattle.map_layers.specs.Replies.{created, updated, questioned, IsAnswered};
 
 use crate::layers::updating::{add_in, remove_in};
 use crate::{AskFault, CreateFault, Layer, OverPoints, OverSegments, UpdateFault};
@@ -124,7 +124,7 @@ impl<P: OverPoints, S: OverSegments> Layers<P, S> {
 
     /// How many items a layer has.
     pub fn size(&self, name: &Name) -> Result<u64, AskFault>
-        ensures answered { IsAnswered (map_of self.now) (commands.Size name.now) (map_of self.now) (asked replies.Sized result) }
+        ensures answered { IsAnswered (map_of self.now) (commands.Size name.now) (map_of self.now) (questioned replies.Sized result) }
     {
         match self.layer(name) {
             Some(layer) => Ok(layer.len() as u64),
@@ -135,7 +135,7 @@ impl<P: OverPoints, S: OverSegments> Layers<P, S> {
     /// The shape of the item of a layer with an identifier.
     pub fn get(&self, name: &Name, id: u64) -> Result<Shape, AskFault>
         ensures answered { IsAnswered (map_of self.now) (commands.Get name.now id) (map_of self.now)
-            (asked (λ shape. replies.Got (model_shape shape)) result) }
+            (questioned (λ shape. replies.Got (model_shape shape)) result) }
     {
         let Some(layer) = self.layer(name) else {
             return Err(AskFault::NoLayer);
@@ -149,7 +149,7 @@ impl<P: OverPoints, S: OverSegments> Layers<P, S> {
     /// The identifiers of the last `k` items of a layer, the newest first, or of all where there are fewer.
     pub fn recent(&self, name: &Name, k: usize) -> Result<Recent, AskFault>
         requires { k ≤ 64 }
-        ensures answered { IsAnswered (map_of self.now) (commands.Recent name.now k) (map_of self.now) (asked replies.Latest result) }
+        ensures answered { IsAnswered (map_of self.now) (commands.Recent name.now k) (map_of self.now) (questioned replies.Latest result) }
     {
         match self.layer(name) {
             Some(layer) => Ok(layer.recent(k)),

@@ -1,7 +1,6 @@
 //! The indexes of a map's layers, by the names that the definitions give them.
-ghost use Rattle.std.specs.Prelude.{◌≡◌, ℕ, ◌≤◌, true, false, [], List, MatchOption, length};
+ghost use Rattle.std.specs.Prelude.{◌≡◌, ◌≤◌, true, false, [], MatchOption, length};
 ghost use Rattle.query_laws.specs.StepLedger.{AtLapStart};
-ghost use Rattle.map_model.specs.Answer.{index_of};
 ghost use Rattle.map_model.specs.Index.{fits, index_count};
 ghost use Rattle.map_model.specs.Line.{IsShape};
 ghost use Rattle.map_model.specs.Machine.{is_same_kind};
@@ -9,16 +8,14 @@ ghost use Rattle.map_model.specs.Shape as model;
 ghost use Rattle.map_shapes.specs.IndexSet.{index_set_of};
 ghost use Rattle.map_shapes.specs.Shape.{model_shape};
 ghost use Rattle.layer_kinds.specs.Shares.{count_of};
-ghost use Rattle.map_layers.specs.Layer.{Held, held_by, parts_held, seen, set_of};
-ghost use Rattle.map_questions.specs.Any.{question_of};
-ghost use Rattle.map_layers.specs.Questions.{touches_for, most_for, Asks};
+ghost use Rattle.map_layers.specs.Layer.{Held, seen, set_of};
+ghost use Rattle.map_layers.specs.Faults.{ask_result_of};
+ghost use Rattle.map_layers.specs.Questions.{Asks};
 
 use crate::Answered;
-use builder_trait::{AnsweringRows, Rows};
-use layer_kinds::{AskFault, Has, Indexes, KindLayer, ask_layer};
-use map_questions::AnyQuestion;
+use layer_kinds::{AskFault, Indexes, KindLayer};
+use map_questions::{KindQuestion, PointQuestion, SegmentQuestion};
 use map_shapes::{IndexSet, QuestionCost, Shape, Shaped};
-use map_structures::{MapQuestion, MapRows};
 use query_laws::step_ledger::Steps;
 use std::alloc::Global;
 use std::sync::ledger::Ledger;
@@ -48,45 +45,25 @@ pub trait NamedIndexes: Indexes {
     ghost few: { (s : Self) → length (Self.rates s) ≤ 4 };
 }
 
+/// Those of which one answers each question about their kind of item.
+pub trait AnsweringIndexes<Q: KindQuestion>: NamedIndexes {
+    /// Puts a question to the items of a layer.
+    fn ask<L: Ledger>(
+        layer: &KindLayer<Self>,
+        alloc: Global,
+        question: &Q,
+        steps: &mut Steps<L>,
+    ) -> Result<(Answered, QuestionCost), AskFault>
+        requires lap { AtLapStart steps.old }
+        ensures { Asks (seen Self.Item.kind Self.Item.item_of Self.held layer.now) (Q.asks question.now) (ask_result_of result) steps.old steps.new };
+}
+
 /// Those of points.
-pub trait OverPoints: AnsweringIndexes {
+pub trait OverPoints: AnsweringIndexes<PointQuestion> {
     ghost points: { Self.Item.kind ≡ model.Points };
 }
 
 /// Those of segments.
-pub trait OverSegments: AnsweringIndexes {
+pub trait OverSegments: AnsweringIndexes<SegmentQuestion> {
     ghost segments: { Self.Item.kind ≡ model.Segments };
-}
-
-/// Those of which one answers each question about their kind of item.
-pub trait AnsweringIndexes: NamedIndexes {
-    /// Puts a question to the items of a layer: `WrongKind` where it is about the other kind.
-    fn ask<L: Ledger>(
-        layer: &KindLayer<Self>,
-        alloc: Global,
-        question: &AnyQuestion,
-        steps: &mut Steps<L>,
-    ) -> Result<(Answered, QuestionCost), AskFault>
-        requires lap { AtLapStart steps.old }
-        ensures { Asks (seen Self.Item.kind Self.Item.item_of Self.held layer.now) (question_of question.now) result steps.old steps.new };
-}
-
-/// Puts a question to the items of a layer, by the index at a place.
-pub fn ask_of<R: MapRows, At, X: NamedIndexes + Has<R, At>, Q: MapQuestion<R>, L: Ledger>(
-    layer: &KindLayer<X>,
-    alloc: Global,
-    question: &Q,
-    steps: &mut Steps<L>,
-) -> Result<(Answered, QuestionCost), AskFault>
-where
-    R: AnsweringRows<Q>,
-    R::Item: Shaped,
-    requires there { held_by (X.held layer.now.indexes) (index_of (Q.asks question.now)) ≡ parts_held (X.index layer.now.indexes) }
-    requires touches { (level : ℕ) → Q.touches level ≡ touches_for (Q.asks question.now) level }
-    requires most { (level parts n : ℕ) (answer : Q.Answer) → Q.most_touches level parts n answer ≡ most_for level parts n (Q.tells answer) }
-    requires lap { AtLapStart steps.old }
-    ensures { Asks (seen R.Item.kind R.Item.item_of X.held layer.now) (Q.asks question.now) result steps.old steps.new }
-{
-    let (given, asked) = ask_layer::<R, At, X, Q, L>(layer, alloc, question, steps)?;
-    Ok((Answered::new(given), asked))
 }

@@ -1,4 +1,4 @@
--- A question and its answer, each of any kind, as the definitions have them.
+-- Any question and any answer, as the definitions have them.
 use Rattle.std.specs.Prelude.{map, option_map}
 use Rattle.map_model.specs.Answer as model
 use Rattle.map_shapes.specs.Found.{found_of, peak_of}
@@ -6,19 +6,33 @@ use Rattle.map_shapes.specs.Rect.{rect_of}
 use Rattle.map_questions.specs.declared.any_answer.AnyAnswer.{AnyAnswer}
 use Rattle.map_questions.specs.declared.any_answer.AnyAnswer.TheVariants as answers
 use Rattle.map_questions.specs.declared.any_question.AnyQuestion.{AnyQuestion}
-use Rattle.map_questions.specs.declared.any_question.AnyQuestion.TheVariants as questions
+use Rattle.map_questions.specs.declared.any_question.AnyQuestion.TheVariants as kinds
+use Rattle.map_questions.specs.declared.any_question.PointQuestion.{PointQuestion}
+use Rattle.map_questions.specs.declared.any_question.PointQuestion.TheVariants as points
+use Rattle.map_questions.specs.declared.any_question.SegmentQuestion.{SegmentQuestion}
+use Rattle.map_questions.specs.declared.any_question.SegmentQuestion.TheVariants as segments
 
+-- a question about points, as the definitions have it
+abbrev pub point_question_of : PointQuestion → model.Question
+point_question_of (points.CountIn q) = model.CountIn (rect_of q.0)
+point_question_of (points.SumIn q) = model.SumIn (rect_of q.0)
+point_question_of (points.ListIn q) = model.ListIn (rect_of q.0)
+point_question_of (points.Near q) = model.Near q.x q.y
+point_question_of (points.NearK q) = model.Nearest q.k q.x q.y
+point_question_of (points.Above q) = model.Above q.x1 q.x2 q.y
+point_question_of (points.Top q) = model.Top q.x1 q.x2
+
+-- a question about segments, as the definitions have it
+abbrev pub segment_question_of : SegmentQuestion → model.Question
+segment_question_of (segments.Stab q) = model.Stab q.x
+segment_question_of (segments.StabCount q) = model.StabCount q.x
+
+-- any question, as the definitions have it
 abbrev pub question_of : AnyQuestion → model.Question
-question_of (questions.CountIn q) = model.CountIn (rect_of q.0)
-question_of (questions.SumIn q) = model.SumIn (rect_of q.0)
-question_of (questions.ListIn q) = model.ListIn (rect_of q.0)
-question_of (questions.Near q) = model.Near q.x q.y
-question_of (questions.NearK q) = model.Nearest q.k q.x q.y
-question_of (questions.Above q) = model.Above q.x1 q.x2 q.y
-question_of (questions.Top q) = model.Top q.x1 q.x2
-question_of (questions.Stab q) = model.Stab q.x
-question_of (questions.StabCount q) = model.StabCount q.x
+question_of (kinds.Points q) = point_question_of q
+question_of (kinds.Segments q) = segment_question_of q
 
+-- an answer to any question, as the definitions have it
 abbrev pub answer_of : AnyAnswer → model.Answer
 answer_of (answers.Counted n) = model.Counted n
 answer_of (answers.Summed n) = model.Summed n

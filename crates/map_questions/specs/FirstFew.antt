@@ -25,7 +25,7 @@ first le xs = slice_get (sorted_by le xs) 0
 abbrev pub first_of_both : {A : Type 0} → (A → A → Bool) → Option A → Option A → Option A
 first_of_both le a b = first le (option_to_list a ++ option_to_list b)
 
--- in order, and at most k
+-- a list that is in order, and has at most k entries
 pub record IsFirstFew {A : Type 0} (le : A → A → Bool) (k : ℕ) (xs : List A) : Type 0 where
   pub sorted : sorted_by le xs ≡ xs
   pub few : length xs ≤ k

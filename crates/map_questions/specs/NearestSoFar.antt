@@ -2,7 +2,7 @@
 use Rattle.std.specs.Prelude.{ℕ, List}
 use Rattle.map_shapes.specs.declared.found.Found.{Found}
 
--- how many it keeps, and those that it has, the nearest first
+-- a tally for the nearest points: how many it keeps, and those that it has, the nearest first
 pub record NearestSoFar : Type 0 where
   pub k : ℕ
   pub found : List Found

@@ -11,17 +11,19 @@ use Rattle.map_shapes.specs.Found.{found_from, peak_from}
 use Rattle.map_shapes.specs.Point.{shape_of, item_of}
 use Rattle.map_shapes.specs.Segment.{item_of_segment}
 
--- a point by its squared distance from a place, and by its height
+-- a point by its squared distance from a place
 abbrev pub found_at : ℕ → ℕ → Point → Found
 found_at x y p = record { dist = squared_distance x y (shape_of p); id = p.id }
 
+-- a point by its height
 abbrev pub peak_at : Point → Peak
 peak_at p = record { y = p.y; id = p.id }
 
--- the first of all points by squared distance and then identifier, and the first k
+-- the first of all points by squared distance and then identifier
 abbrev pub near : ℕ → ℕ → List Point → Option Found
 near x y points = option_map found_from (slice_get (by_distance x y (map item_of points)) 0)
 
+-- the first k of these
 abbrev pub near_k : ℕ → ℕ → ℕ → List Point → List Found
 near_k k x y points = map found_from (take k (by_distance x y (map item_of points)))
 
@@ -33,9 +35,10 @@ above x1 x2 y points = ids_with (is_above x1 x2 y) (map item_of points)
 abbrev pub top : ℕ → ℕ → List Point → Option Peak
 top x1 x2 points = option_map peak_from (slice_get (by_height x1 x2 (map item_of points)) 0)
 
--- the identifiers of the segments over x, ascending, and how many there are, at most the greatest u64
+-- the identifiers of the segments over x, ascending
 abbrev pub stab : ℕ → List Segment → List ℕ
 stab x segments = ids_with (is_stabbed x) (map item_of_segment segments)
 
+-- how many segments are over x, at most the greatest u64
 abbrev pub stab_count : ℕ → List Segment → ℕ
 stab_count x segments = min (count_by (λ item. is_stabbed x item.shape) (map item_of_segment segments)) (2 ^ 64 - 1)

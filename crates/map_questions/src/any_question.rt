@@ -5,6 +5,13 @@ use map_shapes::{CountIn, ListIn, SumIn};
 /// A question about the items of a layer.
 #[derive(Clone, Copy, Debug)]
 pub enum AnyQuestion {
+    Points(PointQuestion),
+    Segments(SegmentQuestion),
+}
+
+/// A question about points.
+#[derive(Clone, Copy, Debug)]
+pub enum PointQuestion {
     CountIn(CountIn),
     SumIn(SumIn),
     ListIn(ListIn),
@@ -12,6 +19,11 @@ pub enum AnyQuestion {
     NearK(NearK),
     Above(Above),
     Top(Top),
+}
+
+/// A question about segments.
+#[derive(Clone, Copy, Debug)]
+pub enum SegmentQuestion {
     Stab(Stab),
     StabCount(StabCount),
 }

@@ -1,4 +1,4 @@
-//! A question of one kind, as one of all.
+//! A question of one type, as one of all.
 ghost use Rattle.std.specs.Prelude.{◌≡◌, map};
 ghost use Rattle.std.specs.Option.{option_map};
 ghost use Rattle.map_model.specs.Answer as model;
@@ -6,7 +6,10 @@ ghost use Rattle.map_shapes.specs.Found.{found_of, peak_of};
 ghost use Rattle.map_shapes.specs.Rect.{rect_of};
 ghost use Rattle.map_questions.specs.Any.{question_of, answer_of};
 
-use crate::{Above, AnyAnswer, AnyQuestion, Near, NearK, Stab, StabCount, Top};
+use crate::{
+    Above, AnyAnswer, AnyQuestion, Near, NearK, PointQuestion, SegmentQuestion, Stab, StabCount,
+    Top,
+};
 use map_shapes::{CountIn, Found, FoundList, IdList, ListIn, Peak, SumIn};
 use query_laws::Question;
 
@@ -33,7 +36,7 @@ impl OneQuestion for CountIn {
     ghost tells = { model.Counted };
 
     fn question(self) -> AnyQuestion {
-        AnyQuestion::CountIn(self)
+        AnyQuestion::Points(PointQuestion::CountIn(self))
     }
 
     fn answer(answer: u64) -> AnyAnswer {
@@ -47,7 +50,7 @@ impl OneQuestion for SumIn {
     ghost tells = { model.Summed };
 
     fn question(self) -> AnyQuestion {
-        AnyQuestion::SumIn(self)
+        AnyQuestion::Points(PointQuestion::SumIn(self))
     }
 
     fn answer(answer: u64) -> AnyAnswer {
@@ -61,7 +64,7 @@ impl OneQuestion for ListIn {
     ghost tells = { model.Listed };
 
     fn question(self) -> AnyQuestion {
-        AnyQuestion::ListIn(self)
+        AnyQuestion::Points(PointQuestion::ListIn(self))
     }
 
     fn answer(answer: IdList) -> AnyAnswer {
@@ -75,7 +78,7 @@ impl OneQuestion for Near {
     ghost tells = { λ found. model.NearestOne (option_map found_of found) };
 
     fn question(self) -> AnyQuestion {
-        AnyQuestion::Near(self)
+        AnyQuestion::Points(PointQuestion::Near(self))
     }
 
     fn answer(answer: Option<Found>) -> AnyAnswer {
@@ -89,7 +92,7 @@ impl OneQuestion for NearK {
     ghost tells = { λ found. model.NearestOnes (map found_of found) };
 
     fn question(self) -> AnyQuestion {
-        AnyQuestion::NearK(self)
+        AnyQuestion::Points(PointQuestion::NearK(self))
     }
 
     fn answer(answer: FoundList) -> AnyAnswer {
@@ -103,7 +106,7 @@ impl OneQuestion for Above {
     ghost tells = { model.ListedAbove };
 
     fn question(self) -> AnyQuestion {
-        AnyQuestion::Above(self)
+        AnyQuestion::Points(PointQuestion::Above(self))
     }
 
     fn answer(answer: IdList) -> AnyAnswer {
@@ -117,7 +120,7 @@ impl OneQuestion for Top {
     ghost tells = { λ peak. model.Highest (option_map peak_of peak) };
 
     fn question(self) -> AnyQuestion {
-        AnyQuestion::Top(self)
+        AnyQuestion::Points(PointQuestion::Top(self))
     }
 
     fn answer(answer: Option<Peak>) -> AnyAnswer {
@@ -131,7 +134,7 @@ impl OneQuestion for Stab {
     ghost tells = { model.Stabbed };
 
     fn question(self) -> AnyQuestion {
-        AnyQuestion::Stab(self)
+        AnyQuestion::Segments(SegmentQuestion::Stab(self))
     }
 
     fn answer(answer: IdList) -> AnyAnswer {
@@ -145,7 +148,7 @@ impl OneQuestion for StabCount {
     ghost tells = { model.StabCounted };
 
     fn question(self) -> AnyQuestion {
-        AnyQuestion::StabCount(self)
+        AnyQuestion::Segments(SegmentQuestion::StabCount(self))
     }
 
     fn answer(answer: u64) -> AnyAnswer {

@@ -3,10 +3,10 @@ use Rattle.std.proofs.Common.{◌≡◌, ◌∙◌, ℕ, ◌+◌, ◌-◌, ◌*�
 use Rattle.std.specs.Prelude.{⊤, IfOk}
 use Rattle.query_laws.specs.StepLedger.{Counts, lap_begun}
 use Rattle.map_structures.specs.Touches.{touches_at}
-use Rattle.layer_kinds.specs.declared.faults.AskFault.{AskFault}
-use Rattle.layer_kinds.specs.declared.faults.AskFault.TheVariants as ask
-use Rattle.layer_kinds.specs.declared.faults.UpdateFault.{UpdateFault}
-use Rattle.layer_kinds.specs.declared.faults.UpdateFault.TheVariants.{NoLayer, WrongKind, Duplicate, Unknown, Full, NoMemory}
+use Rattle.map_layers.specs.declared.faults.AskFault.{AskFault}
+use Rattle.map_layers.specs.declared.faults.AskFault.TheVariants as ask
+use Rattle.map_layers.specs.declared.faults.UpdateFault.{UpdateFault}
+use Rattle.map_layers.specs.declared.faults.UpdateFault.TheVariants.{NoLayer, WrongKind, Duplicate, Unknown, Full, NoMemory}
 use Rattle.layer_kinds.specs.Asking.{IsReading}
 use Rattle.layer_kinds.specs.Costs.{IsInBounds}
 use Rattle.map_model.specs.Answer.{Question, Answer}
@@ -19,7 +19,7 @@ use Rattle.map_model.specs.State.{Layer, State, layer_named, live_count}
 use Rattle.map_shapes.specs.declared.question_cost.QuestionCost.{QuestionCost}
 use Rattle.map_shapes.specs.declared.spent.Spent.{Spent}
 use Rattle.map_layers.specs.Costs.{IsCostIn, IsToldIn, IsAskingIn, IsTouchingIn}
-use Rattle.map_layers.specs.Replies.{updated, asked, IsAnswered}
+use Rattle.map_layers.specs.Replies.{updated, questioned, IsAnswered}
 use Rattle.map_layers.specs.Questions.{touches_for}
 use Rattle.map_session.specs.Replies.{update_cost, question_cost}
 use Rattle.map_session.specs.Work.{Work, no_work, bounds_in, asking_in, work_in, work_of, IsTold, IsCounted}
@@ -140,7 +140,7 @@ module _ (old new : State) (command : Command) {before after : Counts} where
     update_counted result is cost told = update_by (layer_named (name_of command) old) refl result (update_accepted old new command result is) cost told
 
   module _ {T : Type 0} (question : Question) (takes : (layer : Option Layer) → work_in command layer ≡ asking_in question layer) (most : T × QuestionCost → ℕ → ℕ → ℕ) (answer : T × QuestionCost → Answer) where
-    question_by : (o : Option Layer) → layer_named (name_of command) old ≡ o → (result : Result (T × QuestionCost) AskFault) → IsAnswered old command old (asked (λ given. Answered (answer given)) result)
+    question_by : (o : Option Layer) → layer_named (name_of command) old ≡ o → (result : Result (T × QuestionCost) AskFault) → IsAnswered old command old (questioned (λ given. Answered (answer given)) result)
         → IsTouchingIn o (touches_for question) result (lap_begun before) after → IsReading (lap_begun before) after
         → IfOk result (λ given. IsAskingIn o (most given) given.1 (lap_begun before) after) → IsCounted (work_of old command) (question_cost result) before after
     question_by None is (Ok given) answered touching reads told = absurd told
@@ -158,7 +158,7 @@ module _ (old new : State) (command : Command) {before after : Counts} where
         (sym (accepted_work old new command (Some layer) is (unrefused (takes_memory command) (is_refusal (step old command).reply) answered.0) ∙ takes (Some layer)))
         (reading question layer Untold touching reads tt)
 
-    pub question_counted : (result : Result (T × QuestionCost) AskFault) → IsAnswered old command old (asked (λ given. Answered (answer given)) result)
+    pub question_counted : (result : Result (T × QuestionCost) AskFault) → IsAnswered old command old (questioned (λ given. Answered (answer given)) result)
         → IsTouchingIn (layer_named (name_of command) old) (touches_for question) result (lap_begun before) after → IsReading (lap_begun before) after
         → IfOk result (λ given. IsAskingIn (layer_named (name_of command) old) (most given) given.1 (lap_begun before) after) → IsCounted (work_of old command) (question_cost result) before after
     question_counted result answered touching reads told = question_by (layer_named (name_of command) old) refl result answered touching reads told

@@ -15,11 +15,11 @@ use Rattle.map_shapes.specs.declared.spent.Spent.{Spent}
 use Rattle.map_shapes.specs.Cost.{asked_of}
 use Rattle.answer_text.specs.declared.reply.Reply as replies
 use Rattle.answer_text.specs.Reply.{reply_of, cost_of}
-use Rattle.layer_kinds.specs.declared.faults.AskFault.{AskFault}
-use Rattle.layer_kinds.specs.declared.faults.UpdateFault.{UpdateFault}
+use Rattle.map_layers.specs.declared.faults.AskFault.{AskFault}
+use Rattle.map_layers.specs.declared.faults.UpdateFault.{UpdateFault}
 use Rattle.map_layers.specs.declared.faults.CreateFault.{CreateFault}
 use Rattle.map_layers.specs.Costs.{IsToldIn, IsAskingIn}
-use Rattle.map_layers.specs.Replies.{created, updated, asked, IsAnswered}
+use Rattle.map_layers.specs.Replies.{created, updated, questioned, IsAnswered}
 use Rattle.map_session.specs.Replies.{update_cost}
 use Rattle.map_session.specs.Session.{given_by}
 
@@ -84,6 +84,6 @@ made_allowed layer (Ok done) = refl
 made_allowed layer (Err fault) = refl
 
 pub reading_allowed : {T : Type 0} (layer : Option Layer) (reply : T → Reply) → ((t : T) → IsCost layer false (reply t) Untold) → (outcome : Result T AskFault)
-    → IsCost layer false (asked reply outcome) Untold
+    → IsCost layer false (questioned reply outcome) Untold
 reading_allowed layer reply each (Ok t) = each t
 reading_allowed layer reply each (Err fault) = refl

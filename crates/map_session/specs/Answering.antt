@@ -24,6 +24,7 @@ pub record Moment : Type 0 where
   pub told : SinkTold
   pub counts : Counts
 
+-- a session, what the sink tells, and what was counted
 abbrev pub moment : SessionState → SinkTold → Counts → Moment
 moment session told counts = record { session = session; told = told; counts = counts }
 
@@ -33,15 +34,17 @@ pub record AnswersLine (now : Moment) (line : List ℕ) (next : Moment) : Type 0
   pub executed : ExecutesLine now.session now.counts line given next.session next.counts
   pub delivered : DeliversLines now.told next.told (written_for now.session.ledger given.told) 1
 
--- From one moment to another these lines were, one after another.
+-- From one moment to another these lines were answered, one after another.
 abbrev pub Runs : Moment → List (List ℕ) → Moment → Type 0
 Runs start [] now = now ≡ start
 Runs start (line ∷ lines) now = (next : Moment) × AnswersLine start line next × Runs next lines now
 
+-- the line says an add or a drop
 abbrev pub is_update_line : List ℕ → Bool
 is_update_line line = is_update_said (parse line)
 
--- What lines that were answered took, wrote and led to, all together.
+-- What lines come to that were answered, all together: an output of theirs within the work of its commands, each on the map before it; written in
+-- pieces; and as many lines, refusals and updates more as there were.
 pub record SumsUp (start : Moment) (script : List (List ℕ)) (now : Moment) : Type 0 where
   pub bytes : List ℕ
   pub work : Work
@@ -66,7 +69,7 @@ pub record IsStopped (start : Moment) (script : List (List ℕ)) (now : Moment) 
   pub executed : ExecutesLine before.session before.counts (slice_index_or script answered []) given now.session now.counts
   pub cut_off : CutOffInPieces before.told now.told (written_for before.session.ledger given.told)
 
--- the same, and not inside the answers to the first so many
+-- writing stopped inside the answer to one of these lines, and not to one of the first so many
 abbrev pub IsStoppedBehind : ℕ → Moment → List (List ℕ) → Moment → Type 0
 IsStoppedBehind n start script now = (stopped : IsStopped start script now) × (n ≤ stopped.answered)
 

@@ -15,7 +15,8 @@ abbrev pub greatest_of : (Work → ℕ) → (start : Moment) (script : List (Lis
 greatest_of part start [] now runs = 0
 greatest_of part start (line ∷ lines) now runs = max (part (work_said (map_in start.session) (parse line))) (greatest_of part runs.0 lines now runs.2)
 
--- Each such line is one lap, as far as 64 bits count them, and no lap took more than the greatest bound of a line, or than one before these lines.
+-- Each update and each question among these lines is one lap, as far as 64 bits count them, and no lap took more turns or marks than the greatest
+-- bound of a line, or than one before these lines.
 pub record AreLaps (start : Moment) (script : List (List ℕ)) (now : Moment) (runs : Runs start script now) : Type 0 where
   pub laps : start.counts.lap_start.laps + laps_of script < 2 ^ 64 → now.counts.lap_start.laps ≡ start.counts.lap_start.laps + laps_of script
   pub turns : most_lap_turns now.counts ≤ max (most_lap_turns start.counts) (greatest_of (λ work. work.turns) start script now runs)

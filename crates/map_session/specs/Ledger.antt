@@ -22,20 +22,22 @@ abbrev pub work_lacking : State → Parsed → Option Told → Work
 work_lacking state said None = no_work
 work_lacking state said (Some told) = if is_refusal told.reply then work_said state said else no_work
 
--- the sums over lines
+-- what the replies to lines tell that they took, all together
 abbrev pub told_in : (start : Moment) (script : List (List ℕ)) (now : Moment) → Runs start script now → Work
 told_in start [] now runs = no_work
 told_in start (line ∷ lines) now runs = both (work_told (cost_told runs.1.given.told)) (told_in runs.0 lines now runs.2)
 
+-- the bounds of what memory refused among these lines, all together
 abbrev pub lacking_in : (start : Moment) (script : List (List ℕ)) (now : Moment) → Runs start script now → Work
 lacking_in start [] now runs = no_work
 lacking_in start (line ∷ lines) now runs = both (work_lacking (map_in start.session) (parse line) runs.1.given.told) (lacking_in runs.0 lines now runs.2)
 
--- and over commands
+-- what replies to commands tell that they took, all together
 abbrev pub told_to : List Told → Work
 told_to [] = no_work
 told_to (one ∷ more) = both (work_told one.cost) (told_to more)
 
+-- the bounds of what memory refused among these commands, all together
 abbrev pub lacking_to : (old : SessionState) (before : Counts) (commands : List Command) (told : List Told) (new : SessionState) (after : Counts)
     → Obeys old before commands told new after → Work
 lacking_to old before [] told new after obeys = no_work

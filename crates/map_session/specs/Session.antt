@@ -22,6 +22,7 @@ pub record SessionState : Type 0 where
   pub lines : ℕ
   pub refused : ℕ
 
+-- a session without layers, before any line
 abbrev pub new_session : Bool → SessionState
 new_session ledger = record { layers = no_layers; ledger = ledger; lines = 0; refused = 0 }
 
@@ -33,9 +34,11 @@ map_in s = map_of s.layers
 abbrev pub told_by : Reply → Told
 told_by reply = record { reply = reply_of reply; cost = cost_of reply }
 
+-- what a reply, or none, and the map after it stand for in the definitions
 abbrev pub given_by : Option Reply → State → Given
 given_by reply state = record { told = option_map told_by reply; state = state }
 
+-- what a reply tells that it cost
 abbrev pub cost_told : Option Told → Cost
 cost_told None = Untold
 cost_told (Some told) = told.cost
@@ -52,7 +55,7 @@ pub record Executes (old : SessionState) (before : Counts) (said : Parsed) (give
   pub refused : new.refused ≡ old.refused + refusal_count given.told
   pub updates : new.layers.updates ≡ old.layers.updates + one_if (is_update_said said)
 
--- the same of what a line says
+-- What a line says is executed, with this answer, and so much is counted for it.
 abbrev pub ExecutesLine : SessionState → Counts → List ℕ → Given → SessionState → Counts → Type 0
 ExecutesLine old before line given new after = Executes old before (parse line) given new after
 
@@ -65,6 +68,7 @@ Obeys old before (command ∷ commands) (one ∷ more) new after =
     (next : SessionState) × (counts : Counts) × Executes old before (Ok (Some command)) (record { told = Some one; state = map_in next }) next counts
     × Obeys next counts commands more new after
 
+-- Silent where there is no reply, Refused for a refusal, and Answered for any other
 abbrev pub done_of : Option Told → Done
 done_of None = Silent
 done_of (Some told) = if is_refusal told.reply then Refused else Answered

@@ -14,17 +14,21 @@ use Rattle.map_model.specs.Reply.{is_refusal}
 use Rattle.map_model.specs.Machine.{step}
 use Rattle.map_model.specs.Grammar.{Parsed}
 
+-- turns, marks and touches
 pub record Work : Type 0 where
   pub turns : ℕ
   pub marks : ℕ
   pub touches : ℕ
 
+-- none of them
 abbrev pub no_work : Work
 no_work = record { turns = 0; marks = 0; touches = 0 }
 
+-- both together
 abbrev pub both : Work → Work → Work
 both a b = record { turns = a.turns + b.turns; marks = a.marks + b.marks; touches = a.touches + b.touches }
 
+-- the command is an add or a drop
 abbrev pub is_update : Command → Bool
 is_update (MakeLayer name kind indexes) = false
 is_update (Add name id shape) = true
@@ -34,6 +38,7 @@ is_update (Get name id) = false
 is_update (Size name) = false
 is_update (Recent name k) = false
 
+-- an add or a drop is said
 abbrev pub is_update_said : Parsed → Bool
 is_update_said (Ok None) = false
 is_update_said (Ok (Some command)) = is_update command
@@ -49,6 +54,7 @@ begins_lap (Get name id) = false
 begins_lap (Size name) = false
 begins_lap (Recent name k) = false
 
+-- an update or a question is said
 abbrev pub begins_lap_said : Parsed → Bool
 begins_lap_said (Ok None) = false
 begins_lap_said (Ok (Some command)) = begins_lap command
@@ -72,6 +78,7 @@ abbrev pub asking_in : Question → Option Layer → Work
 asking_in question None = no_work
 asking_in question (Some layer) = record no_work { touches = most_in layer (λ level n. most_of (touches_for question level) n) }
 
+-- what a command may take in a layer, where nothing but memory refuses it
 abbrev pub work_in : Command → Option Layer → Work
 work_in (MakeLayer name kind indexes) layer = no_work
 work_in (Add name id shape) layer = bounds_in layer
@@ -85,6 +92,8 @@ work_in (Recent name k) layer = no_work
 abbrev pub work_of : State → Command → Work
 work_of state command = if is_refusal (step state command).reply then no_work else work_in command (layer_named (name_of command) state)
 
+-- What a line or a command may take, on the map before it: an update the bounds of its layer, a question its touches, where nothing but memory
+-- may refuse it; and else nothing.
 abbrev pub work_said : State → Parsed → Work
 work_said state (Ok None) = no_work
 work_said state (Ok (Some command)) = work_of state command
@@ -96,7 +105,7 @@ IsTold Untold old new = ⊤
 IsTold (Updating spent) old new = (new.turns ≡ old.turns + spent.turns) × (new.marks ≡ old.marks + spent.marks)
 IsTold (Asking asked) old new = (new.turns ≡ old.turns) × (new.marks ≡ old.marks) × (new.touches ≡ old.touches + asked.touches)
 
--- at most so much was counted, and what is told of it is true
+-- no count fell, at most so much was counted, and the turns, marks and touches that a reply tells are those that were
 pub record IsCounted (work : Work) (cost : Cost) (old new : Counts) : Type 0 where
   pub turns_kept : old.turns ≤ new.turns
   pub marks_kept : old.marks ≤ new.marks

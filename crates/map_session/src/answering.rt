@@ -2,7 +2,7 @@
 ghost use Rattle.std.specs.Prelude.{◌≡◌, ℕ, ◌+◌, ◌<◌, ◌≤◌, ◌^◌, ◌++◌, ◌∷◌, [], List, true, length, take, MatchOption, OnOk, OnErr};
 ghost use Rattle.map_model.specs.Text.{lines, whole_lines, one_line};
 ghost use Rattle.script_lang.specs.Front.{longest_front};
-ghost use Rattle.map_session.specs.Answering.{Moment, moment, AnswersLine, StopsInLine, Runs, IsStopped, IsStoppedBehind, IsUnderway};
+ghost use Rattle.map_session.specs.Answering.{Moment, moment, AnswersLine, StopsInLine, Runs, IsStoppedBehind, IsUnderway};
 
 use crate::{LineStart, Session};
 use map_io::{Sink, WriteFault};
@@ -10,39 +10,6 @@ use map_layers::{OverPoints, OverSegments};
 use memchr::memchr;
 use query_laws::step_ledger::Steps;
 use std::sync::ledger::Ledger;
-
-/// Answers every line of a text, a last one without a line feed too.
-pub fn answer_lines<P: OverPoints, S: OverSegments, K: Sink, L: Ledger>(
-    session: &mut Session<P, S>,
-    text: &[u8],
-    sink: &mut K,
-    steps: &mut Steps<L>,
-) -> Result<(), WriteFault>
-    requires { session.old.lines + length text.now < 2 ^ 40 }
-    ensures answered { OnOk result (Runs (moment session.old (K.told sink.old) steps.old) (lines text.now) (moment session.new (K.told sink.new) steps.new)) }
-    ensures stopped { OnErr result (IsStopped (moment session.old (K.told sink.old) steps.old) (lines text.now) (moment session.new (K.told sink.new) steps.new)) }
-{
-    let mut begun = LineStart::new();
-    answer_piece(session, &mut begun, text, sink, steps)?;
-    answer_begun(session, &begun, sink, steps)?;
-    Ok(())
-}
-
-/// Answers the lines of a text that a line feed ended.
-pub fn answer_whole_lines<P: OverPoints, S: OverSegments, K: Sink, L: Ledger>(
-    session: &mut Session<P, S>,
-    text: &[u8],
-    sink: &mut K,
-    steps: &mut Steps<L>,
-) -> Result<(), WriteFault>
-    requires { session.old.lines + length text.now < 2 ^ 40 }
-    ensures answered { OnOk result (Runs (moment session.old (K.told sink.old) steps.old) (whole_lines text.now) (moment session.new (K.told sink.new) steps.new)) }
-    ensures stopped { OnErr result (IsStopped (moment session.old (K.told sink.old) steps.old) (whole_lines text.now) (moment session.new (K.told sink.new) steps.new)) }
-{
-    let mut begun = LineStart::new();
-    answer_piece(session, &mut begun, text, sink, steps)?;
-    Ok(())
-}
 
 /// Answers the lines that end in the next piece of a text, the one that is begun first. What comes after the last of them is begun
 /// then.

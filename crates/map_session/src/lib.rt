@@ -1,7 +1,16 @@
 //! A session: one command or line of a script after another, on layers of its own.
 //!
+//! A command and a line do what `Executes` says: one of the definitions' answers to what is said, and at most the work that it may
+//! take on the map before it. Over a text the lines were answered, one after another (`Runs`), or writing stopped inside an answer
+//! (`IsStopped`). What all lines come to together are laws of that: [`lines_sum_up`], [`answers_are_outputs`], [`laps_are_bounded`]
+//! and [`ledger_adds_up`]. Touches of updates aren't told by replies.
+//!
+//! The bounds of a run's updates stand in the relation of its output (`OutputWithin`): each is that of the map before its update, which
+//! is named nowhere else. A run over commands is told by the list of what each was answered (`Obeys`), so a summary of the list can't
+//! tell numbers of other replies.
+//!
 //! A line is parsed to a command, the command is executed, and its reply is written as a line of text. [`answer_piece`] cuts a
-//! text that comes in pieces at its line feeds, and gives each line to a session; [`answer_lines`] does so with a whole text.
+//! text that comes in pieces at its line feeds, and gives each line to a session; [`answer_begun`] gives it the last one.
 #![tactic(auto)]
 
 ghost use Rattle.std.specs.Prelude.{ℕ, List};
@@ -21,13 +30,10 @@ mod line_start;
 mod replying;
 mod session;
 
-pub use answering::{answer_begun, answer_lines, answer_piece, answer_whole_lines, split_line};
+pub use answering::{answer_begun, answer_piece, split_line};
 pub use line_start::LineStart;
-pub use map_layers::{OverPoints, OverSegments, PointIndexes, SegmentIndexes};
+pub use map_layers::{OverPoints, OverSegments};
 pub use session::{Done, Session};
-
-/// A session over all kinds of index.
-pub type MapSession = Session<PointIndexes, SegmentIndexes>;
 
 /// What lines that a session answered took, wrote and led to adds up over them.
 pub fn lines_sum_up()

@@ -70,7 +70,7 @@ fn refusal_of_update(fault: UpdateFault) -> Refusal
 
 /// The shape of an item, or why it isn't told.
 pub fn got(outcome: Result<Shape, AskFault>) -> Reply
-    ensures reply { reply_of result ≡ layers.asked (λ shape. replies.Got (model_shape shape)) outcome }
+    ensures reply { reply_of result ≡ layers.questioned (λ shape. replies.Got (model_shape shape)) outcome }
     ensures cost { cost_of result ≡ Untold }
 {
     match outcome {
@@ -81,7 +81,7 @@ pub fn got(outcome: Result<Shape, AskFault>) -> Reply
 
 /// How many items there are, or why that isn't told.
 pub fn sized(outcome: Result<u64, AskFault>) -> Reply
-    ensures reply { reply_of result ≡ layers.asked replies.Sized outcome }
+    ensures reply { reply_of result ≡ layers.questioned replies.Sized outcome }
     ensures cost { cost_of result ≡ Untold }
 {
     match outcome {
@@ -92,7 +92,7 @@ pub fn sized(outcome: Result<u64, AskFault>) -> Reply
 
 /// The last identifiers, or why they aren't told.
 pub fn recent(outcome: Result<Recent, AskFault>) -> Reply
-    ensures reply { reply_of result ≡ layers.asked replies.Latest outcome }
+    ensures reply { reply_of result ≡ layers.questioned replies.Latest outcome }
     ensures cost { cost_of result ≡ Untold }
 {
     match outcome {

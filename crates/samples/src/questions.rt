@@ -1,6 +1,9 @@
 //! Questions that are drawn, and their answers as numbers.
 use crate::spread::Spread;
-use map_questions::{Above, AnyAnswer, AnyQuestion, Near, NearK, Stab, StabCount, Top};
+use map_questions::{
+    Above, AnyAnswer, AnyQuestion, Near, NearK, PointQuestion, SegmentQuestion, Stab, StabCount,
+    Top,
+};
 use map_shapes::{CountIn, Found, ListIn, Rect, SumIn};
 use std::alloc::{AllocError, Global};
 use workload_gen::Generator;
@@ -19,40 +22,46 @@ pub fn drawn_question(
     let Rect { x1, x2, .. } = rect;
     let over = spread.stabbed(generator, class, number);
     match word {
-        "count" => AnyQuestion::CountIn(CountIn(rect)),
-        "sum" => AnyQuestion::SumIn(SumIn(rect)),
-        "list" => AnyQuestion::ListIn(ListIn(rect)),
-        "near" => AnyQuestion::Near(Near { x, y }),
+        "count" => AnyQuestion::Points(PointQuestion::CountIn(CountIn(rect))),
+        "sum" => AnyQuestion::Points(PointQuestion::SumIn(SumIn(rect))),
+        "list" => AnyQuestion::Points(PointQuestion::ListIn(ListIn(rect))),
+        "near" => AnyQuestion::Points(PointQuestion::Near(Near { x, y })),
         "nearest" => {
             let k = class.clamp(1, 64) as usize;
-            AnyQuestion::NearK(NearK { k, x, y })
+            AnyQuestion::Points(PointQuestion::NearK(NearK { k, x, y }))
         }
         "above" => {
             let Rect { x1, x2, .. } = spread.square(generator, 60, number);
             let y = spread.height(x2, class);
-            AnyQuestion::Above(Above { x1, x2, y })
+            AnyQuestion::Points(PointQuestion::Above(Above { x1, x2, y }))
         }
-        "top" => AnyQuestion::Top(Top { x1, x2 }),
-        "stab" => AnyQuestion::Stab(Stab { x: over }),
-        _ => AnyQuestion::StabCount(StabCount { x: over }),
+        "top" => AnyQuestion::Points(PointQuestion::Top(Top { x1, x2 })),
+        "stab" => AnyQuestion::Segments(SegmentQuestion::Stab(Stab { x: over })),
+        _ => AnyQuestion::Segments(SegmentQuestion::StabCount(StabCount { x: over })),
     }
 }
 
 /// Ends a line with the numbers of its question, each behind a space.
 pub fn write_question(question: &AnyQuestion, line: &mut String) -> Result<(), AllocError> {
     match question {
-        AnyQuestion::CountIn(CountIn(rect))
-        | AnyQuestion::SumIn(SumIn(rect))
-        | AnyQuestion::ListIn(ListIn(rect)) => {
+        AnyQuestion::Points(question) => write_point_question(question, line),
+        AnyQuestion::Segments(
+            SegmentQuestion::Stab(Stab { x }) | SegmentQuestion::StabCount(StabCount { x }),
+        ) => writeln!(line, " {x}"),
+    }
+}
+
+fn write_point_question(question: &PointQuestion, line: &mut String) -> Result<(), AllocError> {
+    match question {
+        PointQuestion::CountIn(CountIn(rect))
+        | PointQuestion::SumIn(SumIn(rect))
+        | PointQuestion::ListIn(ListIn(rect)) => {
             writeln!(line, " {} {} {} {}", rect.x1, rect.y1, rect.x2, rect.y2)
         }
-        AnyQuestion::Near(q) => writeln!(line, " {} {}", q.x, q.y),
-        AnyQuestion::NearK(q) => writeln!(line, " {} {} {}", q.k, q.x, q.y),
-        AnyQuestion::Above(q) => writeln!(line, " {} {} {}", q.x1, q.x2, q.y),
-        AnyQuestion::Top(q) => writeln!(line, " {} {}", q.x1, q.x2),
-        AnyQuestion::Stab(Stab { x }) | AnyQuestion::StabCount(StabCount { x }) => {
-            writeln!(line, " {x}")
-        }
+        PointQuestion::Near(q) => writeln!(line, " {} {}", q.x, q.y),
+        PointQuestion::NearK(q) => writeln!(line, " {} {} {}", q.k, q.x, q.y),
+        PointQuestion::Above(q) => writeln!(line, " {} {} {}", q.x1, q.x2, q.y),
+        PointQuestion::Top(q) => writeln!(line, " {} {}", q.x1, q.x2),
     }
 }
 

@@ -1,6 +1,6 @@
 //! Items that are drawn, and lists of them that are scanned.
 use crate::spread::{SIDE, Spread};
-use map_questions::{AnyQuestion, Near, NearK};
+use map_questions::{AnyQuestion, Near, NearK, PointQuestion, SegmentQuestion};
 use map_shapes::{Found, Point, Segment, Shaped};
 use std::alloc::{AllocError, Global};
 use std::cmp::Reverse;
@@ -23,25 +23,28 @@ impl Seeded for Point {
     }
 
     fn scan(alloc: Global, question: &AnyQuestion, items: &[Self]) -> Result<Vec<u64>, AllocError> {
+        let AnyQuestion::Points(question) = question else {
+            return Ok(Vec::new(alloc));
+        };
         match question {
-            AnyQuestion::CountIn(q) => {
+            PointQuestion::CountIn(q) => {
                 let inside = items.iter().filter(|point| point.is_inside(&q.0));
                 Vec::from_slice(alloc, &[inside.count() as u64])
             }
-            AnyQuestion::SumIn(q) => {
+            PointQuestion::SumIn(q) => {
                 let inside = items.iter().filter(|point| point.is_inside(&q.0));
                 let sum = inside.fold(0u64, |sum, point| sum.saturating_add(u64::from(point.w)));
                 Vec::from_slice(alloc, &[sum])
             }
-            AnyQuestion::ListIn(q) => {
+            PointQuestion::ListIn(q) => {
                 let inside = items.iter().filter(|point| point.is_inside(&q.0));
                 Ok(sorted(inside.map(|point| point.id).collect(alloc)?))
             }
-            AnyQuestion::Above(q) => {
+            PointQuestion::Above(q) => {
                 let above = items.iter().filter(|point| q.has(point));
                 Ok(sorted(above.map(|point| point.id).collect(alloc)?))
             }
-            AnyQuestion::Top(q) => {
+            PointQuestion::Top(q) => {
                 let within = items.iter().filter(|point| q.has(point));
                 let highest = within.min_by_key(|point| (Reverse(point.y), point.id));
                 let pairs = highest
@@ -49,12 +52,11 @@ impl Seeded for Point {
                     .flat_map(|point| [point.id, u64::from(point.y)]);
                 pairs.collect(alloc)
             }
-            AnyQuestion::Near(Near { x, y }) => {
+            PointQuestion::Near(Near { x, y }) => {
                 let (k, x, y) = (1, *x, *y);
                 nearest(alloc, &NearK { k, x, y }, items)
             }
-            AnyQuestion::NearK(q) => nearest(alloc, q, items),
-            AnyQuestion::Stab(_) | AnyQuestion::StabCount(_) => Ok(Vec::new(alloc)),
+            PointQuestion::NearK(q) => nearest(alloc, q, items),
         }
     }
 }
@@ -77,16 +79,18 @@ impl Seeded for Segment {
     }
 
     fn scan(alloc: Global, question: &AnyQuestion, items: &[Self]) -> Result<Vec<u64>, AllocError> {
+        let AnyQuestion::Segments(question) = question else {
+            return Ok(Vec::new(alloc));
+        };
         match question {
-            AnyQuestion::Stab(q) => {
+            SegmentQuestion::Stab(q) => {
                 let over = items.iter().filter(|segment| q.has(segment));
                 Ok(sorted(over.map(|segment| segment.id).collect(alloc)?))
             }
-            AnyQuestion::StabCount(q) => {
+            SegmentQuestion::StabCount(q) => {
                 let over = items.iter().filter(|segment| q.has(segment));
                 Vec::from_slice(alloc, &[over.count() as u64])
             }
-            _ => Ok(Vec::new(alloc)),
         }
     }
 }

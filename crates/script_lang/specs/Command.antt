@@ -12,6 +12,7 @@ use Rattle.script_lang.specs.declared.making.Values.{Values}
 use Rattle.script_lang.specs.declared.line_fault.LineFault.{LineFault}
 use Rattle.script_lang.specs.LineFault.{fault_of}
 
+-- a command as the definitions have it
 abbrev pub command_of : Command → model.Command
 command_of (commands.Layer name kind indexes) = model.MakeLayer name (kind_of kind) (index_set_of indexes)
 command_of (commands.Add name id x y w) = model.Add name id (shapes.Point x y w)
@@ -22,10 +23,11 @@ command_of (commands.Get name id) = model.Get name id
 command_of (commands.Size name) = model.Size name
 command_of (commands.Recent name k) = model.Recent name k
 
+-- what the words of a line say, as the definitions have it
 abbrev pub values_of : Values → grammar.Values
 values_of v = let numbers = v.numbers.now in record { name = v.name; id = numbers.id; places = numbers.places; amount = numbers.amount; kind = kind_of v.kind; indexes = index_set_of v.indexes }
 
--- what a line says
+-- what a line says: a command, nothing, or a fault, as the definitions have them
 abbrev pub parsed : Result (Option Command) LineFault → grammar.Parsed
 parsed (Ok found) = Ok (option_map command_of found)
 parsed (Err fault) = Err (fault_of fault)

@@ -12,19 +12,23 @@ use Rattle.script_lang.specs.declared.form.Question.{Question}
 use Rattle.script_lang.specs.declared.form.Question.TheVariants as questions
 use Rattle.script_lang.specs.declared.form.Form.{Form}
 
+-- a field as the definitions have it
 abbrev pub field_of : Field → model.Field
 field_of fields.Id = model.Id
 field_of fields.Coordinate = model.Coordinate
 field_of fields.Amount = model.Amount
 
+-- the numbers that a field takes
 abbrev pub limits_of_field : Field → Limits
 limits_of_field field = let limits = model.limits_of (field_of field) in record { least = limits.least; greatest = limits.greatest }
 
+-- an order of coordinates as the definitions have it
 abbrev pub order_of : Order → model.Order
 order_of orders.Free = model.Free
 order_of orders.Ends = model.Ends
 order_of orders.Corners = model.Corners
 
+-- the command word of a question
 abbrev pub verb_of_question : Question → model.Verb
 verb_of_question questions.Count = model.Count
 verb_of_question questions.Sum = model.Sum
@@ -36,6 +40,7 @@ verb_of_question questions.Top = model.Top
 verb_of_question questions.Stab = model.Stab
 verb_of_question questions.StabCount = model.StabCount
 
+-- what a command word stands for, as the definitions have it
 abbrev pub verb_of : Verb → model.Verb
 verb_of verbs.Layer = model.Layer
 verb_of verbs.Add = model.Add
@@ -46,9 +51,11 @@ verb_of verbs.Get = model.Get
 verb_of verbs.Size = model.Size
 verb_of verbs.Recent = model.Recent
 
+-- fields as the definitions have them
 abbrev pub fields_of : List Field → List model.Field
 fields_of fs = map field_of fs
 
+-- a form as the definitions have it
 abbrev pub form_of : Form → model.Form
 form_of f = record { word = f.word.now; fields = fields_of f.fields.now; has_indexes = f.has_indexes; order = order_of f.order }
 
@@ -56,9 +63,11 @@ form_of f = record { word = f.word.now; fields = fields_of f.fields.now; has_ind
 abbrev pub IsRow : Form → Type 0
 IsRow f = form_of f ≡ model.form (verb_of f.verb)
 
+-- the command word of a row
 abbrev pub verb_of_row : Form → model.Verb
 verb_of_row f = verb_of f.verb
 
+-- the form is that of a word
 abbrev pub has_word : List ℕ → Form → Bool
 has_word word f = bytes_eq f.word.now word
 
@@ -67,6 +76,7 @@ abbrev pub AreRows : List Form → Type 0
 AreRows [] = ⊤
 AreRows (f ∷ fs) = IsRow f × AreRows fs
 
+-- the field is for a coordinate or a weight
 abbrev pub is_coordinate : Field → Bool
 is_coordinate fields.Id = false
 is_coordinate fields.Coordinate = true

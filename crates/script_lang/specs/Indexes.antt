@@ -11,11 +11,13 @@ use Rattle.map_shapes.specs.IndexSet.{index_set_of}
 use Rattle.script_lang.specs.declared.line_fault.LineFault.{LineFault}
 use Rattle.script_lang.specs.LineFault.{fault_of}
 
+-- the kind that a word names
 abbrev pub kind_in : List ℕ → Option Kind
 kind_in word =
     if bytes_eq word (codes "points") then Some Points
     else (if bytes_eq word (codes "segments") then Some Segments else None)
 
+-- no index at all
 abbrev pub no_index : IndexSet
 no_index = record { range = false; near = false; top = false; stab = false }
 
@@ -36,6 +38,7 @@ with_index_words kind (word ∷ words) s = with_index_words kind words (with_ind
 abbrev pub Layer : Type 0
 Layer = Result (shapes.Kind × model.IndexSet) faults.LineFault
 
+-- the kind of a word with the indexes of the words behind it; Kind where there is none
 abbrev pub kind_layer : Option Kind → List (List ℕ) → Layer
 kind_layer None words = Err faults.Kind
 kind_layer (Some kind) words = Ok (kind_of kind, index_set_of (with_index_words kind words no_index))
@@ -45,6 +48,7 @@ abbrev pub layer_in : List (List ℕ) → Layer
 layer_in [] = Ok (shapes.Points, model.no_indexes)
 layer_in (word ∷ words) = kind_layer (kind_in word) words
 
+-- the kind and the indexes that were read, as the definitions have them
 abbrev pub layer_of : Result (Kind × IndexSet) LineFault → Layer
 layer_of (Ok found) = Ok (kind_of found.0, index_set_of found.1)
 layer_of (Err fault) = Err (fault_of fault)

@@ -3,6 +3,7 @@ use Rattle.map_model.specs.LineFault as model
 use Rattle.script_lang.specs.declared.line_fault.LineFault.{LineFault}
 use Rattle.script_lang.specs.declared.line_fault.LineFault.TheVariants.{Line, Command, Fields, Name, Number, Range, Order, Kind, Index}
 
+-- a fault as the definitions have it
 abbrev pub fault_of : LineFault → model.LineFault
 fault_of Line = model.Line
 fault_of Command = model.Command

@@ -20,9 +20,11 @@ HasRoom Id places = ⊤
 HasRoom Coordinate places = length places < 4
 HasRoom Amount places = ⊤
 
+-- no number was read yet
 abbrev pub no_numbers : Numbers
 no_numbers = record { id = 0; places = []; amount = 0; are_digits = true; are_in_range = true }
 
+-- a number in its field
 abbrev pub with_number : Field → ℕ → Numbers → Numbers
 with_number Id n v = record v { id = n }
 with_number Coordinate n v = record v { places = v.places ++ n ∷ [] }
@@ -36,7 +38,7 @@ in_64_bits n = if nat_lt n (2 ^ 64) then Some n else None
 abbrev pub digits_in : List ℕ → Result (Option ℕ) LineFault
 digits_in word = if is_filled word && all_ascii_digits word then Ok (in_64_bits (digits_value 10 word)) else Err faults.Number
 
--- the number of a word, within limits
+-- the number that a word writes; Number where it isn't one or more digits, Range where the number isn't within the limits
 abbrev pub number_in : ℕ → ℕ → List ℕ → Result ℕ LineFault
 number_in least greatest word =
     if is_filled word && all_ascii_digits word then (if nat_le least (digits_value 10 word) && nat_le (digits_value 10 word) greatest then Ok (digits_value 10 word) else Err faults.Range)
@@ -48,6 +50,7 @@ with_read field (Ok n) v = with_number field n v
 with_read field (Err faults.Number) v = record v { are_digits = false }
 with_read field (Err _) v = record v { are_in_range = false }
 
+-- the numbers, and what a word says in a field
 abbrev pub with_word : Numbers → Field → List ℕ → Numbers
 with_word v field word = with_read field (number_in (limits_of_field field).least (limits_of_field field).greatest word) v
 

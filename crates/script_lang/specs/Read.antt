@@ -18,6 +18,7 @@ use Rattle.script_lang.specs.Indexes.{Layer, layer_in}
 abbrev pub has_end : Bool → ℕ → Bool
 has_end has_indexes left = if has_indexes then nat_le 2 left else left == 0
 
+-- a name and numbers, as the definitions have them
 abbrev pub values_in : List ℕ → Numbers → Values
 values_in name v = record { name = name; id = v.id; places = v.places; amount = v.amount; kind = Points; indexes = no_indexes }
 
@@ -31,11 +32,13 @@ layered verb v left (Err fault) = Err fault
 abbrev pub ended : model.Verb → model.Form → List (List ℕ) → Values → Parsed
 ended verb f rest v = if not (model.is_ordered f.order v.places) then Err faults.Order else layered verb v (length rest) (layer_in rest)
 
+-- the steps behind that on the number of words: Name, Number and Range come first
 abbrev pub finished : model.Verb → model.Form → List (List ℕ) → Numbers → Option (List ℕ) → Parsed
 finished verb f rest v None = Err faults.Name
 finished verb f rest v (Some name) =
     if not v.are_digits then Err faults.Number else (if not v.are_in_range then Err faults.Range else ended verb f rest (values_in name v))
 
+-- what the words of a line say behind its command word: Fields comes first
 abbrev pub walked : model.Verb → model.Form → List ℕ → Numbers → List (List ℕ) → Parsed
 walked verb f word v rest = if not (has_end f.has_indexes (length rest)) then Err faults.Fields else finished verb f rest v (name_field word)
 

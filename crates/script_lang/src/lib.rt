@@ -1,6 +1,15 @@
 //! The lines of a script: what a line says, or the first thing that is wrong with it.
 //!
-//! [`parse`] reads a line in one walk over its words, along a row of the table of forms.
+//! [`parse`] reads a line in one walk over its words, along a row of the table of forms. A command that asks holds a question of
+//! `map_questions`, so one whose numbers are in range and in order.
+//!
+//! A number is read by a loop of its own, since std's `parse` wants a `str` and takes a plus; past 64 bits a number is past every
+//! limit. The first fault of the numbers is kept while the walk goes on, since a later word without digits comes before an earlier
+//! number past its limits. Bytes that aren't printable are looked for only where words say a fault: a line that says a command has
+//! none.
+//!
+//! Of a line 258 bytes say what it says ([`fronts_are_enough`]): 256, a carriage return that may end it, and one more. With 257 a
+//! longer line could be read as one that ends at a carriage return there.
 #![tactic(auto)]
 
 ghost use Rattle.std.specs.Prelude.{◌≡◌, ℕ, List, take};

@@ -2,7 +2,7 @@
 ghost use Rattle.std.specs.Prelude.{◌≡◌, [], ◌∷◌, ◌++◌, IfOk, OnOk, Ok, Some, map, codes, decimal, if◌then◌else◌};
 ghost use Rattle.map_model.specs.Grammar.{parse};
 ghost use Rattle.map_model.specs.Line.{IsCommand, spaced_words, command_line, kind_word, index_words, question_words, rect_words};
-ghost use Rattle.map_questions.specs.Any.{question_of};
+ghost use Rattle.map_questions.specs.Any.{point_question_of, question_of};
 ghost use Rattle.map_shapes.specs.Kind.{kind_of};
 ghost use Rattle.map_shapes.specs.IndexSet.{index_set_of};
 ghost use Rattle.map_shapes.specs.Rect.{rect_of};
@@ -11,7 +11,7 @@ ghost use Rattle.script_lang.specs.Command.{command_of};
 use crate::Command;
 use crate::indexes::{NEAR, POINTS, RANGE, SEGMENTS, STAB, TOP};
 use itoa::Buffer;
-use map_questions::AnyQuestion;
+use map_questions::{AnyQuestion, PointQuestion, SegmentQuestion};
 use map_shapes::{IndexSet, Kind, Name, Rect};
 use std::alloc::{AllocError, Global};
 
@@ -65,19 +65,36 @@ fn write_question(name: Name, question: AnyQuestion, line: &mut Vec<u8>) -> Resu
     ensures { OnOk result (line.new.items ≡ spaced_words (question_words name (question_of question))) }
 {
     match question {
-        AnyQuestion::CountIn(q) => write_numbers(b"count", name, &corners(q.0), line),
-        AnyQuestion::SumIn(q) => write_numbers(b"sum", name, &corners(q.0), line),
-        AnyQuestion::ListIn(q) => write_numbers(b"list", name, &corners(q.0), line),
-        AnyQuestion::Near(q) => write_numbers(b"near", name, &pair(q.x, q.y), line),
-        AnyQuestion::NearK(q) => {
+        AnyQuestion::Points(question) => write_point_question(name, question, line),
+        AnyQuestion::Segments(SegmentQuestion::Stab(q)) => {
+            write_numbers(b"stab", name, &[u64::from(q.x)], line)
+        }
+        AnyQuestion::Segments(SegmentQuestion::StabCount(q)) => {
+            write_numbers(b"stabcount", name, &[u64::from(q.x)], line)
+        }
+    }
+}
+
+fn write_point_question(
+    name: Name,
+    question: PointQuestion,
+    line: &mut Vec<u8>,
+) -> Result<(), AllocError>
+    requires { line.old.items ≡ [] }
+    ensures { OnOk result (line.new.items ≡ spaced_words (question_words name (point_question_of question))) }
+{
+    match question {
+        PointQuestion::CountIn(q) => write_numbers(b"count", name, &corners(q.0), line),
+        PointQuestion::SumIn(q) => write_numbers(b"sum", name, &corners(q.0), line),
+        PointQuestion::ListIn(q) => write_numbers(b"list", name, &corners(q.0), line),
+        PointQuestion::Near(q) => write_numbers(b"near", name, &pair(q.x, q.y), line),
+        PointQuestion::NearK(q) => {
             write_numbers(b"nearest", name, &triple(q.k as u64, q.x, q.y), line)
         }
-        AnyQuestion::Above(q) => {
+        PointQuestion::Above(q) => {
             write_numbers(b"above", name, &triple(u64::from(q.x1), q.x2, q.y), line)
         }
-        AnyQuestion::Top(q) => write_numbers(b"top", name, &pair(q.x1, q.x2), line),
-        AnyQuestion::Stab(q) => write_numbers(b"stab", name, &[u64::from(q.x)], line),
-        AnyQuestion::StabCount(q) => write_numbers(b"stabcount", name, &[u64::from(q.x)], line),
+        PointQuestion::Top(q) => write_numbers(b"top", name, &pair(q.x1, q.x2), line),
     }
 }
 

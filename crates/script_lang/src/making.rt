@@ -14,7 +14,9 @@ use crate::Command;
 use crate::coordinates::Coordinates;
 use crate::form::{Order, Question, Verb};
 use crate::numbers::Numbers;
-use map_questions::{Above, AnyQuestion, Near, NearK, Stab, StabCount, Top};
+use map_questions::{
+    Above, AnyQuestion, Near, NearK, PointQuestion, SegmentQuestion, Stab, StabCount, Top,
+};
 use map_shapes::{CountIn, IndexSet, Kind, ListIn, Name, Rect, SumIn};
 
 impl Order {
@@ -103,15 +105,17 @@ fn make_question(question: Question, values: &Values) -> AnyQuestion
     let k = values.numbers.amount as usize;
     let (x, y, z) = first_three(places);
     match question {
-        Question::Count => AnyQuestion::CountIn(CountIn(corners(places))),
-        Question::Sum => AnyQuestion::SumIn(SumIn(corners(places))),
-        Question::List => AnyQuestion::ListIn(ListIn(corners(places))),
-        Question::Near => AnyQuestion::Near(Near { x, y }),
-        Question::Nearest => AnyQuestion::NearK(NearK { k, x, y }),
-        Question::Above => AnyQuestion::Above(Above { x1: x, x2: y, y: z }),
-        Question::Top => AnyQuestion::Top(Top { x1: x, x2: y }),
-        Question::Stab => AnyQuestion::Stab(Stab { x }),
-        Question::StabCount => AnyQuestion::StabCount(StabCount { x }),
+        Question::Count => { AnyQuestion::Points(PointQuestion::CountIn(CountIn(corners(places)))) }
+        Question::Sum => AnyQuestion::Points(PointQuestion::SumIn(SumIn(corners(places)))),
+        Question::List => AnyQuestion::Points(PointQuestion::ListIn(ListIn(corners(places)))),
+        Question::Near => AnyQuestion::Points(PointQuestion::Near(Near { x, y })),
+        Question::Nearest => AnyQuestion::Points(PointQuestion::NearK(NearK { k, x, y })),
+        Question::Above => {
+            AnyQuestion::Points(PointQuestion::Above(Above { x1: x, x2: y, y: z }))
+        }
+        Question::Top => AnyQuestion::Points(PointQuestion::Top(Top { x1: x, x2: y })),
+        Question::Stab => AnyQuestion::Segments(SegmentQuestion::Stab(Stab { x })),
+        Question::StabCount => AnyQuestion::Segments(SegmentQuestion::StabCount(StabCount { x })),
     }
 }
 

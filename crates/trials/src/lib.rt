@@ -11,7 +11,12 @@ mod trial;
 mod tried;
 
 pub use bench::Bench;
+use map_indexes::{PointIndexes, SegmentIndexes};
+use map_session::Session;
 pub use script::measure_script;
 pub use session::{check_examples, check_made_script, tell_script_difference};
 pub use trial::{Layer, Plan, tell_differences, try_layer};
 pub use tried::Kind;
+
+/// A session over all structures.
+type MapSession = Session<PointIndexes, SegmentIndexes>;

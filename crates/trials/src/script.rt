@@ -1,9 +1,10 @@
 //! Times of a script's commands.
 ghost use Rattle.map_io.specs.SinkTold.{told_by_faults};
 
+use crate::MapSession;
 use crate::bench::Bench;
 use map_io::{Failed, Sink};
-use map_session::{LineStart, MapSession};
+use map_session::LineStart;
 use samples::{Costs, Failure, Outcome};
 use script_lang::split_word;
 use std::fs;

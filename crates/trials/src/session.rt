@@ -1,12 +1,11 @@
 //! Sessions beside plain lists, and beside the answers that are expected of examples, at once and in pieces.
 ghost use Rattle.std.specs.Prelude.{◌<◌};
 
+use crate::MapSession;
 use crate::bench::Bench;
 use crate::trial::is_difference;
 use map_io::{MemSink, Sink};
-use map_session::{
-    LineStart, MapSession, OverPoints, OverSegments, Session, answer_begun, answer_piece,
-};
+use map_session::{LineStart, OverPoints, OverSegments, Session, answer_begun, answer_piece};
 use query_laws::NoMemory;
 use query_laws::step_ledger::Steps;
 use samples::{Exchange, Failure, Generator, Outcome, PlainMap};

@@ -3,7 +3,7 @@ use crate::bench::Bench;
 use builder_trait::{Answers, Builder, Rows, RowsBuilder};
 use interval_tree::StabRows;
 use kd_tree::KdRows;
-use map_questions::{AnyAnswer, AnyQuestion};
+use map_questions::{AnyAnswer, AnyQuestion, PointQuestion, SegmentQuestion};
 use priority_tree::TopRows;
 use query_laws::step_ledger::Steps;
 use query_laws::{NoMemory, Question};
@@ -77,9 +77,15 @@ impl Kind for RangeRows {
         bench: &mut Bench<L>,
     ) -> Outcome<AnyAnswer> {
         Ok(match question {
-            AnyQuestion::CountIn(q) => AnyAnswer::Counted(set.answer(q, bench)?),
-            AnyQuestion::SumIn(q) => AnyAnswer::Summed(set.answer(q, bench)?),
-            AnyQuestion::ListIn(q) => AnyAnswer::Listed(set.answer(q, bench)?),
+            AnyQuestion::Points(PointQuestion::CountIn(q)) => AnyAnswer::Counted(set.answer(
+                q, bench,
+            )?),
+            AnyQuestion::Points(PointQuestion::SumIn(q)) => AnyAnswer::Summed(set.answer(
+                q, bench,
+            )?),
+            AnyQuestion::Points(PointQuestion::ListIn(q)) => AnyAnswer::Listed(set.answer(
+                q, bench,
+            )?),
             _ => return Err(Failure::Unfit),
         })
     }
@@ -102,8 +108,12 @@ impl Kind for KdRows {
         bench: &mut Bench<L>,
     ) -> Outcome<AnyAnswer> {
         Ok(match question {
-            AnyQuestion::Near(q) => AnyAnswer::NearestOne(set.answer(q, bench)?),
-            AnyQuestion::NearK(q) => AnyAnswer::NearestOnes(set.answer(q, bench)?),
+            AnyQuestion::Points(PointQuestion::Near(q)) => AnyAnswer::NearestOne(set.answer(
+                q, bench,
+            )?),
+            AnyQuestion::Points(PointQuestion::NearK(q)) => AnyAnswer::NearestOnes(set.answer(
+                q, bench,
+            )?),
             _ => return Err(Failure::Unfit),
         })
     }
@@ -127,8 +137,10 @@ impl Kind for TopRows {
         bench: &mut Bench<L>,
     ) -> Outcome<AnyAnswer> {
         Ok(match question {
-            AnyQuestion::Top(q) => AnyAnswer::Highest(set.answer(q, bench)?),
-            AnyQuestion::Above(q) => AnyAnswer::ListedAbove(set.answer(q, bench)?),
+            AnyQuestion::Points(PointQuestion::Top(q)) => AnyAnswer::Highest(set.answer(q, bench)?),
+            AnyQuestion::Points(PointQuestion::Above(q)) => AnyAnswer::ListedAbove(set.answer(
+                q, bench,
+            )?),
             _ => return Err(Failure::Unfit),
         })
     }
@@ -145,8 +157,12 @@ impl Kind for StabRows {
         bench: &mut Bench<L>,
     ) -> Outcome<AnyAnswer> {
         Ok(match question {
-            AnyQuestion::Stab(q) => AnyAnswer::Stabbed(set.answer(q, bench)?),
-            AnyQuestion::StabCount(q) => AnyAnswer::StabCounted(set.answer(q, bench)?),
+            AnyQuestion::Segments(SegmentQuestion::Stab(q)) => AnyAnswer::Stabbed(set.answer(
+                q, bench,
+            )?),
+            AnyQuestion::Segments(SegmentQuestion::StabCount(q)) => AnyAnswer::StabCounted(
+                set.answer(q, bench)?,
+            ),
             _ => return Err(Failure::Unfit),
         })
     }

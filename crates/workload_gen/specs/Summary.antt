@@ -7,6 +7,7 @@ use Rattle.map_model.specs.Output.{Told}
 use Rattle.answer_text.specs.declared.reply.Reply as answers
 use Rattle.answer_text.specs.Reply.{reply_of, cost_of}
 
+-- what the commands were answered, added up; how many items are live stands elsewhere
 pub record Summary : Type 0 where
   -- how many commands there were, and how many of them were refused
   pub commands : ℕ
@@ -21,24 +22,28 @@ pub record Summary : Type 0 where
   -- the accepted update of the most turns, and of several the first
   pub largest : Option Spent
 
+-- the summary of no commands
 abbrev pub no_commands : Summary
 no_commands = record { commands = 0; refused = 0; counted = 0; ids = 0; parts = 0; touches = 0; largest = None }
 
 -- ---- one more command
 
--- what an answer adds to what was counted, and the identifier that it gives, 0 where it gives none
+-- what an answer adds to what was counted
 abbrev pub count_in : Answer → ℕ
 count_in (Counted n) = n
 count_in _ = 0
 
+-- the identifier that an answer gives, 0 where it gives none
 abbrev pub id_in : Answer → ℕ
 id_in (NearestOne (Some found)) = found.id
 id_in (Highest (Some peak)) = peak.id
 id_in _ = 0
 
+-- one more answer
 abbrev pub with_answer : Answer → Summary → Summary
 with_answer answer s = record s { counted = s.counted + count_in answer; ids = (s.ids + id_in answer) % 2 ^ 64 }
 
+-- one more reply
 abbrev pub with_reply : Reply → Summary → Summary
 with_reply (Refused cause) s = record s { refused = s.refused + 1 }
 with_reply (Answered answer) s = with_answer answer s
@@ -49,12 +54,13 @@ abbrev pub larger : Option Spent → Spent → Spent
 larger None spent = spent
 larger (Some most) spent = if nat_lt most.turns spent.turns then spent else most
 
+-- one more cost
 abbrev pub with_cost : Cost → Summary → Summary
 with_cost Untold s = s
 with_cost (Updating spent) s = record s { largest = Some (larger s.largest spent) }
 with_cost (Asking asked) s = record s { parts = s.parts + asked.parts; touches = s.touches + asked.touches }
 
--- one more command was answered
+-- the summary with one more command that was answered
 abbrev pub told_more : Summary → Told → Summary
 told_more s told = record (with_cost told.cost (with_reply told.reply s)) { commands = s.commands + 1 }
 
@@ -62,6 +68,7 @@ told_more s told = record (with_cost told.cost (with_reply told.reply s)) { comm
 abbrev pub summary_of : List Told → Summary
 summary_of told = fold told_more no_commands told
 
+-- a reply with what it cost, as the definitions have it
 abbrev pub told_of : answers.Reply → Told
 told_of reply = record { reply = reply_of reply; cost = cost_of reply }
 
@@ -71,15 +78,17 @@ told_of reply = record { reply = reply_of reply; cost = cost_of reply }
 abbrev pub number_line : List ℕ → ℕ → List ℕ
 number_line word n = word ++ 32 ∷ decimal n ++ 10 ∷ []
 
--- its turns and its bound, zeros where there is none
+-- the turns of the update of the most turns, 0 where there is none
 abbrev pub most_turns : Option Spent → ℕ
 most_turns None = 0
 most_turns (Some spent) = spent.turns
 
+-- the bound of its turns, 0 where there is none
 abbrev pub most_bound : Option Spent → ℕ
 most_bound None = 0
 most_bound (Some spent) = spent.turn_bound
 
+-- the last line: turns and bound of that update
 abbrev pub largest_line : Option Spent → List ℕ
 largest_line most = codes "largest " ++ decimal (most_turns most) ++ 47 ∷ decimal (most_bound most) ++ 10 ∷ []
 

@@ -1,7 +1,9 @@
 //! Made scripts, by a seed and a size, and the summary of what they are answered.
 //!
 //! A script makes one layer of points with every index, and then adds, drops and asks. What comes is drawn from seeded numbers, and doesn't
-//! look at replies.
+//! look at replies. No clause says that a map accepts such a script.
+//!
+//! A made script goes to the session as commands, and its summary to the sink at once: no line is written that could be cut.
 #![tactic(auto)]
 
 ghost use Rattle.std.specs.Prelude.{◌≡◌, ◌+◌, ℕ, [], ◌∷◌, length};
@@ -36,6 +38,3 @@ pub fn worked_script()
         ∷ Drop made 1
         ∷ [] }
 {}
-
-#[cfg(test)]
-mod tests;

@@ -5,7 +5,7 @@ ghost use Rattle.script_lang.specs.Command.{command_of};
 ghost use Rattle.workload_gen.specs.Made as made;
 
 use crate::generator::Generator;
-use map_questions::{AnyQuestion, Near, Top};
+use map_questions::{AnyQuestion, Near, PointQuestion, Top};
 use map_shapes::{CountIn, IndexSet, Kind, Name, Rect};
 use script_lang::Command;
 use std::marker::Model;
@@ -165,7 +165,7 @@ impl Maker {
         let y1 = self.coordinate();
         let (x2, y2) = (x1 + SPAN, y1 + SPAN);
         let rect = Rect { x1, y1, x2, y2 };
-        self.ask(AnyQuestion::CountIn(CountIn(rect)))
+        self.ask(PointQuestion::CountIn(CountIn(rect)))
     }
 
     fn near(&mut self) -> Command
@@ -175,7 +175,7 @@ impl Maker {
     {
         let x = self.coordinate();
         let y = self.coordinate();
-        self.ask(AnyQuestion::Near(Near { x, y }))
+        self.ask(PointQuestion::Near(Near { x, y }))
     }
 
     fn top(&mut self) -> Command
@@ -185,18 +185,18 @@ impl Maker {
     {
         let x1 = self.coordinate();
         let x2 = x1 + SPAN;
-        self.ask(AnyQuestion::Top(Top { x1, x2 }))
+        self.ask(PointQuestion::Top(Top { x1, x2 }))
     }
 
     /// A question to the layer.
-    fn ask(&self, question: AnyQuestion) -> Command
+    fn ask(&self, question: PointQuestion) -> Command
         requires { made.IsQuestion question }
         ensures command { command_of result ≡ made.asks question }
         ensures lawful { IsCommand (command_of result) }
     {
         Command::Ask {
             name: self.name,
-            question,
+            question: AnyQuestion::Points(question),
         }
     }
 

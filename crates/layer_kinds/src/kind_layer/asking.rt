@@ -17,10 +17,10 @@ use query_laws::step_ledger::Steps;
 use std::alloc::Global;
 use std::sync::ledger::Ledger;
 
-/// Puts a question to the items of a layer, by the index at a place.
+/// Puts a question to the items of a layer, by the index of these rows.
 ///
 /// `NoIndex` where it isn't there, and `NoMemory` where the answer wanted memory that wasn't given.
-pub fn ask_layer<R: MapRows, P, X: Has<R, P>, Q: MapQuestion<R>, L: Ledger>(
+pub fn ask_layer<R: MapRows, X: Has<R>, Q: MapQuestion<R>, L: Ledger>(
     layer: &KindLayer<X>,
     alloc: Global,
     question: &Q,

@@ -10,7 +10,7 @@ ghost use Rattle.map_layers.specs.Costs.{IsAskingIn, IsEveryPartIn, IsTouchingIn
 ghost use Rattle.map_questions.specs.Any.{question_of};
 ghost use Rattle.map_layers.specs.Questions.{touches_for, most_for};
 ghost use Rattle.layer_kinds.specs.Asking.{IsReading};
-ghost use Rattle.map_layers.specs.Replies.{asked, IsAnswered};
+ghost use Rattle.map_layers.specs.Replies.{questioned, IsAnswered};
 
 use crate::{Answered, AskFault, Layers, OverPoints, OverSegments};
 use map_questions::AnyQuestion;
@@ -30,7 +30,7 @@ impl<P: OverPoints, S: OverSegments> Layers<P, S> {
         steps: &mut Steps<L>,
     ) -> Result<(Answered, QuestionCost), AskFault>
         ensures answered { IsAnswered (map_of self.now) (Ask name.now (question_of question.now)) (map_of self.now)
-            (asked (λ given. replies.Answered given.0.answer) result) }
+            (questioned (λ given. replies.Answered given.0.answer) result) }
         ensures question { IfOk result (λ given. given.0.question ≡ question_of question.now) }
         ensures consulted { IfOk result (λ given. given.1.parts ≡ given.0.parts) }
         ensures every_part { IfOk result (λ given. IsEveryPartIn (named name.now self.now.layers) (index_of (question_of question.now)) given.1.parts given.0.live) }

@@ -2,12 +2,12 @@
 ghost use Rattle.std.specs.Prelude.{◌≡◌};
 ghost use Rattle.std.proofs.Common.{arith, refl};
 
-use crate::named::ask_of;
-use crate::{Answered, AnsweringIndexes, AskFault, NamedIndexes, OverPoints};
+use crate::asking::ask_of;
 use id_chain::{Chain, Handle};
 use kd_tree::{KdBuilder, KdRows};
-use layer_kinds::{First, Has, Indexes, KindLayer, LayerIndex, Next};
-use map_questions::{Above, AnyQuestion, Near, NearK, Top};
+use layer_kinds::{AskFault, Has, Indexes, KindLayer, LayerIndex};
+use map_layers::{Answered, AnsweringIndexes, NamedIndexes, OverPoints};
+use map_questions::{Above, Near, NearK, PointQuestion, Top};
 use map_shapes::{CountIn, IndexSet, ListIn, Point, QuestionCost, Shape, SumIn};
 use priority_tree::{TopBuilder, TopRows};
 use query_laws::NoMemory;
@@ -27,12 +27,8 @@ type OfPoints = (
     (LayerIndex<KdBuilder>, LayerIndex<TopBuilder>),
 );
 
-type Second = Next<First>;
-
-type Third = Next<Second>;
-
 impl Indexes for PointIndexes {
-    ghost use Rattle.map_layers.specs.IndexesLaws.{points-low};
+    ghost use Rattle.map_indexes.specs.IndexesLaws.{points-low};
 
     type Item = Point;
 
@@ -65,7 +61,7 @@ impl Indexes for PointIndexes {
     ghost low = { λ s. points-low s.indexes.0 s.indexes.1.0 s.indexes.1.1 };
 }
 
-impl Has<RangeRows, First> for PointIndexes {
+impl Has<RangeRows> for PointIndexes {
     ghost index = { λ s. s.indexes.0 };
 
     fn index(&self) -> &LayerIndex<RangeBuilder> {
@@ -75,7 +71,7 @@ impl Has<RangeRows, First> for PointIndexes {
     ghost is_of = { λ s es stamps of. of.0 };
 }
 
-impl Has<KdRows, Second> for PointIndexes {
+impl Has<KdRows> for PointIndexes {
     ghost index = { λ s. s.indexes.1.0 };
 
     fn index(&self) -> &LayerIndex<KdBuilder> {
@@ -85,7 +81,7 @@ impl Has<KdRows, Second> for PointIndexes {
     ghost is_of = { λ s es stamps of. of.1.0 };
 }
 
-impl Has<TopRows, Third> for PointIndexes {
+impl Has<TopRows> for PointIndexes {
     ghost index = { λ s. s.indexes.1.1 };
 
     fn index(&self) -> &LayerIndex<TopBuilder> {
@@ -96,8 +92,8 @@ impl Has<TopRows, Third> for PointIndexes {
 }
 
 impl NamedIndexes for PointIndexes {
-    ghost use Rattle.map_layers.specs.Layer.{points_held};
-    ghost use Rattle.map_layers.specs.IndexesLaws.{points-by_rates, points-counted};
+    ghost use Rattle.map_indexes.specs.Held.{points_held};
+    ghost use Rattle.map_indexes.specs.IndexesLaws.{points-by_rates, points-counted};
 
     ghost held = { λ s. points_held s.indexes.0 s.indexes.1.0 s.indexes.1.1 };
 
@@ -133,37 +129,35 @@ impl OverPoints for PointIndexes {
     ghost points = { refl };
 }
 
-impl AnsweringIndexes for PointIndexes {
+impl AnsweringIndexes<PointQuestion> for PointIndexes {
     fn ask<L: Ledger>(
         layer: &KindLayer<PointIndexes>,
         alloc: Global,
-        question: &AnyQuestion,
+        question: &PointQuestion,
         steps: &mut Steps<L>,
     ) -> Result<(Answered, QuestionCost), AskFault> {
         match question {
-            AnyQuestion::CountIn(count) => {
-                ask_of::<RangeRows, First, PointIndexes, CountIn, L>(layer, alloc, count, steps)
+            PointQuestion::CountIn(count) => {
+                ask_of::<RangeRows, PointIndexes, CountIn, L>(layer, alloc, count, steps)
             }
-            AnyQuestion::SumIn(sum) => {
-                ask_of::<RangeRows, First, PointIndexes, SumIn, L>(layer, alloc, sum, steps)
+            PointQuestion::SumIn(sum) => {
+                ask_of::<RangeRows, PointIndexes, SumIn, L>(layer, alloc, sum, steps)
             }
-            AnyQuestion::ListIn(list) => {
-                ask_of::<RangeRows, First, PointIndexes, ListIn, L>(layer, alloc, list, steps)
+            PointQuestion::ListIn(list) => {
+                ask_of::<RangeRows, PointIndexes, ListIn, L>(layer, alloc, list, steps)
             }
-            AnyQuestion::Near(near) => {
-                ask_of::<KdRows, Second, PointIndexes, Near, L>(layer, alloc, near, steps)
+            PointQuestion::Near(near) => {
+                ask_of::<KdRows, PointIndexes, Near, L>(layer, alloc, near, steps)
             }
-            AnyQuestion::NearK(near) => {
-                ask_of::<KdRows, Second, PointIndexes, NearK, L>(layer, alloc, near, steps)
+            PointQuestion::NearK(near) => {
+                ask_of::<KdRows, PointIndexes, NearK, L>(layer, alloc, near, steps)
             }
-            AnyQuestion::Above(above) => {
-                ask_of::<TopRows, Third, PointIndexes, Above, L>(layer, alloc, above, steps)
+            PointQuestion::Above(above) => {
+                ask_of::<TopRows, PointIndexes, Above, L>(layer, alloc, above, steps)
             }
-            AnyQuestion::Top(top) => {
-                ask_of::<TopRows, Third, PointIndexes, Top, L>(layer, alloc, top, steps)
+            PointQuestion::Top(top) => {
+                ask_of::<TopRows, PointIndexes, Top, L>(layer, alloc, top, steps)
             }
-            AnyQuestion::Stab(_) => Err(AskFault::WrongKind),
-            AnyQuestion::StabCount(_) => Err(AskFault::WrongKind),
         }
     }
 }

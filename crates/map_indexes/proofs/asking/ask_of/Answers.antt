@@ -5,8 +5,8 @@ use Rattle.map_model.specs.Answer.{kind_asked, index_of}
 use Rattle.map_model.specs.Cost.{bounds_at}
 use Rattle.map_layers.specs.Layer.{IsEveryPart}
 use Rattle.map_layers.specs.Questions.{touches_for, most_for}
-use Rattle.map_layers.proofs.Asking.{of_kind, is_there, IsEveryPart-of}
-use Rattle.map_layers.proofs.named.ask_of.Goals as goal
+use Rattle.map_indexes.proofs.ByIndex.{of_kind, is_there, IsEveryPart-of}
+use Rattle.map_indexes.proofs.asking.ask_of.Goals as goal
 
 pub returns : goal.returns
 returns g c =

@@ -2,12 +2,12 @@
 ghost use Rattle.std.specs.Prelude.{◌≡◌};
 ghost use Rattle.std.proofs.Common.{arith, refl};
 
-use crate::named::ask_of;
-use crate::{Answered, AnsweringIndexes, AskFault, NamedIndexes, OverSegments};
+use crate::asking::ask_of;
 use id_chain::{Chain, Handle};
 use interval_tree::{StabBuilder, StabRows};
-use layer_kinds::{First, Has, Indexes, KindLayer, LayerIndex};
-use map_questions::{AnyQuestion, Stab, StabCount};
+use layer_kinds::{AskFault, Has, Indexes, KindLayer, LayerIndex};
+use map_layers::{Answered, AnsweringIndexes, NamedIndexes, OverSegments};
+use map_questions::{SegmentQuestion, Stab, StabCount};
 use map_shapes::{IndexSet, QuestionCost, Segment, Shape};
 use query_laws::NoMemory;
 use query_laws::step_ledger::Steps;
@@ -21,7 +21,7 @@ pub struct SegmentIndexes {
 }
 
 impl Indexes for SegmentIndexes {
-    ghost use Rattle.map_layers.specs.IndexesLaws.{segments-low};
+    ghost use Rattle.map_indexes.specs.IndexesLaws.{segments-low};
 
     type Item = Segment;
 
@@ -54,7 +54,7 @@ impl Indexes for SegmentIndexes {
     ghost low = { λ s. segments-low s.index };
 }
 
-impl Has<StabRows, First> for SegmentIndexes {
+impl Has<StabRows> for SegmentIndexes {
     ghost index = { λ s. s.index };
 
     fn index(&self) -> &LayerIndex<StabBuilder> {
@@ -65,8 +65,8 @@ impl Has<StabRows, First> for SegmentIndexes {
 }
 
 impl NamedIndexes for SegmentIndexes {
-    ghost use Rattle.map_layers.specs.Layer.{segments_held};
-    ghost use Rattle.map_layers.specs.IndexesLaws.{segments-by_rates, segments-counted};
+    ghost use Rattle.map_indexes.specs.Held.{segments_held};
+    ghost use Rattle.map_indexes.specs.IndexesLaws.{segments-by_rates, segments-counted};
 
     ghost held = { λ s. segments_held s.index };
 
@@ -100,27 +100,20 @@ impl OverSegments for SegmentIndexes {
     ghost segments = { refl };
 }
 
-impl AnsweringIndexes for SegmentIndexes {
+impl AnsweringIndexes<SegmentQuestion> for SegmentIndexes {
     fn ask<L: Ledger>(
         layer: &KindLayer<SegmentIndexes>,
         alloc: Global,
-        question: &AnyQuestion,
+        question: &SegmentQuestion,
         steps: &mut Steps<L>,
     ) -> Result<(Answered, QuestionCost), AskFault> {
         match question {
-            AnyQuestion::Stab(stab) => {
-                ask_of::<StabRows, First, SegmentIndexes, Stab, L>(layer, alloc, stab, steps)
+            SegmentQuestion::Stab(stab) => {
+                ask_of::<StabRows, SegmentIndexes, Stab, L>(layer, alloc, stab, steps)
             }
-            AnyQuestion::StabCount(stab) => {
-                ask_of::<StabRows, First, SegmentIndexes, StabCount, L>(layer, alloc, stab, steps)
+            SegmentQuestion::StabCount(stab) => {
+                ask_of::<StabRows, SegmentIndexes, StabCount, L>(layer, alloc, stab, steps)
             }
-            AnyQuestion::CountIn(_) => Err(AskFault::WrongKind),
-            AnyQuestion::SumIn(_) => Err(AskFault::WrongKind),
-            AnyQuestion::ListIn(_) => Err(AskFault::WrongKind),
-            AnyQuestion::Near(_) => Err(AskFault::WrongKind),
-            AnyQuestion::NearK(_) => Err(AskFault::WrongKind),
-            AnyQuestion::Above(_) => Err(AskFault::WrongKind),
-            AnyQuestion::Top(_) => Err(AskFault::WrongKind),
         }
     }
 }

@@ -6,7 +6,8 @@ use Rattle.layer_kinds.specs.Indexing.{rates_of}
 use Rattle.layer_kinds.specs.Shares.{Rate, Rates, IsLow, AreLow, count_of}
 use Rattle.layer_kinds.specs.SharesLaws.{AreLow-one, AreLow-both}
 use Rattle.map_model.specs.Index.{IndexSet, no_indexes, index_count}
-use Rattle.map_layers.specs.Layer.{points_held, segments_held, set_of}
+use Rattle.map_layers.specs.Layer.{set_of}
+use Rattle.map_indexes.specs.Held.{points_held, segments_held}
 
 abbrev points_by : Rates → IndexSet
 points_by (a ∷ b ∷ c ∷ rest) = record no_indexes { range = is_some a; near = is_some b; top = is_some c }
@@ -56,7 +57,7 @@ module _ {P I : Type 0} (r : Rate) where
   segments-counted None = refl
   segments-counted (Some a) = refl
 
--- ---- the kinds of the map
+-- ---- the structures of the map
 
 abbrev rate : Rate
 rate = record { slope = 4; base = 12 }
