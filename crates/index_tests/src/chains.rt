@@ -1,46 +1,41 @@
-//! A chain of three items, walked both ways, and a place that is used again.
+//! A chain of three items, of which the middle one goes and another comes.
+use crate::item::Pair;
 use id_chain::{Chain, Handle};
 use query_laws::NoMemory;
+use std::process::Abort;
 use std::test::Fail;
 
-fn add<I: Copy>(chain: &mut Chain<I>, item: I) -> Result<Handle, NoMemory> {
+fn add(chain: &mut Chain<Pair>, stamp: u64) -> Result<Handle, NoMemory> {
     chain.reserve(1)?;
-    Ok(chain.append(item))
-}
-
-#[test]
-fn uses_a_place_again(rt: HostRuntime) -> Result<(), Fail> {
-    let mut chain = Chain::new(rt.alloc());
-    let first = add(&mut chain, 'A')?;
-    assert!(rt; chain.has(first));
-    assert_eq!(rt; chain.unlink(first), 'A');
-    assert!(rt; chain.is_empty() && chain.spare() > 0);
-    assert_eq!(rt; add(&mut chain, 'B')?, first);
-    Ok(())
+    Ok(chain.append(Pair::new(1, 2, stamp)))
 }
 
 /// What stands after and before an item that is there.
-fn beside(chain: &Chain<char>, handle: Handle) -> Option<(Option<Handle>, Option<Handle>)> {
-    if !chain.has(handle) {
-        return None;
-    }
-    Some((chain.next(handle), chain.prev(handle)))
+fn beside(
+    chain: &Chain<Pair>,
+    handle: Handle,
+    rt: &impl Abort,
+) -> (Option<Handle>, Option<Handle>) {
+    assert!(rt; chain.has(handle));
+    (chain.next(handle), chain.prev(handle))
 }
 
 #[test]
 fn walks_both_ways(rt: HostRuntime) -> Result<(), Fail> {
     let mut chain = Chain::new(rt.alloc());
-    let a = add(&mut chain, 'A')?;
-    let b = add(&mut chain, 'B')?;
-    let c = add(&mut chain, 'C')?;
+    let a = add(&mut chain, 0)?;
+    let b = add(&mut chain, 1)?;
+    let c = add(&mut chain, 2)?;
+    assert!(rt; chain.has(b));
+    assert_eq!(rt; (chain.item(b).stamp, chain.unlink(b).stamp), (1, 1));
+    assert!(rt; chain.spare() > 0 && !chain.is_empty());
+    let d = add(&mut chain, 3)?;
+    assert_eq!(rt; d, b);
     assert_eq!(rt;
         (chain.first(), chain.last(), chain.len()),
-        (Some(a), Some(c), 3)
+        (Some(a), Some(d), 3)
     );
-    assert_eq!(rt; beside(&chain, b), Some((Some(c), Some(a))));
-    assert!(rt; chain.has(b));
-    assert_eq!(rt; (chain.item(b), chain.unlink(b)), ('B', 'B'));
-    assert_eq!(rt; beside(&chain, a), Some((Some(c), None)));
-    assert_eq!(rt; beside(&chain, c), Some((None, Some(a))));
+    assert_eq!(rt; beside(&chain, a, &rt), (Some(c), None));
+    assert_eq!(rt; beside(&chain, d, &rt), (None, Some(c)));
     Ok(())
 }

@@ -1,9 +1,9 @@
-//! Two numbers and a stamp.
+//! Two numbers, of which the first is the identifier, and a stamp.
 ghost use Rattle.std.specs.Prelude.{◌≡◌};
 ghost use Rattle.query_laws.specs.Orders.{before_in};
 ghost use Rattle.query_laws.specs.OrderLaws.{IsStrictTotalOrder-before_in};
 
-use query_laws::{Item, Order};
+use query_laws::{Item, Named, Order};
 
 #[derive(Clone, Copy)]
 pub struct Pair {
@@ -42,4 +42,12 @@ impl Item for Pair {
     }
 
     ghost ordered = { λ order. IsStrictTotalOrder-before_in (λ pair. pair.x) (λ pair. pair.y) (λ pair. pair.stamp) order };
+}
+
+impl Named for Pair {
+    ghost id = { λ pair. pair.x };
+
+    fn id(&self) -> u64 {
+        u64::from(self.x)
+    }
 }

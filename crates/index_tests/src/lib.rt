@@ -1,6 +1,6 @@
-//! Tests of what an index is made of: live places, parts, merges, constructions, stacks, chains and directories.
+//! Tests of what an index is made of: parts, merges, constructions, stacks, chains and directories.
 //!
-//! They call these crates as any user would. A crate with tests of its own is proved twice, so they stand here together.
+//! They call these crates as any user would, all over one kind of part. A crate with tests of its own is proved twice, so they stand here together.
 #![tactic(auto)]
 
 #[cfg(test)]
@@ -10,17 +10,13 @@ mod constructions;
 #[cfg(test)]
 mod directories;
 #[cfg(test)]
-mod flat_parts;
-#[cfg(test)]
 mod item;
-#[cfg(test)]
-mod live_places;
 #[cfg(test)]
 mod merges;
 #[cfg(test)]
 mod pairs;
 #[cfg(test)]
-mod range_parts;
+mod rows;
 #[cfg(test)]
 mod stacks;
 #[cfg(test)]

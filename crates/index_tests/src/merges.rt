@@ -3,17 +3,13 @@ ghost use Rattle.std.specs.Prelude.{◌≡◌, ◌≢◌, ◌<◌, false, length
 ghost use Rattle.builder_trait.specs.Parts.{IsPart};
 ghost use Rattle.ordered_merge.specs.Merging.{MergesInto};
 
-use crate::item::Pair;
 use crate::pairs::sealed;
-use builder_trait::flat::FlatBuilder;
 use builder_trait::{Builder, Part, Profiled, part_of_one};
 use ordered_merge::Merge;
-use query_laws::step_ledger::{SHARES, Steps, blank};
+use query_laws::step_ledger::Steps;
 use query_laws::{Item, NoMemory, Order};
 use std::alloc::Global;
-use std::marker::Brand;
-use std::sync::ledger::{Blank, Ledger};
-use std::test::Fail;
+use std::sync::ledger::Ledger;
 
 /// Takes all turns of a merge: whether the first order had passed an item after the first of them, and whether all was done after the others.
 fn run<B: Builder, L: Ledger>(
@@ -37,28 +33,6 @@ fn run<B: Builder, L: Ledger>(
     [passed, merge.done()]
 }
 
-/// The parts of two items, merged: the turns left at the beginning, and once the merge is cleared; whether the first order had passed the
-/// first item after a turn, and whether all was done after the others; and the part of both.
-fn merged<B: Builder, L: Ledger>(
-    alloc: Global,
-    low: B::Item,
-    high: B::Item,
-    steps: &mut Steps<L>,
-) -> Result<([u64; 2], [bool; 2], B::Part), NoMemory>
-    requires { B.Item.stamp low ≢ B.Item.stamp high }
-{
-    let a: B::Part = part_of_one(B::room(alloc, 0)?, low, steps);
-    let b: B::Part = part_of_one(B::room(alloc, 0)?, high, steps);
-    let mut merge = Merge::<B>::room(alloc, 1)?;
-    let mut builder = B::room(alloc, 1)?;
-    merge.begin(&a, &b);
-    let left = merge.left();
-    let passed_and_done = run(&mut merge, &a, &b, &mut builder, &low, steps);
-    merge.clear();
-    let (_turns, part) = sealed(builder, steps);
-    Ok(([left, merge.left()], passed_and_done, part))
-}
-
 /// Adds the stamps of a part in an order.
 fn add_stamps<P: Part, L: Ledger>(
     stamps: &mut Vec<u64>,
@@ -72,52 +46,28 @@ fn add_stamps<P: Part, L: Ledger>(
     Ok(())
 }
 
-/// What a merge of two items told, and the stamps of its part in the first order and then in the second.
-#[derive(Drop)]
-struct Seen {
-    left: [u64; 2],
-    passed_and_done: [bool; 2],
-    stamps: Vec<u64>,
-}
-
-fn merge_seen<B: Builder, L: Ledger>(
+/// The parts of two items, merged: the turns left at the beginning, and once the merge is cleared; whether the first order had passed the
+/// first item after a turn, and whether all was done after the others; and the stamps of the part of both, in the first order and then in the
+/// second.
+pub fn merged<B: Builder, L: Ledger>(
     alloc: Global,
     low: B::Item,
     high: B::Item,
-    blank: Blank,
-) -> Result<Seen, NoMemory>
-    requires name { blank.name ≡ L.name }
-    requires parts { blank.parts ≡ L.parts }
-    requires shares { blank.parts ≡ SHARES }
-    requires apart { B.Item.stamp low ≢ B.Item.stamp high }
+    steps: &mut Steps<L>,
+) -> Result<([u64; 2], [bool; 2], Vec<u64>), NoMemory>
+    requires { B.Item.stamp low ≢ B.Item.stamp high }
 {
-    let mut steps = Steps::<L>::new(blank);
-    let (left, passed_and_done, part) = merged::<B, L>(alloc, low, high, &mut steps)?;
+    let a: B::Part = part_of_one(B::room(alloc, 0)?, low, steps);
+    let b: B::Part = part_of_one(B::room(alloc, 0)?, high, steps);
+    let mut merge = Merge::<B>::room(alloc, 1)?;
+    let mut builder = B::room(alloc, 1)?;
+    merge.begin(&a, &b);
+    let left = merge.left();
+    let passed_and_done = run(&mut merge, &a, &b, &mut builder, &low, steps);
+    merge.clear();
+    let (_turns, part) = sealed(builder, steps);
     let mut stamps = Vec::new(alloc);
-    add_stamps(&mut stamps, Order::First, &part, &mut steps)?;
-    add_stamps(&mut stamps, Order::Second, &part, &mut steps)?;
-    Ok(Seen {
-        left,
-        passed_and_done,
-        stamps,
-    })
-}
-
-#[test]
-fn merges_two_items(rt: HostRuntime) -> Result<(), Fail> {
-    let low = Pair {
-        x: 1,
-        y: 4,
-        stamp: 7,
-    };
-    let high = Pair {
-        x: 2,
-        y: 3,
-        stamp: 9,
-    };
-    let seen = merge_seen::<FlatBuilder<Pair>, Brand>(rt.alloc(), low, high, blank())?;
-    let told = (seen.left, seen.passed_and_done);
-    assert_eq!(rt; told, ([4, 0], [true, true]));
-    assert_eq!(rt; seen.stamps.as_slice(), [7, 9, 9, 7].as_slice());
-    Ok(())
+    add_stamps(&mut stamps, Order::First, &part, steps)?;
+    add_stamps(&mut stamps, Order::Second, &part, steps)?;
+    Ok(([left, merge.left()], passed_and_done, stamps))
 }

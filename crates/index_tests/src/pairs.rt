@@ -1,16 +1,16 @@
-//! A part of two items.
-ghost use Rattle.std.specs.Prelude.{◌≡◌, [], ◌∷◌, true, false, IsTrue, IfOk, length};
+//! A part of two items, and a part of one on its memory.
+ghost use Rattle.std.specs.Prelude.{◌≡◌, ◌≢◌, [], ◌∷◌, true, false, IsTrue, IfOk, length};
 ghost use Rattle.query_laws.specs.declared.item.Order.TheVariants.{First, Second};
 ghost use Rattle.builder_trait.specs.Builders.{all_live};
 
-use builder_trait::Builder;
+use builder_trait::{Builder, Part, part_of_one};
 use query_laws::step_ledger::Steps;
 use query_laws::{Item, NoMemory, Order};
 use std::alloc::Global;
 use std::sync::ledger::Ledger;
 
 /// A builder to which two items are put in the first order.
-pub fn put_first<B: Builder, L: Ledger>(
+fn put_first<B: Builder, L: Ledger>(
     alloc: Global,
     low: B::Item,
     high: B::Item,
@@ -44,6 +44,29 @@ pub fn sealed<B: Builder, L: Ledger>(mut builder: B, steps: &mut Steps<L>) -> (u
     (left, builder.finish())
 }
 
+/// A part of two items that rise in both orders, and how many turns were left after the seal.
+fn pair<B: Builder, L: Ledger>(
+    alloc: Global,
+    low: B::Item,
+    high: B::Item,
+    steps: &mut Steps<L>,
+) -> Result<(u64, B::Part), NoMemory>
+    requires rising { IsTrue (B.Item.before First low high) }
+    requires rising_reordered { IsTrue (B.Item.before Second low high) }
+    ensures { IfOk result (λ made. B.Part.Part.contents made.1 ≡ record {
+      items = low ∷ high ∷ [];
+      flags = true ∷ true ∷ [];
+      reordered = low ∷ high ∷ [];
+      places = 0 ∷ 1 ∷ [];
+      at_level = 1;
+    }) }
+{
+    let mut builder = put_first::<B, L>(alloc, low, high, steps)?;
+    builder.put(Order::Second, low, 0, steps);
+    builder.put(Order::Second, high, 1, steps);
+    Ok(sealed(builder, steps))
+}
+
 /// A part of two items that rise in both orders.
 pub fn rising_pair<B: Builder, L: Ledger>(
     alloc: Global,
@@ -65,4 +88,25 @@ pub fn rising_pair<B: Builder, L: Ledger>(
     builder.put(Order::Second, low, 0, steps);
     builder.put(Order::Second, high, 1, steps);
     Ok(sealed(builder, steps).1)
+}
+
+/// A part of two items, the first of which is marked: the turns left after the seal, all turns and marks, whether it was live, how many items are
+/// live, and how many a part of the second has, on the same memory.
+pub fn marked<B: Builder, L: Ledger>(
+    alloc: Global,
+    low: B::Item,
+    high: B::Item,
+    steps: &mut Steps<L>,
+) -> Result<([u64; 3], bool, [usize; 2]), NoMemory>
+    requires rising { IsTrue (B.Item.before First low high) }
+    requires rising_reordered { IsTrue (B.Item.before Second low high) }
+    requires apart { B.Item.stamp low ≢ B.Item.stamp high }
+{
+    steps.start_lap();
+    let (left, mut part) = pair::<B, L>(alloc, low, high, steps)?;
+    let was_live = part.mark(&low, steps);
+    let counted = [left, steps.lap_turns(), steps.lap_marks()];
+    let live = part.live();
+    let single = part_of_one(B::recycle(part), high, steps).len();
+    Ok((counted, was_live, [live, single]))
 }

@@ -3,15 +3,13 @@ ghost use Rattle.std.specs.Prelude.{◌≡◌, ◌<◌, ◌≤◌, ◌^◌, [], 
 ghost use Rattle.log_levels.specs.Levels.{weight_of, live_items};
 
 use crate::item::Pair;
-use builder_trait::flat::FlatBuilder;
-use builder_trait::{Builder, Part};
+use crate::sums::SumOfX;
+use builder_trait::{Answers, Asking, Builder, Part};
 use log_method::{Retired, Stack};
 use query_laws::NoMemory;
-use query_laws::step_ledger::{SHARES, Steps, blank};
+use query_laws::step_ledger::Steps;
 use std::alloc::Global;
-use std::marker::Brand;
-use std::sync::ledger::{Blank, Ledger};
-use std::test::Fail;
+use std::sync::ledger::Ledger;
 
 /// The item with a stamp.
 fn pair(stamp: u64) -> Pair
@@ -56,17 +54,25 @@ fn filled<B: Builder<Item = Pair>, L: Ledger>(
     Ok(stack)
 }
 
-/// The numbers of parts and the weights after each of twelve inserts.
-fn traced<B: Builder<Item = Pair>, L: Ledger>(
+/// The numbers of parts and the weights after each of twelve inserts; then the sum of `x`, the parts consulted, and their live items.
+pub fn traced<B: Builder<Item = Pair>, L: Ledger>(
     alloc: Global,
     steps: &mut Steps<L>,
-) -> Result<Vec<(u32, u64)>, NoMemory> {
+) -> Result<(Vec<(u32, u64)>, u64, u32, u128), NoMemory>
+where
+    B::Part: Answers<SumOfX>,
+{
     let mut stack = Stack::<B>::new(alloc);
-    insert_up_to(alloc, &mut stack, 12, steps)
+    let seen = insert_up_to(alloc, &mut stack, 12, steps)?;
+    let mut asking = Asking::<B::Part, SumOfX>::new(alloc, &SumOfX);
+    stack.ask(&mut asking, steps)?;
+    let given = asking.finish()?;
+    let (consulted, live) = (given.consulted(), given.live());
+    Ok((seen, given.into_answer(), consulted, live))
 }
 
 /// Five inserts, and the first item is deleted: the weight, the live items, the parts, the levels and the spare after that.
-fn deleted<B: Builder<Item = Pair>, L: Ledger>(
+pub fn deleted<B: Builder<Item = Pair>, L: Ledger>(
     alloc: Global,
     steps: &mut Steps<L>,
 ) -> Result<(u64, u64, u32, u32, u32), NoMemory> {
@@ -96,7 +102,7 @@ fn prepared<B: Builder<Item = Pair>, L: Ledger>(
 }
 
 /// The same after five, six and nine inserts.
-fn prepared_thrice<B: Builder<Item = Pair>, L: Ledger>(
+pub fn prepared_thrice<B: Builder<Item = Pair>, L: Ledger>(
     alloc: Global,
     steps: &mut Steps<L>,
 ) -> Result<[(u64, u32); 3], NoMemory> {
@@ -118,7 +124,7 @@ fn take_all<B: Builder<Item = Pair>>(stack: &mut Stack<B>, retired: &mut Retired
 
 /// A stack of twelve items is retired, and taken over by one of five that is prepared, in as many updates as it has parts in memory:
 /// their number, how many are left, and the kept builders, the rooms, the parts and the spare after it.
-fn retired<B: Builder<Item = Pair>, L: Ledger>(
+pub fn retired<B: Builder<Item = Pair>, L: Ledger>(
     alloc: Global,
     steps: &mut Steps<L>,
 ) -> Result<(usize, usize, u64, u64, u32, u32), NoMemory> {
@@ -135,58 +141,4 @@ fn retired<B: Builder<Item = Pair>, L: Ledger>(
         stack.parts(),
         stack.spare(),
     ))
-}
-
-/// What all these tell of stacks of the same kind of part.
-#[derive(Drop)]
-struct Findings {
-    traced: Vec<(u32, u64)>,
-    deleted: (u64, u64, u32, u32, u32),
-    retired: (usize, usize, u64, u64, u32, u32),
-    prepared: [(u64, u32); 3],
-}
-
-fn seen<B: Builder<Item = Pair>, L: Ledger>(
-    alloc: Global,
-    blank: Blank,
-) -> Result<Findings, NoMemory>
-    requires name { blank.name ≡ L.name }
-    requires parts { blank.parts ≡ L.parts }
-    requires shares { blank.parts ≡ SHARES }
-{
-    let mut steps = Steps::<L>::new(blank);
-    Ok(Findings {
-        traced: traced::<B, L>(alloc, &mut steps)?,
-        deleted: deleted::<B, L>(alloc, &mut steps)?,
-        retired: retired::<B, L>(alloc, &mut steps)?,
-        prepared: prepared_thrice::<B, L>(alloc, &mut steps)?,
-    })
-}
-
-/// What is retired and kept was worked out by a model of the clocks: of the twelve parts two are under construction, and four find no
-/// place.
-#[test]
-fn keeps_parts_by_level(rt: HostRuntime) -> Result<(), Fail> {
-    let seen = seen::<FlatBuilder<Pair>, Brand>(rt.alloc(), blank())?;
-    let traced = [
-        (1, 1),
-        (2, 2),
-        (2, 3),
-        (3, 4),
-        (3, 5),
-        (4, 6),
-        (4, 7),
-        (4, 8),
-        (4, 9),
-        (5, 10),
-        (5, 11),
-        (5, 12),
-    ];
-    assert_eq!(rt; seen.traced.as_slice(), traced.as_slice());
-    assert_eq!(rt; seen.deleted, (5, 4, 3, 3, 1));
-    assert_eq!(rt; seen.retired, (12, 0, 18, 8, 3, 2));
-    let [five, six, nine] = seen.prepared;
-    assert!(rt; five.0 <= 8 && six.0 <= 16 && nine.0 <= 8);
-    assert_eq!(rt; (five.1, six.1, nine.1), (2, 2, 2));
-    Ok(())
 }

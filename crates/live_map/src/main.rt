@@ -1,4 +1,7 @@
 //! Livemap: a live map index. It reads a script from its standard input and writes the answer to each line.
+//!
+//! `main` has no contract. It joins the arguments, the standard streams and [`end`], whose contract has the words, the run and the
+//! status.
 #![tactic(auto)]
 
 use map_io::{StdSink, StdSource};

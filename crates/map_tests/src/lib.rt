@@ -1,7 +1,5 @@
-//! Tests of the indexes of a layer.
+//! A test of the memory of a layer.
 #![tactic(auto)]
 
-#[cfg(test)]
-mod indexes;
 #[cfg(test)]
 mod memory;

@@ -1,17 +1,17 @@
-//! Updates whose commits get no memory, and late ones whose preparations get none either.
+//! Updates of a layer whose commits get no memory, and late ones whose preparations get none either.
 //!
 //! By itself the test shows little: `tools/refusals` runs it over an allocator that refuses all memory between two marks.
-ghost use Rattle.std.specs.Prelude.{◌≡◌};
+ghost use Rattle.std.specs.Prelude.{◌≡◌, ◌+◌, ◌<◌, ◌≤◌, ◌^◌};
 
-use crate::indexes::{Flat, change};
+use builder_trait::flat::FlatBuilder;
 use id_chain::{Chain, Handle};
-use layer_kinds::{Indexes, KindLayer, UpdateFault};
-use map_shapes::{Name, Point};
+use layer_kinds::{Indexes, KindLayer, LayerIndex, UpdateFault};
+use map_shapes::{Name, Point, Spent};
 use query_laws::NoMemory;
-use query_laws::step_ledger::{Steps, blank};
+use query_laws::step_ledger::{SHARES, Steps, blank};
 use std::alloc::Global;
 use std::marker::Brand;
-use std::sync::ledger::Ledger;
+use std::sync::ledger::{Blank, Ledger};
 
 /// The marks: memory of a size that nothing else asks for. From the first on all other memory is refused, up to the second.
 const REFUSE: usize = 4099;
@@ -73,6 +73,33 @@ impl<X: Indexes> Indexes for Unfed<X> {
     ghost low = { λ s. X.low s.indexes };
 }
 
+/// Adds a point of a weight, or drops one where the weight is 0.
+fn change<X: Indexes<Item = Point>, L: Ledger>(
+    layer: &mut KindLayer<X>,
+    id: u64,
+    w: u16,
+    blank: Blank,
+) -> Result<Spent, UpdateFault>
+    requires few { layer.old.adds < 2 ^ 62 }
+    requires name { blank.name ≡ L.name }
+    requires parts { blank.parts ≡ L.parts }
+    requires shares { blank.parts ≡ SHARES }
+    ensures adds { layer.new.adds ≤ layer.old.adds + 1 }
+{
+    let mut steps = Steps::<L>::new(blank);
+    if w == 0 {
+        return layer.remove(id, &mut steps);
+    }
+    let point = Point {
+        id,
+        x: 1,
+        y: 2,
+        w: u32::from(w),
+        stamp: 0,
+    };
+    layer.add(point, &mut steps)
+}
+
 /// Adds so many points, and drops the oldest where more than some are kept. Gives how many there are then.
 fn updated<X: Indexes<Item = Point>>(
     layer: KindLayer<X>,
@@ -101,7 +128,7 @@ fn what_is_prepared_is_enough(rt: HostRuntime) {
     for (adds, kept, fed) in [(200, 8, u64::MAX), (560, 560, 440)] {
         let indexes = Unfed {
             alloc,
-            indexes: Flat::new(alloc, true),
+            indexes: LayerIndex::<FlatBuilder<Point>>::new(alloc, true),
             fed,
         };
         let layer = KindLayer::new(alloc, name, indexes);

@@ -1,134 +1,76 @@
-//! Sources and sinks that fail.
-ghost use Rattle.std.specs.Prelude.{◌≤◌};
-
-use crate::over_memory::{PIECES, Plan, WHOLE, run_script};
+//! Sources and sinks that fail, and how much is left of the source then.
+use crate::over_memory::{Plan, WHOLE, run_words};
 use crate::scripts::{CORNERS, CORNERS_ANSWERED};
 use program_run::Status;
 use std::alloc::{AllocError, Global};
 use std::test::Fail;
 
-/// A script's lines, with their line feeds, and their answers.
-const TEN: [(&[u8], &[u8]); 10] = [
-    (b"layer a points range\n", b"ok\n"),
-    (b"add a 1 0 0 1\n", b"ok\n"),
-    (b"# a remark\n", b""),
-    (b"add a 2 9 9 1\n", b"ok\n"),
-    (b"add a 1 3 3 3\n", b"no duplicate 1\n"),
-    (b"count a 0 0 9 9\n", b"count 2\n"),
-    (b"\n", b""),
-    (b"count b 0 0 9 9\n", b"no layer\n"),
-    (b"drop a 1\n", b"ok\n"),
-    (b"count a 0 0 9 9", b"count 1\n"),
-];
-
-fn ten_lines(alloc: Global) -> Result<Vec<u8>, AllocError> {
-    let mut script = Vec::new(alloc);
-    for (line, _) in TEN {
-        script.extend_from_slice(line)?;
-    }
-    Ok(script)
-}
-
-/// The answers to the lines that a line feed ended in the first bytes of the script.
-fn answers_within(alloc: Global, taken: usize) -> Result<Vec<u8>, AllocError> {
-    let mut answers = Vec::new(alloc);
-    let mut end = 0usize;
-    for (line, answer) in TEN {
-        end = end.saturating_add(line.len());
-        if end <= taken && line.ends_with(b"\n") {
-            answers.extend_from_slice(answer)?;
-        }
-    }
-    Ok(answers)
-}
-
-/// The answers as far as this many calls of a sink take them.
-fn answers_by_calls(alloc: Global, piece: usize, calls: u64) -> Result<Vec<u8>, AllocError>
-    requires { 1 ≤ piece }
-{
-    let mut written = Vec::new(alloc);
-    let mut left = calls;
-    for (_, answer) in TEN {
-        for chunk in answer.chunks(piece) {
-            if left > 0 {
-                written.extend_from_slice(chunk)?;
-                left -= 1;
-            }
-        }
-    }
-    Ok(written)
-}
-
+/// Each number of bytes that a sink takes before it fails; and a source that fails in the fourth line: 90 bytes are taken, and the line is
+/// bytes 86 to 119.
 #[test]
-fn a_failing_source_leaves_the_whole_lines(rt: HostRuntime) -> Result<(), Fail> {
-    let alloc = rt.alloc();
-    let script = ten_lines(alloc)?;
-    for piece in PIECES {
-        // One read for each piece, and one at the end.
-        let reads = script.len().div_ceil(piece) as u64;
-        for failing in 1..=reads.saturating_add(1) {
-            let taken = piece.saturating_mul(failing as usize - 1).min(script.len());
-            let (status, written) = run_script(alloc, &script, Plan { piece, failing }, WHOLE)?;
-            assert_eq!(rt; status, Status::ReadFault, "call {failing} at {piece}");
-            assert_eq!(rt;
-                written.as_slice(),
-                answers_within(alloc, taken)?.as_slice(),
-                "call {failing} at {piece}"
-            );
-        }
-    }
-    Ok(())
-}
-
-#[test]
-fn a_failing_sink_keeps_the_front(rt: HostRuntime) -> Result<(), Fail> {
-    let alloc = rt.alloc();
-    let script = ten_lines(alloc)?;
-    let whole = answers_by_calls(alloc, 4096, u64::MAX)?;
-    for piece in PIECES {
-        for failing in 1..=100u64 {
-            let front = answers_by_calls(alloc, piece, failing - 1)?;
-            let wanted = if front.len() < whole.len() {
-                Status::WriteFault
-            } else {
-                Status::Refusals
-            };
-            let (status, written) = run_script(alloc, &script, WHOLE, Plan { piece, failing })?;
-            assert_eq!(rt; status, wanted, "call {failing} at {piece}");
-            assert_eq!(rt;
-                written.as_slice(),
-                front.as_slice(),
-                "call {failing} at {piece}"
-            );
-        }
-    }
-    Ok(())
-}
-
-// 90 bytes are taken: the fourth line is bytes 86 to 118.
-#[test]
-fn a_source_fails_in_the_fourth_line(rt: HostRuntime) -> Result<(), Fail> {
+fn faults_leave_a_front(rt: HostRuntime) -> Result<(), Fail> {
     let reads = Plan {
         piece: 30,
         failing: 4,
     };
-    let (status, written) = run_script(rt.alloc(), CORNERS, reads, WHOLE)?;
-    assert_eq!(rt; status, Status::ReadFault);
-    assert_eq!(rt; status.code(), 3);
-    assert_eq!(rt; written.as_slice(), b"ok\nok\nok\n".as_slice());
+    let ran = run_words(rt.alloc(), &[], CORNERS, reads, WHOLE, 64)?;
+    assert_eq!(rt; (ran.status, ran.status.code()), (Status::ReadFault, 3));
+    assert_eq!(rt; ran.written.as_slice(), b"ok\nok\nok\n".as_slice());
+
+    // The answers have 32 bytes.
+    for failing in 1..=32u64 {
+        let ran = run_words(
+            rt.alloc(),
+            &[],
+            CORNERS,
+            WHOLE,
+            Plan { piece: 1, failing },
+            64,
+        )?;
+        let front = CORNERS_ANSWERED.as_bytes().get(..failing as usize - 1);
+        assert_eq!(rt; ran.status, Status::WriteFault, "call {failing}");
+        assert_eq!(rt; Some(ran.written.as_slice()), front, "call {failing}");
+    }
     Ok(())
 }
 
-// The answers have 32 bytes.
+/// A layer and 1,000 lines: 7,021 bytes.
+fn thousand_sizes(alloc: Global) -> Result<Vec<u8>, AllocError> {
+    let mut script = Vec::from_slice(alloc, b"layer a points range\n")?;
+    for _ in 0..1000u32 {
+        script.extend_from_slice(b"size a\n")?;
+    }
+    Ok(script)
+}
+
+/// Pieces of a source, calls of a sink that fail, and the bytes that are left then. The layer's answer and 582 sizes are of the first piece of
+/// 4,096 bytes; in pieces of seven each size is one read.
+const LEFT: [(usize, u64, usize); 8] = [
+    (4096, 1, 2925),
+    (4096, 583, 2925),
+    (4096, 584, 0),
+    (7, 1, 7000),
+    (7, 2, 6993),
+    (7, 500, 3507),
+    (7, 1000, 7),
+    (7, 1001, 0),
+];
+
+/// What is read is answered before the next read.
 #[test]
-fn a_sink_fails_at_each_byte(rt: HostRuntime) -> Result<(), Fail> {
-    for failing in 1..=32u64 {
-        let writes = Plan { piece: 1, failing };
-        let (status, written) = run_script(rt.alloc(), CORNERS, WHOLE, writes)?;
-        assert_eq!(rt; status, Status::WriteFault, "call {failing}");
+fn a_line_is_answered_before_the_next_read(rt: HostRuntime) -> Result<(), Fail> {
+    let script = thousand_sizes(rt.alloc())?;
+    for (piece, failing, left) in LEFT {
+        let reads = Plan { piece, failing: 0 };
+        let writes = Plan {
+            piece: 4096,
+            failing,
+        };
+        let ran = run_words(rt.alloc(), &[], &script, reads, writes, 16_384)?;
         assert_eq!(rt;
-            Some(written.as_slice()),
-            CORNERS_ANSWERED.get(..failing as usize - 1)
+            (ran.status, ran.left),
+            (Status::WriteFault, left),
+            "call {failing} in {piece}"
         );
     }
     Ok(())

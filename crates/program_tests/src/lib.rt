@@ -4,13 +4,11 @@
 #![tactic(auto)]
 
 #[cfg(test)]
+mod costs;
+#[cfg(test)]
 mod faults;
 #[cfg(test)]
-mod ledger;
-#[cfg(test)]
 mod limits;
-#[cfg(test)]
-mod lines;
 #[cfg(test)]
 mod made;
 #[cfg(test)]
@@ -18,10 +16,6 @@ mod over_memory;
 #[cfg(test)]
 mod patterns;
 #[cfg(test)]
-mod pieces;
-#[cfg(test)]
 mod scripts;
-#[cfg(test)]
-mod town;
 #[cfg(test)]
 mod words;

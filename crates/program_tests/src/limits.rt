@@ -1,60 +1,89 @@
-//! The longest scripts.
-use crate::lines::comment;
-use crate::over_memory::{WHOLE, run_script};
+//! The longest lines and the longest script.
+use crate::over_memory::{Plan, WHOLE, run_words};
 use program_run::Status;
 use std::alloc::{AllocError, Global};
 use std::test::Fail;
 
-/// 262,144 remarks of 256 bytes, their line feeds included.
-fn longest_script(alloc: Global) -> Result<Vec<u8>, AllocError> {
+/// A line of `len` bytes that is nothing, but for its length: `#` and then `x`.
+fn comment(alloc: Global, len: usize) -> Result<Vec<u8>, AllocError> {
+    let mut line = vec![in alloc; b'x'; len]?;
+    if let Some(first) = line.first_mut() {
+        *first = b'#';
+    }
+    Ok(line)
+}
+
+/// Lengths of lines, the places of a carriage return in them, and whether the line is too long.
+const LONG: [(usize, usize, bool); 13] = [
+    (256, 256, false),
+    (257, 257, true),
+    (255, 254, false),
+    (256, 255, false),
+    (256, 254, false),
+    (257, 256, false),
+    (257, 255, true),
+    (258, 257, true),
+    (258, 256, true),
+    (259, 258, true),
+    (260, 256, true),
+    (300, 256, true),
+    (300, 299, true),
+];
+
+/// A piece ends at each of these places about the end of a line.
+const CUTS: [usize; 6] = [254, 255, 256, 257, 258, 259];
+
+#[test]
+fn lines_have_256_bytes(rt: HostRuntime) -> Result<(), Fail> {
+    for (len, place, is_refused) in LONG {
+        let mut script = comment(rt.alloc(), len)?;
+        if let Some(byte) = script.get_mut(place) {
+            *byte = b'\r';
+        }
+        script.extend_from_slice(b"\nsize a\n")?;
+        let wanted = if is_refused {
+            b"no line\nno layer\n".as_slice()
+        } else {
+            b"no layer\n".as_slice()
+        };
+        for piece in CUTS {
+            let reads = Plan { piece, failing: 0 };
+            let ran = run_words(rt.alloc(), &[], &script, reads, WHOLE, 64)?;
+            assert_eq!(rt; ran.written.as_slice(), wanted, "{len} bytes in {piece}");
+        }
+    }
+    Ok(())
+}
+
+/// 67,108,864 bytes: lines of 256 bytes, their line feeds included, and a last one of as many as are left over after the first so many lines, with
+/// no line feed where that is more.
+fn longest_script(alloc: Global, lines: u32) -> Result<Vec<u8>, AllocError> {
     let mut line = comment(alloc, 255)?;
     line.push(b'\n')?;
     let mut script = Vec::with_capacity(alloc, 67_108_865)?;
-    for _ in 0..262_144u32 {
+    for _ in 0..lines {
         script.extend_from_slice(&line)?;
     }
+    let left = 67_108_864usize.saturating_sub(script.len());
+    script.extend_from_slice(&comment(alloc, left)?)?;
     Ok(script)
 }
 
+/// A script of the greatest length, one with a byte more, and one whose last line no line feed ends, and is longer than a line can be.
 #[test]
-fn a_script_of_64_mebibytes_is_read(rt: HostRuntime) -> Result<(), Fail> {
-    let script = longest_script(rt.alloc())?;
-    let (status, written) = run_script(rt.alloc(), &script, WHOLE, WHOLE)?;
-    assert_eq!(rt; status, Status::Clean);
-    assert!(rt; written.is_empty());
-    Ok(())
-}
-
-/// The longest script, whose last 300 bytes no line feed ends.
-fn longest_unended_script(alloc: Global) -> Result<Vec<u8>, AllocError> {
-    let mut script = longest_script(alloc)?;
-    script.truncate(67_108_864 - 301);
-    script.push(b'\n')?;
-    script.extend_from_slice(&comment(alloc, 300)?)?;
-    Ok(script)
-}
-
-// At the limit the line is the last one; a byte more, and the script is too long.
-#[test]
-fn a_begun_line_may_end_at_the_limit(rt: HostRuntime) -> Result<(), Fail> {
-    let mut script = longest_unended_script(rt.alloc())?;
-    let (status, written) = run_script(rt.alloc(), &script, WHOLE, WHOLE)?;
-    assert_eq!(rt; status, Status::Refusals);
-    assert_eq!(rt; written.as_slice(), b"no line\n".as_slice());
-    script.push(b'x')?;
-    let (status, written) = run_script(rt.alloc(), &script, WHOLE, WHOLE)?;
-    assert_eq!(rt; status, Status::TooLong);
-    assert!(rt; written.is_empty());
-    Ok(())
-}
-
-#[test]
-fn a_longer_script_is_too_long(rt: HostRuntime) -> Result<(), Fail> {
-    let mut script = longest_script(rt.alloc())?;
-    script.push(b'#')?;
-    let (status, written) = run_script(rt.alloc(), &script, WHOLE, WHOLE)?;
-    assert_eq!(rt; status, Status::TooLong);
-    assert_eq!(rt; status.code(), 5);
-    assert!(rt; written.is_empty());
+fn scripts_have_64_mebibytes(rt: HostRuntime) -> Result<(), Fail> {
+    for (lines, is_longer, wanted, status) in [
+        (262_144, false, b"".as_slice(), Status::Clean),
+        (262_144, true, b"", Status::TooLong),
+        (262_142, false, b"no line\n", Status::Refusals),
+    ] {
+        let mut script = longest_script(rt.alloc(), lines)?;
+        if is_longer {
+            script.push(b'#')?;
+        }
+        let ran = run_words(rt.alloc(), &[], &script, WHOLE, WHOLE, 64)?;
+        assert_eq!(rt; (ran.status, ran.written.as_slice()), (status, wanted));
+    }
+    assert_eq!(rt; Status::TooLong.code(), 5);
     Ok(())
 }

@@ -22,11 +22,6 @@ pub const WHOLE: Plan = Plan {
     failing: 0,
 };
 
-pub const BYTEWISE: Plan = Plan {
-    piece: 1,
-    failing: 0,
-};
-
 fn failing_calls(alloc: Global, call: u64) -> Result<Vec<u64>, AllocError>
     ensures rising { IfOk result (λ calls. IsStrictlyIncreasing calls.items) }
     ensures numbered { IfOk result (λ calls. All (λ n. 0 < n) calls.items) }
@@ -38,13 +33,10 @@ fn failing_calls(alloc: Global, call: u64) -> Result<Vec<u64>, AllocError>
     Ok(calls)
 }
 
-/// How a run ended, the lines and refusals of its session and the updates of its layers, what was written, and how many bytes
-/// weren't read.
+/// How a run ended, the updates of its layers, what was written, and how many bytes weren't read.
 #[derive(Drop)]
 pub struct Ran {
     pub status: Status,
-    pub lines: u64,
-    pub refused: u64,
     pub updates: u64,
     pub written: Vec<u8>,
     pub left: usize,
@@ -66,6 +58,15 @@ fn run_once<L: Ledger>(
     run(alloc, words, source, sink, &mut steps)
 }
 
+/// Words on the heap.
+pub fn owned_words(alloc: Global, words: &[&str]) -> Result<Vec<String>, AllocError> {
+    let mut owned = Vec::new(alloc);
+    for word in words {
+        owned.push(String::from_str(alloc, word)?)?;
+    }
+    Ok(owned)
+}
+
 /// A run by words after the program's name, over a script and a sink with so much room.
 pub fn run_words(
     alloc: Global,
@@ -78,56 +79,16 @@ pub fn run_words(
     requires reads { 1 ≤ reads.piece }
     requires writes { 1 ≤ writes.piece }
 {
-    let mut owned = Vec::new(alloc);
-    for word in words {
-        owned.push(String::from_str(alloc, word)?)?;
-    }
+    let owned = owned_words(alloc, words)?;
     let bytes = Vec::from_slice(alloc, script)?;
     let mut source = MemSource::new(bytes, reads.piece, failing_calls(alloc, reads.failing)?);
     let space = vec![in alloc; 0u8; room]?;
     let mut sink = MemSink::new(space, writes.piece, failing_calls(alloc, writes.failing)?);
     let ended = run_once::<Brand>(alloc, &owned, &mut source, &mut sink, blank());
-    let session = &ended.session;
     Ok(Ran {
         status: ended.status,
-        lines: session.lines(),
-        refused: session.refused(),
-        updates: session.layers().updates(),
+        updates: ended.session.layers().updates(),
         written: Vec::from_slice(alloc, sink.written())?,
         left: source.left(),
     })
-}
-
-/// What a script is answered, with its status.
-pub fn run_script(
-    alloc: Global,
-    script: &[u8],
-    reads: Plan,
-    writes: Plan,
-) -> Result<(Status, Vec<u8>), Fail>
-    requires reads { 1 ≤ reads.piece }
-    requires writes { 1 ≤ writes.piece }
-{
-    let ran = run_words(alloc, &[], script, reads, writes, 262_144)?;
-    Ok((ran.status, ran.written))
-}
-
-/// How many bytes a source gives, and a sink takes, at once.
-pub const PIECES: [usize; 3] = [1, 7, 4096];
-
-/// Whether a script is answered so, in pieces of each length.
-pub fn is_answered(
-    alloc: Global,
-    script: &[u8],
-    wanted: &[u8],
-    status: Status,
-) -> Result<bool, Fail> {
-    for piece in PIECES {
-        let plan = Plan { piece, failing: 0 };
-        let (ended, written) = run_script(alloc, script, plan, plan)?;
-        if ended != status || written.as_slice() != wanted {
-            return Ok(false);
-        }
-    }
-    Ok(true)
 }

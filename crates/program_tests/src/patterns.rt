@@ -11,8 +11,12 @@ fn is_word(word: &str, pattern: &str) -> bool {
     }
 }
 
-/// Whether answers are as a pattern has them, word by word.
-pub fn are_answers(answers: &str, pattern: &str) -> bool {
+/// Whether answers are a text, or else as a pattern has them, word by word.
+pub fn are_answers(answers: &[u8], pattern: &str) -> bool {
+    if !pattern.contains("..") {
+        return answers == pattern.as_bytes();
+    }
+    let answers = str::from_utf8(answers).unwrap_or("");
     let gaps = [' ', '/', '\n'];
     answers.split(gaps).count() == pattern.split(gaps).count()
         && answers

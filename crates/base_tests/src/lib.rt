@@ -1,0 +1,13 @@
+//! Tests of what the program is made of, but for its indexes: counted steps, lists, lines, replies, and streams of std.
+#![tactic(auto)]
+
+#[cfg(test)]
+mod lines;
+#[cfg(test)]
+mod lists;
+#[cfg(test)]
+mod replies;
+#[cfg(test)]
+mod steps;
+#[cfg(test)]
+mod streams;

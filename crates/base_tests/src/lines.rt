@@ -1,0 +1,93 @@
+//! A line of each form, and lines that are wrong in each way.
+use script_lang::{Limits, LineFault, parse, parse_number};
+use std::alloc::{AllocError, Global};
+use std::test::Fail;
+
+/// Lines, each with the plain line of its command, nothing where it says nothing, or its first fault.
+const LINES: [(&[u8], Result<&str, LineFault>); 49] = [
+    (
+        b"layer shops points top near range",
+        Ok("layer shops points range near top"),
+    ),
+    (b"layer s segments stab", Ok("layer s segments stab")),
+    (
+        b"add abcdefghijklmnop 18446744073709551615 2147483647 0 7",
+        Ok("add abcdefghijklmnop 18446744073709551615 2147483647 0 7"),
+    ),
+    (b"seg a 7 1 2 3", Ok("seg a 7 1 2 3")),
+    (b"\tdrop  a 007\r", Ok("drop a 7")),
+    (b"count a 1 2 3 4", Ok("count a 1 2 3 4")),
+    (b"sum a 1 2 3 4", Ok("sum a 1 2 3 4")),
+    (b"list a 1 2 3 4", Ok("list a 1 2 3 4")),
+    (b"near a 1 2", Ok("near a 1 2")),
+    (b"nearest a 64 1 2", Ok("nearest a 64 1 2")),
+    (b"above a 1 2 3", Ok("above a 1 2 3")),
+    (b"top a 1 2", Ok("top a 1 2")),
+    (b"stab a 1", Ok("stab a 1")),
+    (b"stabcount a 1", Ok("stabcount a 1")),
+    (
+        b"get a 0000000000018446744073709551615",
+        Ok("get a 18446744073709551615"),
+    ),
+    (b"\tsize a-_Z9\t\r", Ok("size a-_Z9")),
+    (b"recent a 1", Ok("recent a 1")),
+    (b"", Ok("")),
+    (b" ", Ok("")),
+    (b" \t  ", Ok("")),
+    (b"\r", Ok("")),
+    (b"#\xff", Ok("")),
+    (b"\t#\xff add", Ok("")),
+    (b"\0", Err(LineFault::Line)),
+    (b"size a\r\r", Err(LineFault::Line)),
+    (b"size a\x7f", Err(LineFault::Line)),
+    (b"fly \xff", Err(LineFault::Line)),
+    (b"Size a", Err(LineFault::Command)),
+    (b"fly a!", Err(LineFault::Command)),
+    (b"size", Err(LineFault::Fields)),
+    (b"size a! a", Err(LineFault::Fields)),
+    (b"size a a", Err(LineFault::Fields)),
+    (b"layer q points", Err(LineFault::Fields)),
+    (b"size abcdefghijklmnopq", Err(LineFault::Name)),
+    (b"get a! +1", Err(LineFault::Name)),
+    (b"get a +1", Err(LineFault::Number)),
+    (b"get a -1", Err(LineFault::Number)),
+    (
+        b"add a 1 99999999999999999999999999 x 0",
+        Err(LineFault::Number),
+    ),
+    (b"get a 18446744073709551616", Err(LineFault::Range)),
+    (b"nearest a 65 0 0", Err(LineFault::Range)),
+    (b"recent a 0", Err(LineFault::Range)),
+    (b"count a 5 9 4 4294967296", Err(LineFault::Range)),
+    (b"count a 5 9 4 8", Err(LineFault::Order)),
+    (b"seg s 4 9 8 0", Err(LineFault::Order)),
+    (b"layer q lines lines", Err(LineFault::Kind)),
+    (b"layer q points stab", Err(LineFault::Index)),
+    (b"layer b segments range", Err(LineFault::Index)),
+    (b"layer q points range range", Err(LineFault::Index)),
+    (b"top a 9 0", Err(LineFault::Order)),
+];
+
+/// The plain line of a line's command, nothing where it says nothing, or its first fault.
+fn said(alloc: Global, line: &[u8]) -> Result<Result<Vec<u8>, LineFault>, AllocError> {
+    match parse(line) {
+        Ok(Some(command)) => Ok(Ok(command.line(alloc)?)),
+        Ok(None) => Ok(Ok(Vec::new(alloc))),
+        Err(fault) => Ok(Err(fault)),
+    }
+}
+
+#[test]
+fn lines_are_read_and_written(rt: HostRuntime) -> Result<(), Fail> {
+    for (line, wanted) in LINES {
+        let is_so = match (said(rt.alloc(), line)?, wanted) {
+            (Ok(plain), Ok(wanted)) => plain.as_slice() == wanted.as_bytes(),
+            (Err(fault), Err(wanted)) => fault == wanted,
+            _ => false,
+        };
+        assert!(rt; is_so, "{line:?}");
+    }
+    let (least, greatest) = (1, 64);
+    assert_eq!(rt; parse_number(b"064", Limits { least, greatest }), Ok(64));
+    Ok(())
+}

@@ -1,0 +1,92 @@
+//! What parts, merges, constructions and stacks tell, in one run over flat parts.
+//!
+//! The turns, marks and weights are those of worked examples. What a retired stack leaves was worked out by a model of the clocks: of the twelve
+//! parts two are under construction, and four find no place.
+ghost use Rattle.std.specs.Prelude.{◌≡◌};
+
+use crate::constructions::built;
+use crate::item::Pair;
+use crate::merges::merged;
+use crate::pairs::marked;
+use crate::stacks::{deleted, prepared_thrice, retired, traced};
+use crate::sums::SumOfX;
+use builder_trait::flat::FlatBuilder;
+use builder_trait::{Answers, Builder};
+use query_laws::NoMemory;
+use query_laws::step_ledger::{SHARES, Steps, blank};
+use std::alloc::Global;
+use std::marker::Brand;
+use std::sync::ledger::{Blank, Ledger};
+use std::test::Fail;
+
+#[derive(Drop)]
+struct Findings {
+    marked: ([u64; 3], bool, [usize; 2]),
+    merged: ([u64; 2], [bool; 2], Vec<u64>),
+    built: ([u64; 4], [usize; 4], [u64; 5]),
+    traced: (Vec<(u32, u64)>, u64, u32, u128),
+    deleted: (u64, u64, u32, u32, u32),
+    prepared: [(u64, u32); 3],
+    retired: (usize, usize, u64, u64, u32, u32),
+}
+
+fn seen<B: Builder<Item = Pair>, L: Ledger>(
+    alloc: Global,
+    blank: Blank,
+) -> Result<Findings, NoMemory>
+where
+    B::Part: Answers<SumOfX>,
+    requires name { blank.name ≡ L.name }
+    requires parts { blank.parts ≡ L.parts }
+    requires shares { blank.parts ≡ SHARES }
+{
+    let mut steps = Steps::<L>::new(blank);
+    let first = Pair::new(1, 1, 0);
+    let second = Pair::new(2, 2, 2);
+    let third = Pair::new(3, 3, 1);
+    let fourth = Pair::new(4, 4, 3);
+    Ok(Findings {
+        marked: marked::<B, L>(alloc, first, third, &mut steps)?,
+        merged: merged::<B, L>(alloc, Pair::new(1, 4, 7), Pair::new(2, 3, 9), &mut steps)?,
+        built: built::<B, L>(alloc, first, second, third, fourth, &mut steps)?,
+        traced: traced::<B, L>(alloc, &mut steps)?,
+        deleted: deleted::<B, L>(alloc, &mut steps)?,
+        prepared: prepared_thrice::<B, L>(alloc, &mut steps)?,
+        retired: retired::<B, L>(alloc, &mut steps)?,
+    })
+}
+
+#[test]
+fn rows_are_as_worked(rt: HostRuntime) -> Result<(), Fail> {
+    let seen = seen::<FlatBuilder<Pair>, Brand>(rt.alloc(), blank())?;
+    assert_eq!(rt; seen.marked, ([2, 6, 1], true, [1, 1]));
+    assert_eq!(rt; (seen.merged.0, seen.merged.1), ([4, 0], [true, true]));
+    assert_eq!(rt; seen.merged.2.as_slice(), [7, 9, 9, 7].as_slice());
+    assert_eq!(rt;
+        seen.built,
+        ([12, 6, 6, 0], [0, 0, 1, 0], [4, 3, 12, 2, 12])
+    );
+    let wanted = [
+        (1, 1),
+        (2, 2),
+        (2, 3),
+        (3, 4),
+        (3, 5),
+        (4, 6),
+        (4, 7),
+        (4, 8),
+        (4, 9),
+        (5, 10),
+        (5, 11),
+        (5, 12),
+    ];
+    let (ref trace, sum, consulted, live) = seen.traced;
+    assert_eq!(rt; trace.as_slice(), wanted.as_slice());
+    assert_eq!(rt; (sum, consulted, live), (12, 5, 12));
+    assert_eq!(rt; seen.deleted, (5, 4, 3, 3, 1));
+    let [five, six, nine] = seen.prepared;
+    assert!(rt; five.0 <= 8 && six.0 <= 16 && nine.0 <= 8);
+    assert_eq!(rt; (five.1, six.1, nine.1), (2, 2, 2));
+    assert_eq!(rt; seen.retired, (12, 0, 18, 8, 3, 2));
+    Ok(())
+}

@@ -1,8 +1,0 @@
-use Rattle.std.proofs.Common.{◌≤◌, ◌*◌}
-use Rattle.map_tests.proofs.indexes.refused_moves.Given as goal
-
-abbrev pub ghosts-change : goal.ghosts-change
-ghosts-change g a = record { name = a.blank.name; parts = a.blank.parts }
-
-abbrev pub invariant-loop-id : goal.invariant-loop-id
-invariant-loop-id g l = l.layer.adds ≤ 2 * l.id-index
