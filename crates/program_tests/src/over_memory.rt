@@ -3,10 +3,11 @@ ghost use Rattle.std.specs.Prelude.{◌≡◌, ◌<◌, ◌≤◌, All, IfOk};
 ghost use Rattle.std.specs.List.Sorted.{IsStrictlyIncreasing};
 
 use map_io::{MemSink, MemSource};
-use program_run::{Ended, Status, run};
+use program_run::{Ended, Status, end, run};
 use query_laws::step_ledger::{SHARES, Steps, blank};
 use std::alloc::{AllocError, Global};
 use std::marker::Brand;
+use std::process::ExitCode;
 use std::sync::ledger::{Blank, Ledger};
 use std::test::Fail;
 
@@ -65,6 +66,25 @@ pub fn owned_words(alloc: Global, words: &[&str]) -> Result<Vec<String>, AllocEr
         owned.push(String::from_str(alloc, word)?)?;
     }
     Ok(owned)
+}
+
+/// What the program ends with, by its name and words, over a script.
+pub fn exit_of<L: Ledger>(
+    alloc: Global,
+    arguments: &[&str],
+    script: &[u8],
+    blank: Blank,
+) -> Result<ExitCode, Fail>
+    requires name { blank.name ≡ L.name }
+    requires parts { blank.parts ≡ L.parts }
+    requires shares { blank.parts ≡ SHARES }
+{
+    let owned = owned_words(alloc, arguments)?;
+    let bytes = Vec::from_slice(alloc, script)?;
+    let mut source = MemSource::new(bytes, 4096, failing_calls(alloc, 0)?);
+    let space = vec![in alloc; 0u8; 64]?;
+    let mut sink = MemSink::new(space, 4096, failing_calls(alloc, 0)?);
+    Ok(end::<MemSource, MemSink, L>(alloc, Ok(owned), &mut source, &mut sink, blank))
 }
 
 /// A run by words after the program's name, over a script and a sink with so much room.

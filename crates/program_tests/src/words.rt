@@ -1,8 +1,11 @@
 //! The words after the program's name, and what they ask for.
-use crate::over_memory::{Plan, WHOLE, owned_words, run_words};
+use crate::over_memory::{Plan, WHOLE, exit_of, owned_words, run_words};
 use crate::patterns::are_answers;
 use program_run::Status;
 use program_words::{Job, WordsFault, read_words};
+use query_laws::step_ledger::blank;
+use std::marker::Brand;
+use std::process::ExitCode;
 use std::test::Fail;
 
 const TABLE: [(&[&str], Result<Job, WordsFault>); 24] = [
@@ -111,6 +114,23 @@ fn nothing_is_read(rt: HostRuntime) -> Result<(), Fail> {
         assert_eq!(rt; ran.status, status, "{words:?}");
         assert!(rt; are_answers(&ran.written, wanted), "{words:?}");
         assert_eq!(rt; ran.left, 7, "{words:?}");
+    }
+    Ok(())
+}
+
+/// The program's name and words, a script, and what the program ends with.
+const ENDS: [(&[&str], &[u8], u8); 4] = [
+    (&[], b"size a\n", 1),
+    (&["livemap"], b"layer a points range\n", 0),
+    (&["livemap", "--ledger"], b"size a\n", 1),
+    (&["livemap", "x"], b"", 2),
+];
+
+#[test]
+fn the_program_ends_with_a_status(rt: HostRuntime) -> Result<(), Fail> {
+    for (arguments, script, status) in ENDS {
+        let exit = exit_of::<Brand>(rt.alloc(), arguments, script, blank())?;
+        assert_eq!(rt; exit, ExitCode::from(status), "{arguments:?}");
     }
     Ok(())
 }
