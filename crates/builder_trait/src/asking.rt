@@ -1,6 +1,6 @@
 //! A question put to several parts, and its sealed answer.
 ghost use Rattle.std.specs.Prelude.{◌≡◌, ◌+◌, ◌<◌, ◌^◌, false, true, length, IsTrue, IfOk, IsErr, OnErr};
-ghost use Rattle.query_laws.specs.StepLedger.{Spends};
+ghost use Rattle.query_laws.specs.StepLedger.{Consults};
 ghost use Rattle.builder_trait.specs.Parts.{live_of};
 
 use crate::part::{Answers, Part};
@@ -79,8 +79,10 @@ impl<P: Answers<Q>, Q: Question<Item = P::Item>> Asking<P, Q> {
         ensures given_up { OnErr result (self.new ≡ record self.old { so_far = self.new.so_far; is_given_up = true }) }
         ensures refused { IsErr result → IsTrue self.old.refusable }
         ensures lawful { Q.lawful self.old.question self.new.so_far }
-        ensures cost { Spends steps.old steps.new 0 0 (P.ask_touches self.old.question part.now) }
+        ensures consulted { steps.new.consulted ≡ steps.old.consulted + 1 }
+        ensures cost { Consults steps.old steps.new 1 (P.ask_touches self.old.question part.now) }
     {
+        steps.consult();
         match part.ask(&self.question, &mut self.tally, steps) {
             Ok(()) => {
                 self.consulted += 1;

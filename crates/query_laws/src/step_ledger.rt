@@ -1,20 +1,20 @@
 //! The ledger of steps: what work is counted, and the only calls that count it.
 //!
-//! Three things are counted. A turn is one unit of building work. A mark is one attempt to mark an item of a part as dead.
-//! A touch is one read or write of one entry of a [`Row`].
+//! Four things are counted. A turn is one unit of building work. A mark is one attempt to mark an item of a part as dead.
+//! A touch is one read or write of one entry of a [`Row`]. A part is consulted where a question is put to it.
 //!
 //! Time, bytes, the copying and freeing of vectors, the work of std's maps, and reads of anything but a `Row` are not. What a
 //! turn or a mark stands for is the word of the code that counts it.
 //!
 //! Only the calls here raise a count of a [`Steps`]. Anyone may make another one, whose counts tell nothing of the first. A lap
-//! hides nothing: how often one was begun is counted, and the most turns and marks of one are kept. So whoever holds the `Steps`
+//! hides nothing: how often one was begun is counted, and the most turns, marks and consulted parts of one are kept. So whoever holds the `Steps`
 //! of many updates sees the dearest of them, without a look between two.
 //!
 //! A count is kept as the amount before the lap and that in it. A lap that ends is compared with the most as the next begins, so a turn
 //! or a mark costs nothing more. No call lowers a count, a [`Steps`] is no copy of another, and one that is made anew has another
 //! ledger: so no edit takes a count back.
 ghost use Rattle.std.specs.Prelude.{◌≡◌, ℕ};
-ghost use Rattle.query_laws.specs.StepLedger.{nothing_counted, lap_begun, one_turn, one_mark, one_touch, lap_of, most_lap_turns, most_lap_marks};
+ghost use Rattle.query_laws.specs.StepLedger.{nothing_counted, lap_begun, one_turn, one_mark, one_touch, one_consulted, lap_of, most_lap_turns, most_lap_marks, most_lap_consulted};
 
 mod meter;
 mod rows;
@@ -43,8 +43,8 @@ impl<T: Drop> From<AllocFailed<T>> for NoMemory {
     }
 }
 
-/// Into how many shares the ledger of one [`Steps`] is cut: three for each of the three counts.
-pub const SHARES: u64 = 9;
+/// Into how many shares the ledger of one [`Steps`] is cut: three for each of the four counts.
+pub const SHARES: u64 = 12;
 
 /// A blank ledger for one [`Steps`]. It takes no bytes.
 ///
@@ -72,19 +72,21 @@ pub fn blank() -> Blank
     Blank::new(SHARES)
 }
 
-/// What was counted so far, and in the lap, with how often a lap was begun and the most turns and marks of one of them.
+/// What was counted so far, and in the lap, with how often a lap was begun and the most turns, marks and consulted parts of one of them.
 ///
-/// Contracts see the three counts as whole numbers without limit, and what they were as the lap began. At run time there
-/// are only u64, which stay at their greatest value: the lap of each count, and three that change only as a lap begins.
+/// Contracts see the four counts as whole numbers without limit, and what they were as the lap began. At run time there
+/// are only u64, which stay at their greatest value: the lap of each count, and four that change only as a lap begins.
 #[derive(Drop)]
 pub struct Steps<L: Ledger> {
     book: Book<L>,
     turns: Meter<L>,
     marks: Meter<L>,
     touches: Meter<L>,
+    consulted: Meter<L>,
     laps: u64,
     most_turns: u64,
     most_marks: u64,
+    most_consulted: u64,
 }
 
 impl<L: Ledger> Model for Steps<L> {
@@ -97,13 +99,16 @@ impl<L: Ledger> Model for Steps<L> {
       turns = s.turns.0 + s.turns.1;
       marks = s.marks.0 + s.marks.1;
       touches = s.touches.0 + s.touches.1;
+      consulted = s.consulted.0 + s.consulted.1;
       lap_start = record {
         turns = s.turns.0;
         marks = s.marks.0;
         touches = s.touches.0;
+        consulted = s.consulted.0;
         laps = s.laps;
         most_turns = s.most_turns;
         most_marks = s.most_marks;
+        most_consulted = s.most_consulted;
       };
     } };
 }
@@ -120,14 +125,17 @@ impl<L: Ledger> Steps<L> {
         let turns = Meter::new(&mut all);
         let marks = Meter::new(&mut all);
         let touches = Meter::new(&mut all);
+        let consulted = Meter::new(&mut all);
         Steps {
             book,
             turns,
             marks,
             touches,
+            consulted,
             laps: 0,
             most_turns: 0,
             most_marks: 0,
+            most_consulted: 0,
         }
     }
 
@@ -155,7 +163,15 @@ impl<L: Ledger> Steps<L> {
         self.touches.count_one(&mut self.book);
     }
 
-    /// Begins a lap: the three laps are zero, and the counts stay.
+    /// Counts one part that a question is put to.
+    #[inline]
+    pub fn consult(&mut self)
+        ensures { self.new ≡ one_consulted self.old }
+    {
+        self.consulted.count_one(&mut self.book);
+    }
+
+    /// Begins a lap: the four laps are zero, and the counts stay.
     #[inline]
     pub fn start_lap(&mut self)
         ensures { self.new ≡ lap_begun self.old }
@@ -163,9 +179,11 @@ impl<L: Ledger> Steps<L> {
         self.laps = self.laps.saturating_add(1);
         self.most_turns = self.most_lap_turns();
         self.most_marks = self.most_lap_marks();
+        self.most_consulted = self.most_lap_consulted();
         self.turns.start_lap();
         self.marks.start_lap();
         self.touches.start_lap();
+        self.consulted.start_lap();
     }
 
     /// The turns since the lap began, or 2^64 - 1 where there were more.
@@ -192,6 +210,14 @@ impl<L: Ledger> Steps<L> {
         self.touches.lap()
     }
 
+    /// The parts that were consulted since the lap began, or 2^64 - 1 where there were more.
+    #[inline]
+    pub fn lap_consulted(&self) -> u64
+        ensures { result ≡ lap_of self.now.lap_start.consulted self.now.consulted }
+    {
+        self.consulted.lap()
+    }
+
     /// How often a lap was begun, or 2^64 - 1 where it was more often.
     #[inline]
     pub fn laps(&self) -> u64
@@ -214,5 +240,13 @@ impl<L: Ledger> Steps<L> {
         ensures { result ≡ most_lap_marks self.now }
     {
         self.most_marks.max(self.marks.lap())
+    }
+
+    /// The most parts that were consulted in one lap so far, the running one too, or 2^64 - 1 where there were more.
+    #[inline]
+    pub fn most_lap_consulted(&self) -> u64
+        ensures { result ≡ most_lap_consulted self.now }
+    {
+        self.most_consulted.max(self.consulted.lap())
     }
 }
