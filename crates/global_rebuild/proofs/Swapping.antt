@@ -5,7 +5,7 @@ use Rattle.builder_trait.specs.Parts.{Contents}
 use Rattle.id_chain.specs.Chain.{Entry}
 use Rattle.log_levels.specs.Levels.{live_items, weight_of}
 use Rattle.log_method.specs.Stack.{Stacked, memory_of}
-use Rattle.global_rebuild.specs.Index.{Shadow, Indexed, HandsOver, IsKept, IsIndexOf, IsInTime, live_in, parts_in, retired_parts, IsWalkedOn, HasPaused}
+use Rattle.global_rebuild.specs.Index.{Shadow, Indexed, HandsOver, IsKept, IsIndexOf, IsInTime, live_in, to_walk, parts_in, retired_parts, IsWalkedOn, HasPaused}
 use Rattle.global_rebuild.specs.Retiring.{with_retired}
 use Rattle.global_rebuild.proofs.Retiring.{with-memory}
 use Rattle.global_rebuild.proofs.Weights.{walked_few, ended_all}
@@ -27,6 +27,14 @@ module _ {P Item : Type 0} {contents : P → Contents Item} {most : ℕ} {old i 
       cases (Some x) is =
           let n = p.going x is in
           let one : n.0 ≡ r = let both : Some n.0 ≡ Some r = sym n.1 ∙ there in cc in (x, is, subst (HandsOver contents most x) one n.2)
+
+  -- no more items are handed over
+  pub handed_few : to_walk contents old - to_walk contents i ≤ most
+  handed_few = cases old.shadow refl
+    where
+      cases : (o : Option (Shadow P Item)) → old.shadow ≡ o → to_walk contents old - to_walk contents i ≤ most
+      cases None is = rw is (omega arith)
+      cases (Some x) is = let n = p.going x is in rw (is, n.1, p.main) (omega (arith, n.2.at_most))
 
   -- it frees nothing
   pub walked_parts : (k : ℕ) → parts_in k old ≤ parts_in k i
@@ -51,6 +59,22 @@ not_swapped {P} {Item} i {main} {shadow} {retired} some main_is shadow_is put = 
     cases : (o : Option (Shadow P Item)) → i.shadow ≡ o → IsSwapped i main shadow retired
     cases None none = quiet none main_is (shadow_is ∙ none) put
     cases (Some r) there = going r there (some r there) main_is (shadow_is ∙ there) put
+
+-- how much is left to walk, after a swap and what follows
+module _ {P Item : Type 0} {contents : P → Contents Item} {stamp : Item → ℕ} {i : Indexed P Item} {es : List (Entry Item)} {stamps : ℕ}
+    {main : Stacked P Item} {shadow : Option (Shadow P Item)} {retired : List (Stacked P Item)} (new : Indexed P Item) (h : IsIndexOf contents stamp i es stamps)
+    (live : live_items contents new.main.levels ≡ live_items contents main.levels) (none : shadow ≡ None → new.shadow ≡ None)
+    (some : (r : Shadow P Item) → shadow ≡ Some r → (r' : Shadow P Item) × (new.shadow ≡ Some r') × IsKept contents r r') where
+  pub as_far : IsSwapped i main shadow retired → to_walk contents i ≡ to_walk contents new
+  as_far s = elim s [
+    | quiet at same over put ↦ rw (at, none over) refl
+    | going r is at same same' put ↦
+        let k = some r same' in
+        let all : live_in contents new.main ≡ live_in contents i.main = ap length live ∙ ap (live_in contents) same in
+        let kept : live_in contents k.0.stack ≡ live_in contents r.stack = ap length k.2.live in
+        rw (is, k.1, all, kept) refl
+    | ended r is at same over put ↦ rw (is, none over) (omega (arith, ended_all contents stamp i es h r (h.shadow r is) at))
+  ]
 
 -- what a preparation makes of an index, and that it is four items ahead while a rebuild runs
 pub record IsMade {P Item : Type 0} (contents : P → Contents Item) (old new : Indexed P Item) : Type 0 where

@@ -1,14 +1,17 @@
 -- How much the two stacks of an index weigh.
-use Rattle.std.proofs.Common.{◌≡◌, ◌≢◌, ℕ, ◌+◌, ◌*◌, ◌^◌, ◌<◌, ◌≤◌, ◌∙◌, ◌⊎◌, List, [], ◌∷◌, Option, Some, None, inl, inr, true, length, refl, sym, ap, subst, arith}
+use Rattle.std.proofs.Common.{◌≡◌, ◌≢◌, ℕ, ◌+◌, ◌*◌, ◌^◌, ◌<◌, ◌≤◌, ◌∙◌, ◌⊎◌, List, [], ◌∷◌, Option, Some, None, inl, inr, true, length, min, refl, sym, ap, subst, arith}
 use Rattle.std.proofs.lemmas.Bool.Decides.{nat_tests}
 use Rattle.std.proofs.lemmas.Grind.{common_steps}
 use Rattle.std.proofs.lemmas.List.{length-map}
 use Rattle.std.proofs.lemmas.List.Elements.{All-nil}
 use Rattle.query_laws.specs.Permuted.{nothing}
+use Rattle.query_laws.specs.StepLedger.{Counts}
 use Rattle.query_laws.proofs.Permutations.{Permuted-length}
 use Rattle.builder_trait.specs.Parts.{Contents}
 use Rattle.id_chain.specs.Chain.{Entry, is_linked, before, IsCursor, before_cursor}
 use Rattle.log_levels.specs.Levels.{weight_of}
+use Rattle.log_levels.specs.Cost.{IsWithin}
+use Rattle.log_levels.proofs.Spending.{IsWithin-times}
 use Rattle.log_method.specs.Stack.{Stacked, memory_of}
 use Rattle.log_method.specs.Retired.{parts_at}
 use Rattle.global_rebuild.specs.Index.{Shadow, Indexed, HandsOver, HasPaused, IsShadowOf, IsIndexOf, IsIndex, IsInTime, live_in}
@@ -85,6 +88,11 @@ module _ {P Item : Type 0} (contents : P → Contents Item) (stamp : Item → �
         | inl all ↦ omega (arith, as_walked, as_many, all.1)
         | inr some ↦ omega (arith, as_walked, as_many, some.1)
       ]
+
+-- four ticks at most
+pub four_ticks : (n turns marks : ℕ) {touches : ℕ} {old new : Counts} → IsWithin (min 4 n * turns) (min 4 n * marks) touches old new
+    → IsWithin (4 * turns) (4 * marks) touches old new
+four_ticks n turns marks h = IsWithin-times (min 4 n) 4 turns marks (omega arith) h
 
 module _ {P Item : Type 0} {contents : P → Contents Item} {r r' : Shadow P Item} {most : ℕ} where
   pub handed_over : (n : ℕ) → live_in contents r'.stack ≡ live_in contents r.stack + n → weight_of r'.stack.levels ≡ weight_of r.stack.levels + n

@@ -94,6 +94,10 @@ module _ {P Item : Type 0} (contents : P → Contents Item) where
   abbrev pub unwalked : Indexed P Item → Option ℕ
   unwalked i = option_map (λ r. live_in i.main - live_in r.stack) i.shadow
 
+  -- the same, and 0 where none runs
+  abbrev pub to_walk : Indexed P Item → ℕ
+  to_walk i = option_map_or (λ r. live_in i.main - live_in r.stack) i.shadow 0
+
   -- the weights of the two stacks after a walk by four: the shadow weighs as much more as items were handed over, and is the main stack
   -- where it has all
   abbrev pub main_weight_on : Indexed P Item → ℕ

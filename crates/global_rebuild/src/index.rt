@@ -1,7 +1,7 @@
 //! The index.
-ghost use Rattle.std.specs.Prelude.{◌≡◌, ℕ, ◌+◌, ◌-◌, ◌*◌, ◌^◌, ◌<◌, ◌≤◌, ◌⊎◌, ◌++◌, ◌∷◌, [], All, List, None, Some, true, false, if◌then◌else◌, IfOk, IsTrue, IsErr, OnErr, length, vec_capacity, map};
+ghost use Rattle.std.specs.Prelude.{◌≡◌, ℕ, ◌+◌, ◌-◌, ◌*◌, ◌^◌, ◌<◌, ◌≤◌, ◌⊎◌, ◌++◌, ◌∷◌, [], All, List, None, Some, true, false, if◌then◌else◌, IfOk, IsTrue, IsErr, OnErr, length, min, vec_capacity, map};
 ghost use Rattle.std.specs.Option.{option_map, option_map_or};
-ghost use Rattle.query_laws.specs.StepLedger.{Spends};
+ghost use Rattle.query_laws.specs.StepLedger.{Consults};
 ghost use Rattle.query_laws.specs.declared.item.Order.TheVariants.{First};
 ghost use Rattle.id_chain.specs.Chain.{Entry, HandlesDiffer, is_linked, item_at, IsCursor, before_cursor, without_handle};
 ghost use Rattle.log_levels.specs.Levels.{live_items, all_items, waiting_of, weight_of, parts_of, touches_of};
@@ -11,7 +11,7 @@ ghost use Rattle.log_method.specs.Retired.{parts_at};
 ghost use Rattle.log_method.specs.Height.{HaveAtMost, AreFew, size_of};
 ghost use Rattle.log_levels.specs.Cost.{IsWithin, quotas};
 ghost use Rattle.log_levels.specs.Towers.{AreOnTime, TakeTicks};
-ghost use Rattle.global_rebuild.specs.Index.{Shadow as Walked, live_in, unwalked, shadow_weight, shadow_rooms, is_heavy, IsForecast, IsKept, IsInTime, IsIndex, IsIndexOf, IsPrepared, HoldsAsMuch, HandsOver, IsWalkedOn, HasPaused, FreesOne, waiting_of_both, asked_of_both};
+ghost use Rattle.global_rebuild.specs.Index.{Shadow as Walked, live_in, unwalked, to_walk, shadow_weight, shadow_rooms, is_heavy, IsForecast, IsKept, IsInTime, IsIndex, IsIndexOf, IsPrepared, HoldsAsMuch, HandsOver, IsWalkedOn, HasPaused, FreesOne, waiting_of_both, asked_of_both};
 ghost use Rattle.global_rebuild.specs.Retiring.{with_retired, IsGivenUp};
 
 use crate::shadow::Shadow;
@@ -87,9 +87,13 @@ impl<B: Builder> Index<B> {
         // No rebuild begins, and none that runs is given up.
         ensures refused { OnErr result (IsWalkedOn B.Part.Part.contents self.old self.new ⊎ HasPaused B.Part.Part.contents 4 self.old self.new) }
         ensures frees { FreesOne B.Part.Part.contents self.old self.new }
-        ensures quiet { self.old.shadow ≡ None → steps.new ≡ steps.old }
+
+        // A tick for each item that is handed over, and a part is made of it.
+        ensures some_turns { let ticks = to_walk B.Part.Part.contents self.old - to_walk B.Part.Part.contents self.new in
+            steps.old.turns + 3 * ticks ≤ steps.new.turns }
         ensures cost { (g : ℕ) → 2 * live_in B.Part.Part.contents self.old.main + 10 < 2 ^ (g + 1)
-            → IsWithin (4 * quotas B.SLOPE B.BASE 0 g) (4 * (2 * g)) (B.Part.Part.mark_touches g) steps.old steps.new }
+            → let ticks = min 4 (to_walk B.Part.Part.contents self.old - to_walk B.Part.Part.contents self.new) in
+            IsWithin (ticks * quotas B.SLOPE B.BASE 0 g) (ticks * (2 * g)) (B.Part.Part.mark_touches g) steps.old steps.new }
     {
         self.walk(chain, 4, steps)?;
         let has_walked = self.has_walked();
@@ -197,7 +201,9 @@ impl<B: Builder> Index<B> {
         ensures given_up { OnErr result (asking.new
             ≡ record asking.old { so_far = asking.new.so_far; parts = asking.new.parts; live = asking.new.live; is_given_up = true }) }
         ensures refused { IsErr result → IsTrue asking.old.refusable }
-        ensures cost { Spends steps.old steps.new 0 0 (touches_of (B.Part.ask_touches asking.old.question) self.now.main.levels) }
+        ensures consulted { IfOk result (λ _. steps.new.consulted ≡ steps.old.consulted + parts_of self.now.main.levels) }
+        ensures cost { Consults steps.old steps.new (parts_of self.now.main.levels)
+            (touches_of (B.Part.ask_touches asking.old.question) self.now.main.levels) }
         ensures few { AreFew B.Part.Part.contents (2 * live_in B.Part.Part.contents self.now.main + 9) self.now.main.levels }
     {
         self.main.ask(asking, steps)
@@ -289,11 +295,13 @@ impl<B: Builder> Index<B> {
         ensures paused { HasPaused B.Part.Part.contents most self.old self.new }
         ensures taken { IfOk result (λ _. (r r' : Walked B.Part B.Item) → self.old.shadow ≡ Some r → self.new.shadow ≡ Some r'
             → (r'.cursor ≡ None) ⊎ (live_in B.Part.Part.contents r'.stack ≡ live_in B.Part.Part.contents r.stack + most)) }
-        ensures quiet { self.old.shadow ≡ None → steps.new ≡ steps.old }
         ensures in_time { IfOk result (λ _. (r' : Walked B.Part B.Item) → self.new.shadow ≡ Some r' → (r'.cursor ≡ None → ⊥)
             → IsInTime B.Part.Part.contents most self.new.main r') }
+        ensures some_turns { let ticks = to_walk B.Part.Part.contents self.old - to_walk B.Part.Part.contents self.new in
+            steps.old.turns + 3 * ticks ≤ steps.new.turns }
         ensures cost { (g : ℕ) → 2 * live_in B.Part.Part.contents self.old.main + 10 < 2 ^ (g + 1)
-            → IsWithin (most * quotas B.SLOPE B.BASE 0 g) (most * (2 * g)) (B.Part.Part.mark_touches g) steps.old steps.new }
+            → let ticks = to_walk B.Part.Part.contents self.old - to_walk B.Part.Part.contents self.new in
+            IsWithin (ticks * quotas B.SLOPE B.BASE 0 g) (ticks * (2 * g)) (B.Part.Part.mark_touches g) steps.old steps.new }
     {
         let Some(shadow) = &mut self.shadow else {
             return Ok(());

@@ -1,5 +1,5 @@
 //! The stack that is being made.
-ghost use Rattle.std.specs.Prelude.{◌≡◌, ℕ, ◌+◌, ◌*◌, ◌^◌, ◌<◌, ◌≤◌, [], None, ◌⊎◌, IfOk, IsTrue, Contains, true, false};
+ghost use Rattle.std.specs.Prelude.{◌≡◌, ℕ, ◌+◌, ◌-◌, ◌*◌, ◌^◌, ◌<◌, ◌≤◌, [], None, ◌⊎◌, IfOk, IsTrue, Contains, true, false};
 ghost use Rattle.query_laws.specs.Permuted.{Permuted};
 ghost use Rattle.query_laws.specs.declared.item.Order.TheVariants.{First};
 ghost use Rattle.builder_trait.specs.Parts.{without};
@@ -66,8 +66,11 @@ impl<B: Builder> Shadow<B> {
         ensures taken { IfOk result (λ _. (self.new.cursor ≡ None) ⊎ (live_in B.Part.Part.contents self.new.stack
             ≡ live_in B.Part.Part.contents self.old.stack + 1)) }
         ensures handed { HandsOver B.Part.Part.contents 1 self.old self.new }
+        ensures some_turns { let ticks = live_in B.Part.Part.contents self.new.stack - live_in B.Part.Part.contents self.old.stack in
+            steps.old.turns + 3 * ticks ≤ steps.new.turns }
         ensures cost { (g : ℕ) → weight_of self.new.stack.levels < 2 ^ (g + 1)
-            → IsWithin (quotas B.SLOPE B.BASE 0 g) (2 * g) (B.Part.Part.mark_touches g) steps.old steps.new }
+            → let ticks = live_in B.Part.Part.contents self.new.stack - live_in B.Part.Part.contents self.old.stack in
+            IsWithin (ticks * quotas B.SLOPE B.BASE 0 g) (ticks * (2 * g)) (B.Part.Part.mark_touches g) steps.old steps.new }
     {
         let Some(handle) = self.cursor else {
             return Ok(());
@@ -96,8 +99,11 @@ impl<B: Builder> Shadow<B> {
         ensures taken { IfOk result (λ _. (self.new.cursor ≡ None) ⊎ (live_in B.Part.Part.contents self.new.stack
             ≡ live_in B.Part.Part.contents self.old.stack + most)) }
         ensures handed { HandsOver B.Part.Part.contents most self.old self.new }
+        ensures some_turns { let ticks = live_in B.Part.Part.contents self.new.stack - live_in B.Part.Part.contents self.old.stack in
+            steps.old.turns + 3 * ticks ≤ steps.new.turns }
         ensures cost { (g : ℕ) → weight_of self.new.stack.levels < 2 ^ (g + 1)
-            → IsWithin (most * quotas B.SLOPE B.BASE 0 g) (most * (2 * g)) (B.Part.Part.mark_touches g) steps.old steps.new }
+            → let ticks = live_in B.Part.Part.contents self.new.stack - live_in B.Part.Part.contents self.old.stack in
+            IsWithin (ticks * quotas B.SLOPE B.BASE 0 g) (ticks * (2 * g)) (B.Part.Part.mark_touches g) steps.old steps.new }
     {
         for _taken in 0..most {
             self.take_next(chain, steps)?;

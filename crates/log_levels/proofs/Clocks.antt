@@ -1,8 +1,8 @@
 -- The clocks of levels through a tick.
-use Rattle.std.proofs.Common.{◌≡◌, ℕ, ◌+◌, ◌^◌, ◌≤◌, ◌∙◌, Option, Some, None, true, List, [], ◌∷◌, map, refl, ap, subst, arith}
+use Rattle.std.proofs.Common.{◌≡◌, ℕ, ◌+◌, ◌^◌, ◌≤◌, ◌∙◌, Option, Some, None, true, List, [], ◌∷◌, map, refl, sym, ap, ap₂, subst, arith}
 use Rattle.std.specs.Option.{option_map, option_map_or, is_some}
 use Rattle.partial_build.specs.Construction.{Construction}
-use Rattle.log_levels.specs.Slots.{Slots, clock_of}
+use Rattle.log_levels.specs.Slots.{Slots, ticks_of, clock_of, work_of}
 use Rattle.log_levels.specs.Neighbours.{TakesTick, begins, goes_on, ends}
 use Rattle.log_levels.specs.Towers.{TakeTicks}
 use Rattle.log_levels.specs.Marking.{AreNoted}
@@ -25,12 +25,16 @@ module _ {Item : Type 0} where
   TakesTick-last level None ended two = absurd (omega (arith, ended, two))
   TakesTick-last level (Some c) ended two = ends c.ticks refl (omega (arith, ended)) refl
 
-  -- with as many ticks it has the same clock
-  pub same_clock : (o o' : Option (Construction Item)) → is_some o' ≡ is_some o → time o' ≡ time o → clock o' ≡ clock o
-  same_clock None None runs ticks = refl
-  same_clock None (Some c') runs ticks = absurd cc
-  same_clock (Some c) None runs ticks = absurd cc
-  same_clock (Some c) (Some c') runs ticks = ap Some ticks
+  abbrev but_waiting : Construction Item → Construction Item
+  but_waiting c = record c { waiting = [] }
+
+  -- what doesn't see the items that wait
+  pub seen : {A : Type 0} (f : Construction Item → A) (d : A) → ((c : Construction Item) → f (but_waiting c) ≡ f c) → (o o' : Option (Construction Item))
+      → option_map but_waiting o' ≡ option_map but_waiting o → option_map_or f o' d ≡ option_map_or f o d
+  seen f d blind None None same = refl
+  seen f d blind None (Some c') same = absurd cc
+  seen f d blind (Some c) None same = absurd cc
+  seen f d blind (Some c) (Some c') same = let e : but_waiting c' ≡ but_waiting c = cc in sym (blind c') ∙ ap f e ∙ blind c
 
 module _ {P Item : Type 0} where
   -- levels with these numbers and clocks take their ticks
@@ -49,7 +53,37 @@ module _ {P Item : Type 0} where
         TakeTicks-from old mid new levels others h.1,
       )
 
-  pub clocks-noted : (above above' : List (Slots P Item)) → AreNoted above above' → map clock_of above' ≡ map clock_of above
-  clocks-noted [] above' noted = ap (map clock_of) noted
-  clocks-noted (l ∷ rest) above' noted =
-      ap (map clock_of) noted.1 ∙ ap (λ o. o ∷ map clock_of rest) (same_clock l.construction noted.0.construction noted.4 noted.3)
+  -- the same construction but for what waits
+  module _ (l l' : Slots P Item) (same : work_of l' ≡ work_of l) where
+    pub same_ticks : ticks_of l' ≡ ticks_of l
+    same_ticks = seen (λ c. c.ticks) 0 (λ c. refl) l.construction l'.construction same
+
+    pub same_clock : clock_of l' ≡ clock_of l
+    same_clock = by l.construction l'.construction same
+      where
+        by : (o o' : Option (Construction Item)) → option_map but_waiting o' ≡ option_map but_waiting o → clock o' ≡ clock o
+        by None None e = refl
+        by None (Some c') e = absurd cc
+        by (Some c) None e = absurd cc
+        by (Some c) (Some c') e = let one : but_waiting c' ≡ but_waiting c = cc in ap (λ v. Some v.ticks) one
+
+    pub same_runs : is_some l'.construction ≡ is_some l.construction
+    same_runs = by l.construction l'.construction same
+      where
+        by : (o o' : Option (Construction Item)) → option_map but_waiting o' ≡ option_map but_waiting o → is_some o' ≡ is_some o
+        by None None e = refl
+        by None (Some c') e = absurd cc
+        by (Some c) None e = absurd cc
+        by (Some c) (Some c') e = refl
+
+  pub clocks-worked : (old new : List (Slots P Item)) → map work_of new ≡ map work_of old → map clock_of new ≡ map clock_of old
+  clocks-worked [] [] same = refl
+  clocks-worked [] (n ∷ new) same = absurd cc
+  clocks-worked (l ∷ old) [] same = absurd cc
+  clocks-worked (l ∷ old) (n ∷ new) same =
+      let head : work_of n ≡ work_of l = cc in
+      let rest : map work_of new ≡ map work_of old = cc in ap₂ (λ o os. o ∷ os) (same_clock l n head) (clocks-worked old new rest)
+
+  pub work-noted : (above above' : List (Slots P Item)) → AreNoted above above' → map work_of above' ≡ map work_of above
+  work-noted [] above' noted = ap (map work_of) noted
+  work-noted (l ∷ rest) above' noted = ap (map work_of) noted.1 ∙ ap (λ o. o ∷ map work_of rest) noted.3

@@ -3,6 +3,7 @@ pub mod Held
 pub mod Spending
 pub mod Publishing
 pub mod Clocks
+pub mod Paying
 pub mod Neighbouring
 pub mod Towers
 pub mod Marks

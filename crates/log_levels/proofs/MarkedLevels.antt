@@ -18,6 +18,7 @@ use Rattle.log_levels.specs.Levels.{live_items, all_items, parts_asked}
 use Rattle.log_levels.specs.Neighbours.{stays}
 use Rattle.log_levels.specs.Towers.{IsTower, IsDue, IsDueSoon, HaveRooms, HaveRoomsAbove, AreLevels, AreAllLevels, AreHalfway, HaveRoomsNow, HaveRoomsNext}
 use Rattle.log_levels.specs.Marking.{AreMarkedAt, AreNoted, IsSameBelow, read_into, noted_above}
+use Rattle.log_levels.proofs.Clocks.{same_ticks, same_runs}
 use Rattle.log_levels.proofs.Held.{memory-same}
 use Rattle.log_levels.proofs.Distinct.{AllStampsDiffer-part, IsPartOf-append, IsPartOf-permuted, none_same}
 use Rattle.log_levels.proofs.Publishing.{doubled, higher}
@@ -46,7 +47,7 @@ module _ {P Item : Type 0} where
     rooms-noted l (next ∷ rest) above' noted rooms =
         subst (HaveRooms due l) (sym noted.1) (
           λ h. ap (λ v. v.has_room) noted.2 ∙ rooms.0 h,
-          rooms-below next noted.0 rest (ap (λ v. length v.parts) noted.2) (ap (λ v. v.level) noted.2) noted.3 rooms.1,
+          rooms-below next noted.0 rest (ap (λ v. length v.parts) noted.2) (ap (λ v. v.level) noted.2) (same_ticks next noted.0 noted.3) rooms.1,
         )
 
     pub rooms-over : (l : Slots P Item) (above above' : List (Slots P Item)) → IsSameBelow above above'
@@ -68,7 +69,7 @@ module _ {P Item : Type 0} where
       → is_some l'.construction ≡ is_some l.construction → f (l' ∷ rest) ≡ f (l ∷ rest))
       → (above above' : List (Slots P Item)) → AreNoted above above' → f above' ≡ f above
   same-noted f sees [] above' noted = ap f noted
-  same-noted f sees (l ∷ rest) above' noted = ap f noted.1 ∙ sees l noted.0 rest noted.2 noted.4
+  same-noted f sees (l ∷ rest) above' noted = ap f noted.1 ∙ sees l noted.0 rest noted.2 (same_runs l noted.0 noted.3)
 
   pub held-noted : (l l' : Slots P Item) (rest : List (Slots P Item)) → l' ≡ record l { construction = l'.construction }
       → is_some l'.construction ≡ is_some l.construction → map in_memory (l' ∷ rest) ≡ map in_memory (l ∷ rest)
@@ -229,7 +230,7 @@ light_below n k g rest two light =
 
 pub AreNoted-refl : {P Item : Type 0} (levels : List (Slots P Item)) → AreNoted levels levels
 AreNoted-refl [] = refl
-AreNoted-refl (l ∷ above) = (l, refl, refl, refl, refl)
+AreNoted-refl (l ∷ above) = (l, refl, refl, refl)
 
 module _ {P Item : Type 0} (before : Item → Item → Bool) (x : Item) where
   -- marks of parts don't change what a construction has read

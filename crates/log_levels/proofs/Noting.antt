@@ -8,6 +8,7 @@ use Rattle.log_levels.specs.Slots.{Slots, ticks_of}
 use Rattle.log_levels.specs.Neighbours.{IsConstructionOf, IsFed}
 use Rattle.log_levels.specs.Towers.{IsTower}
 use Rattle.log_levels.specs.Marking.{IsLiveIn, Lacks, AreMarkedAt, nowhere, here, later, AreNoted}
+use Rattle.log_levels.proofs.Clocks.{same_ticks, same_runs}
 use Rattle.log_levels.proofs.Marks.{unmarked, length-marked}
 use Rattle.log_levels.proofs.Neighbouring.{not_some}
 use Rattle.log_levels.proofs.Towers.{below-kept}
@@ -84,7 +85,7 @@ module _ {P Item : Type 0} (contents : P → Contents Item) (profile : PartProfi
       let same_level : next'.level ≡ next.level = ap (λ v. v.level) noted.2 in
       subst (IsTower contents profile l') (sym noted.1) (
         below-kept contents profile l l' next next' tower.0 level (length-marked contents profile.stamp x parts) (omega (arith, ticks)) same_level
-            (λ none. not_some next'.construction (noted.4 ∙ ap is_some none)) noted.3
+            (λ none. not_some next'.construction (same_runs next next' noted.3 ∙ ap is_some none)) (same_ticks next next' noted.3)
             (fed-marked place l.parts l'.parts l l' next next' parts refl refl (how next next' rest refl noted.1) tower.0.fed),
-        tower-upper next next' rest same_level (ap (λ v. v.parts) noted.2) noted.3 tower.1,
+        tower-upper next next' rest same_level (ap (λ v. v.parts) noted.2) (same_ticks next next' noted.3) tower.1,
       )

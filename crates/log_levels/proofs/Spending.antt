@@ -46,6 +46,19 @@ IsWithin-then {turns} {marks} {more_turns} {more_marks} {touches} {old} {mid} {n
     IsWithin-of (Spends-then first.spent second.spent) (omega (arith, first.few_turns, second.few_turns))
     (omega (arith, first.few_marks, second.few_marks)) (omega (arith, shared))
 
+-- some ticks, and then some more
+pub IsWithin-ticks : (m n turns marks : ℕ) {touches : ℕ} {old mid new : Counts} → IsWithin (m * turns) (m * marks) touches old mid
+    → IsWithin (n * turns) (n * marks) touches mid new → IsWithin ((m + n) * turns) ((m + n) * marks) touches old new
+IsWithin-ticks m n turns marks first second =
+    let shared : (k : ℕ) → m * k + n * k ≡ (m + n) * k = λ k. grind arith in
+    IsWithin-more (IsWithin-then first second) (omega (arith, shared turns)) (omega (arith, shared marks)) (omega arith)
+
+-- as many ticks, or more
+pub IsWithin-times : (m n turns marks : ℕ) {touches : ℕ} {old new : Counts} → m ≤ n → IsWithin (m * turns) (m * marks) touches old new
+    → IsWithin (n * turns) (n * marks) touches old new
+IsWithin-times m n turns marks few h =
+    let more : (k : ℕ) → m * k ≤ n * k = λ k. grind (arith, few) in IsWithin-more h (more turns) (more marks) (omega arith)
+
 module _ (slope base : ℕ) where
   -- the lowest of the levels, and the others
   pub quotas-first : (from to : ℕ) → from ≤ to → quotas slope base from to ≡ quota slope base from + quotas slope base (from + 1) to

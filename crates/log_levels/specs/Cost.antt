@@ -4,8 +4,8 @@ use Rattle.std.specs.List.{range_with_len}
 use Rattle.query_laws.specs.StepLedger.{Counts, Spends}
 use Rattle.builder_trait.specs.Builders.{PartProfile}
 use Rattle.partial_build.specs.Quota.{quota}
-use Rattle.log_levels.specs.Slots.{Slots, waiting_in, turns_to_go}
-use Rattle.log_levels.specs.Levels.{waiting_of, weight_of}
+use Rattle.log_levels.specs.Slots.{Slots, waiting_in, turns_to_go, left_in, due_in, saved_in}
+use Rattle.log_levels.specs.Levels.{waiting_of, weight_of, left_of, due_of, saved_of}
 
 -- the quotas of the levels from one to another, both included
 abbrev pub quotas : ℕ → ℕ → ℕ → ℕ → ℕ
@@ -19,6 +19,15 @@ pub record IsWithin (turns marks touches : ℕ) (old new : Counts) : Type 0 wher
       (16 * (new.turns - old.turns) + (new.marks - old.marks) * touches)
 
 module _ {P Item : Type 0} where
+  -- No work of the construction into a level is done beside the turns: what is due of it, all where it begins, is no more than what is left of it, the
+  -- turns that are taken, and those that a seal saves.
+  abbrev pub IsPaid : PartProfile Item → (old new : Slots P Item) → (before after : Counts) → Type 0
+  IsPaid profile old new before after = due_in profile old new + before.turns ≤ left_in profile new + saved_in profile old new + after.turns
+
+  -- the same of all levels
+  abbrev pub ArePaid : PartProfile Item → (old new : List (Slots P Item)) → (before after : Counts) → Type 0
+  ArePaid profile old new before after = due_of profile old new + before.turns ≤ left_of profile new + saved_of profile old new + after.turns
+
   -- What a visit of a level costs: nothing where the level below has fewer than two parts; no more turns than the construction has to go; and a mark
   -- for each item that waited and waits no longer.
   pub record IsCostOfVisit (profile : PartProfile Item) (touches : ℕ → ℕ) (lower old new : Slots P Item) (before after : Counts) : Type 0 where

@@ -1,7 +1,8 @@
 -- What contracts see of levels one above the other, lowest first.
 use Rattle.std.specs.Prelude.{ℕ, ◌+◌, List, [], ◌∷◌, ◌++◌, if◌then◌else◌, length, sum_by}
+use Rattle.builder_trait.specs.Builders.{PartProfile}
 use Rattle.builder_trait.specs.Parts.{Contents, has_stamp}
-use Rattle.log_levels.specs.Slots.{Slots, InMemory, waiting_in, held_in, tables_in, weight_in, live_in, items_in, asked_in}
+use Rattle.log_levels.specs.Slots.{Slots, InMemory, waiting_in, left_in, due_in, saved_in, held_in, tables_in, weight_in, live_in, items_in, asked_in}
 
 -- a part more on the lowest of some levels
 abbrev pub one_more : List InMemory → List InMemory
@@ -33,6 +34,23 @@ module _ {P Item : Type 0} where
   abbrev pub waiting_of : List (Slots P Item) → ℕ
   waiting_of [] = 0
   waiting_of (l ∷ above) = waiting_in l + waiting_of above
+
+  -- the turns that are left of the constructions
+  abbrev pub left_of : PartProfile Item → List (Slots P Item) → ℕ
+  left_of profile [] = 0
+  left_of profile (l ∷ above) = left_in profile l + left_of profile above
+
+  -- the turns that are due of the constructions
+  abbrev pub due_of : PartProfile Item → (old new : List (Slots P Item)) → ℕ
+  due_of profile [] new = 0
+  due_of profile (l ∷ old) [] = 0
+  due_of profile (l ∷ old) (l' ∷ new) = due_in profile l l' + due_of profile old new
+
+  -- the turns that a tick saves of the constructions
+  abbrev pub saved_of : PartProfile Item → (old new : List (Slots P Item)) → ℕ
+  saved_of profile [] new = 0
+  saved_of profile (l ∷ old) [] = 0
+  saved_of profile (l ∷ old) (l' ∷ new) = saved_in profile l l' + saved_of profile old new
 
   -- how many complete parts there are
   abbrev pub parts_of : List (Slots P Item) → ℕ

@@ -1,9 +1,9 @@
 -- An item that is marked as dead, in parts and levels.
 use Rattle.std.specs.Prelude.{◌≡◌, ℕ, ◌+◌, Bool, Option, Some, None, List, [], ◌∷◌, true, false, if◌then◌else◌, All, length, map, slice_get, take}
 use Rattle.std.specs.List.{flat_map}
-use Rattle.std.specs.Option.{option_map, is_some}
+use Rattle.std.specs.Option.{option_map}
 use Rattle.builder_trait.specs.Parts.{Contents, has_stamp, without, marked, live_of}
-use Rattle.log_levels.specs.Slots.{Slots, ticks_of, clock_of, in_memory, live_in, items_in, read_by}
+use Rattle.log_levels.specs.Slots.{Slots, work_of, in_memory, live_in, items_in, read_by}
 use Rattle.log_levels.specs.Levels.{waiting_of, weight_of, live_items, all_items}
 
 module _ {Item : Type 0} where
@@ -29,7 +29,7 @@ module _ {P Item : Type 0} where
   abbrev pub AreNoted : List (Slots P Item) → List (Slots P Item) → Type 0
   AreNoted [] new = new ≡ []
   AreNoted (l ∷ above) new = (l' : Slots P Item) × (new ≡ l' ∷ above) × (l' ≡ record l { construction = l'.construction })
-      × (ticks_of l' ≡ ticks_of l) × (is_some l'.construction ≡ is_some l.construction)
+      × (work_of l' ≡ work_of l)
 
   -- the lowest level is as it was, but for its parts
   abbrev pub IsSameBelow : List (Slots P Item) → List (Slots P Item) → Type 0
@@ -62,12 +62,12 @@ module _ {P Item : Type 0} where
       pub as_many : length new.parts ≡ length old.parts
 
     -- the item with a stamp isn't live in any of the levels; they have the same items, and the weight and what each holds are as they were,
-    -- and so are the clocks; and so many items more wait
+    -- and so are the constructions, but that so many items more wait
     pub record AreMarked (more : ℕ) (old new : List (Slots P Item)) : Type 0 where
       pub live : live_items contents new ≡ without stamp dead (live_items contents old)
       pub items : all_items contents new ≡ all_items contents old
       pub weight : weight_of new ≡ weight_of old
       pub held : map in_memory new ≡ map in_memory old
       pub numbers : map (λ l. l.level) new ≡ map (λ l. l.level) old
-      pub clocks : map clock_of new ≡ map clock_of old
+      pub work : map work_of new ≡ map work_of old
       pub waiting : waiting_of new ≡ waiting_of old + more

@@ -3,7 +3,7 @@ use Rattle.std.specs.Prelude.{◌≡◌, ◌+◌, ◌^◌, ◌<◌, ◌≤◌, t
 use Rattle.query_laws.specs.Permuted.{Permuted}
 use Rattle.builder_trait.specs.Builders.{PartProfile}
 use Rattle.builder_trait.specs.Parts.{Contents, live_of}
-use Rattle.log_levels.specs.Slots.{Slots, IsPartOf, ticks_of, clock_of, in_memory}
+use Rattle.log_levels.specs.Slots.{Slots, IsPartOf, ticks_of, clock_of, work_of, in_memory}
 use Rattle.log_levels.specs.Levels.{one_more, waiting_of, weight_of, live_items, all_items}
 use Rattle.log_levels.specs.Neighbours.{IsBelow, IsPunctual, TakesTick}
 
@@ -87,10 +87,12 @@ module _ {P Item : Type 0} (contents : P → Contents Item) where
     pub weight : weight_of new ≡ weight_of old
     pub held : map in_memory new ≡ map in_memory old
 
-  -- what the arrival of a part leaves of levels: its items are there too, the weight is one more, the lowest level holds a part more, and as many items wait
+  -- what the arrival of a part leaves of levels: its items are there too, the weight is one more, the lowest level holds a part more, as many items wait,
+  -- and nothing else of a construction has changed
   pub record HasArrived (part : Contents Item) (old new : List (Slots P Item)) : Type 0 where
     pub live : Permuted (live_items contents new) (live_of part ++ live_items contents old)
     pub items : Permuted (all_items contents new) (part.items ++ all_items contents old)
     pub weight : weight_of new ≡ weight_of old + 1
     pub held : map in_memory new ≡ one_more (map in_memory old)
     pub waiting : waiting_of new ≡ waiting_of old
+    pub work : map work_of new ≡ map work_of old

@@ -1,7 +1,7 @@
 //! A question put to the complete parts of levels.
 ghost use Rattle.std.specs.Prelude.{◌≡◌, ◌+◌, ◌^◌, ◌<◌, true, false, IsTrue, IfOk, IsErr, OnErr, length, sum_by};
 ghost use Rattle.std.specs.List.{flat_map};
-ghost use Rattle.query_laws.specs.StepLedger.{Spends};
+ghost use Rattle.query_laws.specs.StepLedger.{Consults};
 ghost use Rattle.builder_trait.specs.Parts.{live_of};
 ghost use Rattle.log_levels.specs.Levels.{parts_of, touches_of};
 ghost use Rattle.log_levels.specs.Asking.{AreThreeAtMost, HasAsked};
@@ -28,8 +28,8 @@ where
         ≡ record asking.old { so_far = asking.new.so_far; parts = asking.new.parts; live = asking.new.live; is_given_up = true }) }
     ensures refused { IsErr result → IsTrue asking.old.refusable }
     ensures lawful { Q.lawful asking.old.question asking.new.so_far }
-    ensures cost { Spends steps.old steps.new 0 0 (touches_of (B.Part.ask_touches asking.old.question) levels.now) }
-
+    ensures consulted { IfOk result (λ _. steps.new.consulted ≡ steps.old.consulted + parts_of levels.now) }
+    ensures cost { Consults steps.old steps.new (parts_of levels.now) (touches_of (B.Part.ask_touches asking.old.question) levels.now) }
     ensures three { AreThreeAtMost B.Part.Part.contents levels.now }
 {
     match levels.split_first() {
@@ -61,7 +61,8 @@ fn ask_parts<P: Answers<Q>, Q: Question<Item = P::Item>, L: Ledger>(
         ≡ record asking.old { so_far = asking.new.so_far; parts = asking.new.parts; live = asking.new.live; is_given_up = true }) }
     ensures refused { IsErr result → IsTrue asking.old.refusable }
     ensures lawful { Q.lawful asking.old.question asking.new.so_far }
-    ensures cost { Spends steps.old steps.new 0 0 (sum_by (P.ask_touches asking.old.question) parts.now) }
+    ensures consulted { IfOk result (λ _. steps.new.consulted ≡ steps.old.consulted + length parts.now) }
+    ensures cost { Consults steps.old steps.new (length parts.now) (sum_by (P.ask_touches asking.old.question) parts.now) }
 {
     for part in parts {
         asking.part(part, steps)?;

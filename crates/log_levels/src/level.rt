@@ -6,12 +6,13 @@ ghost use Rattle.query_laws.specs.Orders.{AllStampsDiffer};
 ghost use Rattle.query_laws.specs.StepLedger.{Spends};
 ghost use Rattle.query_laws.specs.declared.item.Order.TheVariants.{First};
 ghost use Rattle.builder_trait.specs.Parts.{OwnsStamp, has_stamp, marked, live_of};
+ghost use Rattle.partial_build.specs.Construction.{IsBegun};
 ghost use Rattle.partial_build.specs.Quota.{quota};
-ghost use Rattle.log_levels.specs.Slots.{ticks_of, waiting_in, read_by, turns_to_go, held_in, tables_in, in_memory, live_in, items_in, asked_in, IsIdle};
+ghost use Rattle.log_levels.specs.Slots.{ticks_of, waiting_in, read_by, turns_to_go, work_of, left_in, held_in, tables_in, in_memory, live_in, items_in, asked_in, IsIdle};
 ghost use Rattle.log_levels.specs.Level.{IsOfLevel};
 ghost use Rattle.log_levels.specs.Neighbours.{IsConstructionOf, IsFed, IsPunctual, IsPublication};
 ghost use Rattle.log_levels.specs.Marking.{IsLiveIn, AreMarkedAt};
-ghost use Rattle.log_levels.specs.Cost.{IsWithin};
+ghost use Rattle.log_levels.specs.Cost.{IsWithin, IsPaid};
 
 mod giving;
 mod rooms;
@@ -155,6 +156,7 @@ impl<B: Builder> Level<B> {
         ensures ticks { ticks_of self.new ≡ ticks_of self.old }
         ensures waiting { waiting_in self.new ≡ waiting_in self.old }
         ensures running { is_some self.old.construction ≡ true → self.new ≡ self.old }
+        ensures begun { self.old.construction ≡ None → IfSome self.new.construction IsBegun }
         ensures held { in_memory self.new ≡ in_memory self.old }
     {
         if self.construction.is_some() {
@@ -187,6 +189,9 @@ impl<B: Builder> Level<B> {
         ensures ticked { ticks_of self.new ≡ ticks_of self.old + 1 }
         ensures punctual { IsPunctual ⟦<B as Profiled>⟧.profile self.new }
         ensures to_go { steps.new.turns - steps.old.turns ≤ turns_to_go ⟦<B as Profiled>⟧.profile self.old }
+        ensures paid { IsPaid ⟦<B as Profiled>⟧.profile self.old self.new steps.old steps.new }
+        ensures first { IfSome self.old.construction IsBegun
+            → IsPaid ⟦<B as Profiled>⟧.profile (record self.old { construction = None }) self.new steps.old steps.new }
 
         // A mark for each item that waited and waits no longer.
         ensures waiting { waiting_in self.new + steps.new.marks ≡ waiting_in self.old + steps.old.marks }
@@ -213,6 +218,7 @@ impl<B: Builder> Level<B> {
         ensures held { in_memory self.new ≡ in_memory self.old }
         ensures held_below { in_memory lower.new ≡ in_memory lower.old }
         ensures waiting { waiting_in self.new ≡ waiting_in self.old }
+        ensures left { left_in ⟦<B as Profiled>⟧.profile self.new ≡ left_in ⟦<B as Profiled>⟧.profile self.old }
     {
         if let Some(construction) = self.take_ended() {
             let (part, tables) = construction.publish();
@@ -278,8 +284,7 @@ impl<B: Builder> Level<B> {
         requires early { ticks_of self.old < 2 ^ self.old.level }
         requires punctual { IsPunctual ⟦<B as Profiled>⟧.profile self.old }
         ensures same { self.new ≡ record self.old { construction = self.new.construction } }
-        ensures ticks { ticks_of self.new ≡ ticks_of self.old }
-        ensures runs { is_some self.new.construction ≡ is_some self.old.construction }
+        ensures work { work_of self.new ≡ work_of self.old }
         ensures waiting { waiting_in self.new ≡ waiting_in self.old + read_by (B.Item.before First) item.now self.old }
 
         // Whichever the parts are: with the one in which it stood live and is marked now.

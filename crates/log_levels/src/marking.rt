@@ -9,7 +9,7 @@ ghost use Rattle.log_levels.specs.Slots.{Slots, IsPartOf, ticks_of, in_memory, l
 ghost use Rattle.log_levels.specs.Levels.{weight_of, waiting_of, live_items, all_items, parts_asked};
 ghost use Rattle.log_levels.specs.Neighbours.{IsConstructionOf, IsPunctual};
 ghost use Rattle.log_levels.specs.Towers.{IsDue, IsDueSoon, IsTower, HaveRoomsAbove, AreLevels, AreOnTime, TakeTicks};
-ghost use Rattle.log_levels.specs.Cost.{IsCostOfDelete};
+ghost use Rattle.log_levels.specs.Cost.{IsCostOfDelete, ArePaid};
 ghost use Rattle.log_levels.specs.Marking.{IsLiveIn, AreNoted, IsMarked, IsSameBelow, AreMarked, read_into, noted_above, noted};
 
 use crate::level::Level;
@@ -132,6 +132,7 @@ pub fn take_out<B: Builder, L: Ledger>(
     ensures cost { IsCostOfDelete B.SLOPE B.BASE B.Part.Part.mark_touches
         (parts_asked B.Part.Part.contents B.Item.stamp (B.Item.stamp item.now) levels.old)
         (noted (B.Item.before First) item.now B.Part.Part.contents B.Item.stamp levels.old) levels.old levels.new steps.old steps.new }
+    ensures paid { ArePaid ⟦<B as Profiled>⟧.profile levels.old levels.new steps.old steps.new }
 {
     mark_in(levels, item, steps);
     take_tick(levels, steps);

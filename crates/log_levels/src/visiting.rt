@@ -9,7 +9,7 @@ ghost use Rattle.log_levels.specs.Levels.{lowest_held, one_more, waiting_of, wei
 ghost use Rattle.log_levels.specs.Neighbours.{IsBelow, IsVisited, IsPunctual};
 ghost use Rattle.log_levels.specs.Towers.{IsTower, IsHalfway, IsDue, IsDueSoon, HaveRooms, HaveRoomsAbove, HaveRoomsAhead, AreAllLevels, AreHalfway, AreOnTime, AreTicked, HasArrived, TakeTicks, HaveRoomsNow, HaveRoomsNext};
 ghost use Rattle.log_levels.specs.Level.{IsOfLevel};
-ghost use Rattle.log_levels.specs.Cost.{IsWithin, IsCostOfInsert, quotas};
+ghost use Rattle.log_levels.specs.Cost.{IsWithin, IsCostOfInsert, ArePaid, quotas};
 
 use crate::level::Level;
 use builder_trait::{Builder, Part, Profiled};
@@ -29,6 +29,7 @@ fn walk<B: Builder, L: Ledger>(lower: &mut Level<B>, above: &mut [Level<B>], ste
     ensures same { lower.new ≡ record lower.old { parts = lower.new.parts; kept = lower.new.kept } }
     ensures rooms { HaveRoomsAhead lower.old above.old → HaveRooms IsDue lower.new above.new }
     ensures waiting { waiting_of above.new + steps.new.marks ≡ waiting_of above.old + steps.old.marks }
+    ensures paid { ArePaid ⟦<B as Profiled>⟧.profile above.old above.new steps.old steps.new }
     ensures cost { (g : ℕ) → weight_of (lower.old ∷ above.old) < 2 ^ (g + 1)
         → IsWithin (quotas B.SLOPE B.BASE (lower.old.level + 1) g) (2 * (g - lower.old.level)) (B.Part.Part.mark_touches g) steps.old steps.new }
 {
@@ -67,6 +68,7 @@ pub(crate) fn take_tick<B: Builder, L: Ledger>(levels: &mut [Level<B>], steps: &
     ensures each { TakeTicks levels.old levels.new }
     ensures rooms { HaveRoomsNext levels.old → HaveRoomsAbove IsDue levels.new }
     ensures waiting { waiting_of levels.new + steps.new.marks ≡ waiting_of levels.old + steps.old.marks }
+    ensures paid { ArePaid ⟦<B as Profiled>⟧.profile levels.old levels.new steps.old steps.new }
     ensures cost { (g : ℕ) → weight_of levels.old < 2 ^ (g + 1)
         → IsWithin (quotas B.SLOPE B.BASE 1 g) (2 * g) (B.Part.Part.mark_touches g) steps.old steps.new }
 {
@@ -94,6 +96,7 @@ pub fn take_in<B: Builder, L: Ledger>(levels: &mut [Level<B>], part: B::Part, st
     ensures each { TakeTicks levels.old levels.new }
     ensures held { map in_memory levels.new ≡ one_more (map in_memory levels.old) }
     ensures cost { IsCostOfInsert B.SLOPE B.BASE 1 B.Part.Part.mark_touches levels.old levels.new steps.old steps.new }
+    ensures paid { ArePaid ⟦<B as Profiled>⟧.profile levels.old levels.new steps.old steps.new }
 {
     arrive(levels, part);
     take_tick(levels, steps);

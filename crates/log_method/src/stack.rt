@@ -1,7 +1,7 @@
 //! The stack.
 ghost use Rattle.std.specs.Prelude.{◌≡◌, ◌≢◌, ℕ, ◌+◌, ◌-◌, ◌*◌, ◌^◌, ◌<◌, ◌≤◌, true, false, [], ◌∷◌, All, Contains, IsTrue, IfOk, IsErr, OnOk, OnErr, length};
 ghost use Rattle.query_laws.specs.Permuted.{Permuted};
-ghost use Rattle.query_laws.specs.StepLedger.{Spends};
+ghost use Rattle.query_laws.specs.StepLedger.{Consults};
 ghost use Rattle.query_laws.specs.declared.item.Order.TheVariants.{First};
 ghost use Rattle.builder_trait.specs.Parts.{without, live_of};
 ghost use Rattle.builder_trait.specs.Builders.{begun};
@@ -14,7 +14,7 @@ ghost use Rattle.log_method.specs.Retired.{IsTakenOver};
 ghost use Rattle.log_method.specs.Height.{IsHeight, HaveAtMost, HaveFewParts, size_of};
 ghost use Rattle.log_levels.specs.Asking.{AreThreeAtMost, HasAsked};
 ghost use Rattle.log_levels.specs.Level.{IsOfLevel};
-ghost use Rattle.log_levels.specs.Cost.{IsWithin, IsCostOfInsert, IsCostOfDelete};
+ghost use Rattle.log_levels.specs.Cost.{IsWithin, IsCostOfInsert, IsCostOfDelete, ArePaid};
 ghost use Rattle.log_levels.specs.Towers.{AreOnTime, TakeTicks};
 ghost use Rattle.log_levels.specs.Marking.{noted};
 ghost use Rattle.log_method.specs.Rooms.{rooms_of, kept_in, forecast_of};
@@ -96,6 +96,7 @@ impl<B: Builder> Stack<B> {
         // Whichever bound g there is: the least is the greatest level with `2 ^ g` at most the weight. The marks are one for each item that waited
         // and waits no longer.
         ensures cost { IsCostOfInsert B.SLOPE B.BASE 0 B.Part.Part.mark_touches self.old.levels self.new.levels steps.old steps.new }
+        ensures paid { ArePaid ⟦<B as Profiled>⟧.profile self.old.levels self.new.levels steps.old steps.new }
     {
         let part = part_of(&mut self.starters, item, steps);
         take_in(&mut self.levels, part, steps);
@@ -123,6 +124,7 @@ impl<B: Builder> Stack<B> {
             (parts_asked B.Part.Part.contents B.Item.stamp (B.Item.stamp item.now) self.old.levels)
             (noted (B.Item.before First) item.now B.Part.Part.contents B.Item.stamp self.old.levels)
             self.old.levels self.new.levels steps.old steps.new }
+        ensures paid { ArePaid ⟦<B as Profiled>⟧.profile self.old.levels self.new.levels steps.old steps.new }
 
         // At most three of each level up to g, and no part weighs more.
         ensures few_asked { (g : ℕ) → weight_of self.new.levels < 2 ^ (g + 1)
@@ -172,7 +174,8 @@ impl<B: Builder> Stack<B> {
         ensures given_up { OnErr result (asking.new
             ≡ record asking.old { so_far = asking.new.so_far; parts = asking.new.parts; live = asking.new.live; is_given_up = true }) }
         ensures refused { IsErr result → IsTrue asking.old.refusable }
-        ensures cost { Spends steps.old steps.new 0 0 (touches_of (B.Part.ask_touches asking.old.question) self.now.levels) }
+        ensures consulted { IfOk result (λ _. steps.new.consulted ≡ steps.old.consulted + parts_of self.now.levels) }
+        ensures cost { Consults steps.old steps.new (parts_of self.now.levels) (touches_of (B.Part.ask_touches asking.old.question) self.now.levels) }
         ensures three { AreThreeAtMost B.Part.Part.contents self.now.levels }
         ensures few { HaveFewParts B.Part.Part.contents self.now.levels }
     {

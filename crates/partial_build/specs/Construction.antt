@@ -33,6 +33,15 @@ module _ {Item : Type 0} where
   turns_left profile c =
       c.merge.left + (if c.part.is_sealed then c.part.left else 2 ^ (c.level - 1) * (profile.slope * c.level + profile.base))
 
+  -- how many items of both sources were read, in both orders
+  abbrev pub read_of : Construction Item → ℕ
+  read_of c = length c.merge.a.table + length c.merge.b.table + (c.merge.a.reread + c.merge.b.reread)
+
+  -- Nothing was read yet, and where there is something to read the builder isn't sealed.
+  pub record IsBegun (c : Construction Item) : Type 0 where
+    pub unread : read_of c ≡ 0
+    pub unsealed : 0 < c.merge.left → c.part.is_sealed ≡ false
+
   -- The turns of a tick: at most its quota, and fewer only where the part is built after it. Of a builder that is sealed just so many fewer are left,
   -- so that none is taken once it has ended; and before the seal no more are taken than may be left.
   pub record AreTaken (profile : PartProfile Item) (turns : ℕ) (old new : Construction Item) : Type 0 where

@@ -65,6 +65,7 @@ impl<B: Builder> Build<B> {
           waiting = [];
         } }
         ensures empty { result.part.contents ≡ all_live (B.progress builder) }
+        ensures unsealed { 0 < merge.left → result.part.is_sealed ≡ false }
         ensures on_time { IsOnTime ⟦<B as Profiled>⟧.profile result }
     {
         let mut part = NewPart::new(builder);

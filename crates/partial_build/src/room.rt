@@ -3,7 +3,7 @@ ghost use Rattle.std.specs.Prelude.{◌≡◌, ◌+◌, ◌-◌, ◌<◌, ◌≤
 ghost use Rattle.query_laws.specs.Orders.{AllStampsDiffer};
 ghost use Rattle.builder_trait.specs.Builders.{begun};
 ghost use Rattle.ordered_merge.specs.Merging.{StampsDiffer};
-ghost use Rattle.partial_build.specs.Construction.{Builds, IsOnTime};
+ghost use Rattle.partial_build.specs.Construction.{Builds, IsBegun, IsOnTime};
 
 use crate::build::Build;
 use builder_trait::{Builder, Part, Profiled};
@@ -118,6 +118,7 @@ impl<B: Builder> Room<B> {
         requires differ { StampsDiffer B.Item.stamp (B.Part.Part.contents a.now).items (B.Part.Part.contents b.now).items }
         ensures builds { Builds ⟦<B as Profiled>⟧.profile result (B.Part.Part.contents a.now) (B.Part.Part.contents b.now) }
         ensures level { result.level ≡ self }
+        ensures begun { IsBegun result }
         ensures none { (result.ticks ≡ 0) × (result.waiting ≡ []) }
         ensures on_time { IsOnTime ⟦<B as Profiled>⟧.profile result }
     {

@@ -3,7 +3,7 @@ ghost use Rattle.std.specs.Prelude.{◌≡◌, ◌+◌, ◌^◌, ◌<◌, ◌≤
 ghost use Rattle.query_laws.specs.Orders.{AllStampsDiffer};
 ghost use Rattle.log_levels.specs.Slots.{ticks_of, in_memory, items_in};
 ghost use Rattle.log_levels.specs.Neighbours.{IsBelow, IsVisited, IsPunctual};
-ghost use Rattle.log_levels.specs.Cost.{IsCostOfVisit};
+ghost use Rattle.log_levels.specs.Cost.{IsCostOfVisit, IsPaid};
 
 use crate::level::Level;
 use builder_trait::{Builder, Part, Profiled};
@@ -33,6 +33,7 @@ impl<B: Builder> Level<B> {
 
         // No turn of a construction whose part is built, and no mark where none waits.
         ensures cost { IsCostOfVisit ⟦<B as Profiled>⟧.profile B.Part.Part.mark_touches lower.old self.old self.new steps.old steps.new }
+        ensures paid { IsPaid ⟦<B as Profiled>⟧.profile self.old self.new steps.old steps.new }
     {
         let [a, b, ..] = lower.parts() else {
             return;

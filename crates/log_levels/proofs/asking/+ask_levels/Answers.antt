@@ -26,6 +26,15 @@ pub returns-in_ok-ask_levels-in-Some-clause-refused : goal.returns-in_ok-ask_lev
 returns-in_ok-ask_levels-in-Some-clause-refused g t c failed =
     subst IsTrue (ap (λ a. a.refusable) c.in_ok-ask_levels-in-Some.ensures.joined.if_ok) (c.ask_parts.ensures.refused failed)
 
+pub returns-in_ok-ask_levels-in-Some-clause-consulted : goal.returns-in_ok-ask_levels-in-Some-clause-consulted
+returns-in_ok-ask_levels-in-Some-clause-consulted g t c =
+    let same = ap length c.parts-parts.ensures.value in
+    let split = ap parts_of c.in-Some.ensures.cases.0 in
+    IfOk-weaker c.ask_parts.result _ _ (λ _ e. omega (arith, e, c.in_ok-ask_levels-in-Some.ensures.consulted, same, split)) c.ask_parts.ensures.consulted
+
+pub returns-in-None-clause-consulted : goal.returns-in-None-clause-consulted
+returns-in-None-clause-consulted g t c = omega (arith, ap parts_of (none_of c.args.levels.now (omega (arith, c.in-None.ensures.cases))))
+
 pub returns-in_ok-ask_levels-in-Some-clause-joined : goal.returns-in_ok-ask_levels-in-Some-clause-joined
 returns-in_ok-ask_levels-in-Some-clause-joined g t c =
     let contents = g.B.Part.Part.contents in

@@ -1,8 +1,8 @@
-use Rattle.std.proofs.Common.{◌≡◌, ◌+◌, ◌<◌, ◌∙◌, ◌++◌, List, get_or, length, take, sum_by, refl, ap, sym, subst}
+use Rattle.std.proofs.Common.{◌≡◌, ◌+◌, ◌<◌, ◌∙◌, ◌++◌, List, get_or, length, take, sum_by, refl, ap, sym, subst, arith}
 use Rattle.std.specs.List.{flat_map}
 use Rattle.std.proofs.lemmas.List.Sums.{sum_by_more}
-use Rattle.query_laws.specs.StepLedger.{Spends}
-use Rattle.query_laws.proofs.Counting.{Spends-then}
+use Rattle.query_laws.specs.StepLedger.{Consults}
+use Rattle.query_laws.proofs.Counting.{Consults-then}
 use Rattle.builder_trait.specs.Parts.{live_of}
 use Rattle.log_levels.proofs.Joining.{flat_map-more, asked_over-then}
 use Rattle.log_levels.proofs.asking.ask_parts.Goals as goal
@@ -28,6 +28,7 @@ loop-part-preserved g c =
       parts_asked = asked_over-then laws now c.loop-part.asking c.part.new.self (flat_map live (take i parts)) (live part) i 1 c.requires.lawful
           h.parts_asked c.in_ok-part.ensures.joined items refl;
       lawful = subst (λ q. g.Q.Question.lawful q c.part.new.self.so_far) question c.part.ensures.lawful;
-      spent = subst (λ n. Spends c.args.steps.now c.part.new.steps 0 0 n) sum
-          (Spends-then h.spent (subst (λ q. Spends c.loop-part.steps c.part.new.steps 0 0 (g.P.Answers.ask_touches q part)) question c.part.ensures.cost));
+      consulted = omega (arith, h.consulted, c.part.ensures.consulted);
+      spent = subst (λ n. Consults c.args.steps.now c.part.new.steps (i + 1) n) sum
+          (Consults-then h.spent (subst (λ q. Consults c.loop-part.steps c.part.new.steps 1 (g.P.Answers.ask_touches q part)) question c.part.ensures.cost));
     }

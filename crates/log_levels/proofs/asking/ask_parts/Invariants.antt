@@ -1,6 +1,6 @@
 use Rattle.std.proofs.Common.{◌≡◌, ◌+◌, length, sum_by, take}
 use Rattle.std.specs.List.{flat_map}
-use Rattle.query_laws.specs.StepLedger.{Spends}
+use Rattle.query_laws.specs.StepLedger.{Consults}
 use Rattle.builder_trait.specs.Parts.{live_of}
 use Rattle.log_levels.proofs.asking.ask_parts.Given as goal
 
@@ -13,5 +13,6 @@ invariant-loop-part g l = record {
     live = l.initial.asking.live + length (flat_map (λ p. live_of (g.P.Part.contents p)) (take l.part-index l.parts));
   };
   lawful : g.Q.Question.lawful l.initial.asking.question l.asking.so_far;
-  spent : Spends l.initial.steps l.steps 0 0 (sum_by (g.P.Answers.ask_touches l.initial.asking.question) (take l.part-index l.parts));
+  consulted : l.steps.consulted ≡ l.initial.steps.consulted + l.part-index;
+  spent : Consults l.initial.steps l.steps l.part-index (sum_by (g.P.Answers.ask_touches l.initial.asking.question) (take l.part-index l.parts));
 }

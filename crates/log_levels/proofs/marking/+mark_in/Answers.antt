@@ -8,12 +8,12 @@ use Rattle.query_laws.specs.StepLedger.{Spends}
 use Rattle.query_laws.proofs.Counting.{Spends-nothing, Spends-within}
 use Rattle.builder_trait.specs.Builders.{PartProfile}
 use Rattle.builder_trait.specs.Parts.{OwnsStamp, has_stamp, without, live_of}
-use Rattle.log_levels.specs.Slots.{Slots, one_if, clock_of, waiting_in, held_in, tables_in, in_memory, weight_in, live_in, items_in, asked_in}
+use Rattle.log_levels.specs.Slots.{Slots, one_if, work_of, waiting_in, held_in, tables_in, in_memory, weight_in, live_in, items_in, asked_in}
 use Rattle.log_levels.specs.Levels.{waiting_of, weight_of, live_items, all_items, parts_asked}
 use Rattle.log_levels.specs.Neighbours.{IsPunctual}
 use Rattle.log_levels.specs.Towers.{IsDue, IsDueSoon, HaveRoomsAbove, AreLevels}
 use Rattle.log_levels.specs.Marking.{IsSameBelow, noted_above}
-use Rattle.log_levels.proofs.Clocks.{clocks-noted}
+use Rattle.log_levels.proofs.Clocks.{work-noted}
 use Rattle.log_levels.proofs.Distinct.{AllStampsDiffer-front, AllStampsDiffer-back}
 use Rattle.log_levels.proofs.Publishing.{none_of}
 use Rattle.log_levels.proofs.Held.{memory-same}
@@ -74,7 +74,7 @@ returns-then-mark_in g p c =
         weight = ap (λ n. weight_in level + n) h.marked.weight ∙ sym (ap weight_of split);
         held = ap (λ ns. in_memory level ∷ ns) h.marked.held ∙ sym (ap (map in_memory) split);
         numbers = ap (λ ns. level.level ∷ ns) h.marked.numbers ∙ sym (ap (map (λ l. l.level)) split);
-        clocks = ap (λ os. clock_of level ∷ os) h.marked.clocks ∙ sym (ap (map clock_of) split);
+        work = ap (λ os. work_of level ∷ os) h.marked.work ∙ sym (ap (map work_of) split);
         waiting = rw split (omega (arith, h.marked.waiting, noted-lacking before x contents stamp level above lacks));
       };
       cost = λ g' light. subst (λ n. Spends c.args.steps.now c.mark_in.new.steps 0 n (n * g.B.Part.Part.mark_touches g'))
@@ -151,7 +151,7 @@ returns-else-mark_in g p c =
         numbers = ap₂ (λ l ns. l ∷ ns) (ap (λ v. v.level) m.same)
             (same-noted (map (λ v. v.level)) (λ l l' rest same _. ap (λ v. v.level ∷ map (λ u. u.level) rest) same) mid above' n.noted ∙ h.marked.numbers)
             ∙ sym (ap (map (λ l. l.level)) split);
-        clocks = ap₂ (λ o os. o ∷ os) (ap clock_of m.same) (clocks-noted mid above' n.noted ∙ h.marked.clocks) ∙ sym (ap (map clock_of) split);
+        work = ap₂ (λ o os. o ∷ os) (ap work_of m.same) (work-noted mid above' n.noted ∙ h.marked.work) ∙ sym (ap (map work_of) split);
         waiting = rw split (omega (arith, here, h.marked.waiting, n.waiting, seen));
       };
       cost = λ g' light.
@@ -172,7 +172,7 @@ returns-else-mark_in g p c =
 pub returns-in-None-clause-marked : goal.returns-in-None-clause-marked
 returns-in-None-clause-marked g p c =
     rw (none_of c.args.levels.now (omega (arith, c.in-None.ensures.cases)))
-    (record { live = refl; items = refl; weight = refl; held = refl; numbers = refl; clocks = refl; waiting = refl })
+    (record { live = refl; items = refl; weight = refl; held = refl; numbers = refl; work = refl; waiting = refl })
 
 pub returns-in-None-clause-cost : goal.returns-in-None-clause-cost
 returns-in-None-clause-cost g p c g' light =

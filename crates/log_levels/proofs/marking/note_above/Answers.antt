@@ -40,7 +40,7 @@ returns-in-None-clause-waiting g c read =
 pub returns-in-Some-clause-noted : goal.returns-in-Some-clause-noted
 returns-in-Some-clause-noted g c =
     subst (λ ls. AreNoted ls (c.note.new.self ∷ c.in-Some._above.now)) (sym c.in-Some.ensures.cases.0)
-    (c.note.new.self, refl, c.note.ensures.same, c.note.ensures.ticks, c.note.ensures.runs)
+    (c.note.new.self, refl, c.note.ensures.same, c.note.ensures.work)
 
 pub returns-in-Some-clause-of_a : goal.returns-in-Some-clause-of_a
 returns-in-Some-clause-of_a g c early l l' rest was is a b new live same =

@@ -4,7 +4,8 @@ use Rattle.builder_trait.specs.Builders.{PartProfile}
 use Rattle.log_levels.specs.Slots.{IsPartOf}
 use Rattle.log_levels.specs.Levels.{weight_of, all_items, parts_asked}
 use Rattle.log_levels.specs.Cost.{IsWithin}
-use Rattle.log_levels.proofs.Clocks.{TakeTicks-from}
+use Rattle.log_levels.proofs.Clocks.{TakeTicks-from, clocks-worked}
+use Rattle.log_levels.proofs.Paying.{due_of-worked, saved_of-worked}
 use Rattle.log_levels.proofs.Spending.{below_power, IsWithin-more, IsWithin-of, IsWithin-then}
 use Rattle.log_levels.proofs.MarkedLevels.{owned_live, levels-from_all, halfway-marked, rooms_now, rooms_next, some_live}
 use Rattle.log_levels.proofs.marking.take_out.Given.{Over}
@@ -40,8 +41,8 @@ returns-clause-rooms g c soon = c.take_tick.ensures.rooms (rooms_next c.mark_in.
 
 pub returns-clause-each : goal.returns-clause-each
 returns-clause-each g c =
-    TakeTicks-from c.args.levels.now c.mark_in.new.levels c.take_tick.new.levels c.mark_in.ensures.marked.numbers c.mark_in.ensures.marked.clocks
-    c.take_tick.ensures.each
+    TakeTicks-from c.args.levels.now c.mark_in.new.levels c.take_tick.new.levels c.mark_in.ensures.marked.numbers
+    (clocks-worked c.args.levels.now c.mark_in.new.levels c.mark_in.ensures.marked.work) c.take_tick.ensures.each
 
 pub returns-clause-cost : goal.returns-clause-cost
 returns-clause-cost g c =
@@ -61,3 +62,18 @@ returns-clause-cost g c =
       all_asked = omega (arith, asking, (c.take_tick.ensures.cost mid (below_power mid)).spent.marks_spent);
       drained = omega (arith, asking, c.mark_in.ensures.marked.waiting, c.take_tick.ensures.waiting);
     }
+
+pub returns-clause-paid : goal.returns-clause-paid
+returns-clause-paid g c =
+    let old = c.args.levels.now in
+    let mid = c.mark_in.new.levels in
+    let new = c.take_tick.new.levels in
+    let work = c.mark_in.ensures.marked.work in
+    let weight = weight_of old in
+    omega (
+      arith,
+      due_of-worked (profile g) old mid new work,
+      saved_of-worked (profile g) old mid new work,
+      c.take_tick.ensures.paid,
+      (c.mark_in.ensures.cost weight (below_power weight)).turns_spent,
+    )

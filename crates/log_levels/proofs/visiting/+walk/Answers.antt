@@ -6,7 +6,7 @@ use Rattle.query_laws.specs.Orders.{AllStampsDiffer}
 use Rattle.query_laws.proofs.Permutations.{Permuted-refl}
 use Rattle.builder_trait.specs.Builders.{PartProfile}
 use Rattle.partial_build.specs.Quota.{quota}
-use Rattle.log_levels.specs.Slots.{ticks_of, clock_of, waiting_in, in_memory, items_in}
+use Rattle.log_levels.specs.Slots.{ticks_of, clock_of, waiting_in, left_in, due_in, saved_in, in_memory, items_in}
 use Rattle.log_levels.specs.Levels.{weight_of, live_items, all_items}
 use Rattle.log_levels.specs.Neighbours.{IsPunctual, TakesTick}
 use Rattle.log_levels.specs.Towers.{IsHalfway, IsTower, IsDue, HaveRooms, HaveRoomsAbove, HaveRoomsAhead, TakeTicks}
@@ -92,6 +92,11 @@ returns-in-Some g p c =
       waiting =
           let here : waiting_in level' ≡ waiting_in c.visit.new.self = ap waiting_in w.same in
           rw split (omega (arith, here, v.cost.drained, w.waiting));
+      paid =
+          let left : left_in (profile g) level' ≡ left_in (profile g) c.visit.new.self = ap (left_in (profile g)) w.same in
+          let due : due_in (profile g) level level' ≡ due_in (profile g) level c.visit.new.self = ap (due_in (profile g) level) w.same in
+          let saved : saved_in (profile g) level level' ≡ saved_in (profile g) level c.visit.new.self = ap (saved_in (profile g) level) w.same in
+          rw split (omega (arith, due, left, saved, v.paid, w.paid));
       rooms = λ ahead. rooms-walked lower lower' level c.visit.new.self level' above above' v.visited.advances (ap (λ l. l.level) v.same) v.visited.rooms
           (ap (λ l. l.level) v.same_below) (ap ticks_of v.same_below) (ap (λ l. l.has_room) w.same) w.rooms (subst (HaveRoomsAhead lower) split ahead);
       cost = λ g' light.

@@ -2,7 +2,7 @@ use Rattle.std.proofs.Common.{◌≡◌, ◌+◌, ◌<◌, ◌∙◌, ◌∷◌,
 use Rattle.std.proofs.lemmas.List.{length_push}
 use Rattle.builder_trait.specs.Builders.{PartProfile}
 use Rattle.builder_trait.specs.Parts.{live_of}
-use Rattle.log_levels.specs.Slots.{ticks_of, clock_of, waiting_in, held_in, tables_in, in_memory}
+use Rattle.log_levels.specs.Slots.{ticks_of, clock_of, work_of, waiting_in, held_in, tables_in, in_memory}
 use Rattle.log_levels.specs.Levels.{lowest_held, one_more, waiting_of, weight_of, live_items, all_items}
 use Rattle.log_levels.specs.Level.{IsOfLevel}
 use Rattle.log_levels.specs.Neighbours.{arrives}
@@ -61,6 +61,7 @@ returns g c =
         weight = weight-pushed contents (profile g) lowest above h new c.args.part parts level ∙ ap (λ ls. weight_of ls + 1) (sym split);
         held = ap (λ n. n ∷ map in_memory above) more ∙ sym (ap (λ ls. one_more (map in_memory ls)) split);
         waiting = ap (λ n. n + waiting_of above) (ap waiting_in c.arrive.ensures) ∙ sym (ap waiting_of split);
+        work = ap (λ o. o ∷ map work_of above) (ap work_of c.arrive.ensures) ∙ sym (ap (map work_of) split);
       };
       clocks = λ ls ticks. TakeTicks-from c.args.levels.now (new ∷ above) ls (ap (λ k. k ∷ map (λ v. v.level) above) level ∙ sym (ap (map (λ v. v.level)) split))
           (ap (λ o. o ∷ map clock_of above) (ap clock_of c.arrive.ensures) ∙ sym (ap (map clock_of) split)) ticks;

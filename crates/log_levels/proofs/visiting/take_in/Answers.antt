@@ -1,8 +1,14 @@
 use Rattle.std.proofs.Common.{◌++◌, ◌∙◌, arith}
 use Rattle.query_laws.specs.Permuted.{composed}
+use Rattle.builder_trait.specs.Builders.{PartProfile}
 use Rattle.log_levels.specs.Levels.{all_items}
 use Rattle.log_levels.proofs.Distinct.{AllStampsDiffer-part, IsPartOf-permuted, IsPartOf-then}
+use Rattle.log_levels.proofs.Paying.{due_of-worked, saved_of-worked}
+use Rattle.log_levels.proofs.visiting.take_in.Given.{Over}
 use Rattle.log_levels.proofs.visiting.take_in.Goals as goal
+
+abbrev profile : (g : Over) → PartProfile g.row.B-Item.Denot
+profile g = record { stamp = g.B.Item.Item.stamp; before = g.B.Item.Item.before; slope = g.B.Builder.SLOPE; base = g.B.Builder.BASE }
 
 pub take_tick-requires-clause-apart : goal.take_tick-requires-clause-apart
 take_tick-requires-clause-apart g c =
@@ -35,3 +41,13 @@ returns-clause-cost g c = record {
   within = λ g' light. c.take_tick.ensures.cost g' (omega (arith, light, c.take_tick.ensures.ticked.weight));
   drained = omega (arith, c.take_tick.ensures.waiting, c.arrive.ensures.arrived.waiting);
 }
+
+pub returns-clause-paid : goal.returns-clause-paid
+returns-clause-paid g c =
+    let work = c.arrive.ensures.arrived.work in
+    omega (
+      arith,
+      due_of-worked (profile g) c.args.levels.now c.arrive.new.levels c.take_tick.new.levels work,
+      saved_of-worked (profile g) c.args.levels.now c.arrive.new.levels c.take_tick.new.levels work,
+      c.take_tick.ensures.paid,
+    )

@@ -9,6 +9,7 @@ use Rattle.log_levels.specs.Neighbours.{IsPunctual, rests}
 use Rattle.log_levels.specs.Cost.{IsWithin, quotas}
 use Rattle.log_levels.specs.Towers.{AreHalfway, HaveRoomsNext, TakeTicks}
 use Rattle.log_levels.proofs.Publishing.{none_of}
+use Rattle.log_levels.proofs.Paying.{due_in-same}
 use Rattle.log_levels.proofs.Spending.{IsWithin-more}
 use Rattle.log_levels.proofs.visiting.take_tick.Given.{Over}
 use Rattle.log_levels.proofs.visiting.take_tick.Goals as goal
@@ -43,6 +44,9 @@ returns g c =
       waiting =
           let here : waiting_in c.walk.new.lower ≡ waiting_in c.in-Some.lowest.now = ap waiting_in w.same in
           rw split (omega (arith, here, w.waiting));
+      paid =
+          let due = due_in-same (profile g) c.in-Some.lowest.now c.walk.new.lower (ap (λ l. l.construction) w.same) in
+          rw split (omega (arith, due, w.paid));
       rooms = λ next. w.rooms (subst HaveRoomsNext split next);
       cost = λ g' light.
           let cost = λ (k : ℕ). IsWithin (quotas g.B.Builder.SLOPE g.B.Builder.BASE (k + 1) g') (2 * (g' - k)) (g.B.Part.Part.mark_touches g')

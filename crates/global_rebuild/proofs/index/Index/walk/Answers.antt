@@ -1,7 +1,9 @@
-use Rattle.std.proofs.Common.{◌≡◌, ◌≢◌, None, ◌∙◌, ⊎_elim, ap, sym, subst, arith}
+use Rattle.std.proofs.Common.{◌≡◌, ◌≢◌, ◌-◌, ◌*◌, None, ◌∙◌, ⊎_elim, ap, sym, subst, arith}
+use Rattle.log_levels.specs.Cost.{IsWithin, quotas}
 use Rattle.log_method.proofs.Forecasting.{when_ok}
-use Rattle.global_rebuild.specs.Index.{IsInTime, live_in}
+use Rattle.global_rebuild.specs.Index.{IsInTime, live_in, to_walk}
 use Rattle.global_rebuild.proofs.Weights.{IsIndex-shadow, paused, as_many, walked_few, live-walked, shadow_light, shadow_within, in_time-ahead, in_time-walked}
+use Rattle.global_rebuild.proofs.index.Index.walk.Given.{Over}
 use Rattle.global_rebuild.proofs.index.Index.walk.Goals as goal
 
 pub walk-requires-clause-light : goal.walk-requires-clause-light
@@ -14,11 +16,24 @@ pub walk-requires-clause-shadow : goal.walk-requires-clause-shadow
 walk-requires-clause-shadow g c =
     let h = rw (← c.self.view_is) at c.requires.chain.1 in (c.requires.chain.0, h.shadow c.in-Some.shadow c.in-Some.is, h.rise)
 
+-- no more is live in the shadow than in the main stack, before the walk and after it
+walked : (g : Over) (c : goal.After-walk g) → live_in g.B.Part.Part.contents c.walk.new.self.stack - live_in g.B.Part.Part.contents c.in-Some.shadow.stack
+    ≡ to_walk g.B.Part.Part.contents c.args.self.now - (live_in g.B.Part.Part.contents c.self.inside.main - live_in g.B.Part.Part.contents c.walk.new.self.stack)
+walked g c =
+    let h = rw (← c.self.view_is) at c.requires.chain.1 in
+    let own = c.walk.ensures.shadow c.requires.chain.0 h.rise (h.shadow c.in-Some.shadow c.in-Some.is) in
+    rw (← c.self.view_is, c.in-Some.is) (omega (arith, live-walked _ _ _ _ h c.walk.new.self own, c.walk.ensures.handed.no_fewer))
+
+pub returns-clause-some_turns : goal.returns-clause-some_turns
+returns-clause-some_turns g c = omega (arith, walked g c, c.walk.ensures.some_turns)
+
 pub returns-clause-cost : goal.returns-clause-cost
 returns-clause-cost g c g' light =
+    let turns = quotas g.B.Builder.SLOPE g.B.Builder.BASE 0 g' in
     let t = c.self.invariant.in_time c.in-Some.shadow c.in-Some.is in
-    c.walk.ensures.cost g' (shadow_within t c.walk.ensures.handed g' c.requires.few
-    (omega (arith, light, ap (λ i. live_in g.B.Part.Part.contents i.main) c.self.view_is)))
+    subst (λ n. IsWithin (n * turns) (n * (2 * g')) (g.B.Part.Part.mark_touches g') c.args.steps.now c.walk.new.steps) (walked g c)
+    (c.walk.ensures.cost g' (shadow_within t c.walk.ensures.handed g' c.requires.few
+    (omega (arith, light, ap (λ i. live_in g.B.Part.Part.contents i.main) c.self.view_is))))
 
 pub returns-clause-paused : goal.returns-clause-paused
 returns-clause-paused g c = rw (← c.self.view_is) (paused _ _ c.in-Some.shadow c.walk.new.self c.in-Some.is c.walk.ensures.handed)

@@ -1,8 +1,10 @@
-use Rattle.std.proofs.Common.{◌≡◌, ◌+◌, ◌∙◌, ◌∷◌, inr, length, ap, sym, subst, arith}
+use Rattle.std.proofs.Common.{◌≡◌, ◌+◌, ◌-◌, ◌*◌, ◌∙◌, ◌∷◌, inr, length, ap, sym, subst, arith}
 use Rattle.query_laws.specs.Permuted.{Permuted}
 use Rattle.query_laws.proofs.Permutations.{Permuted-length}
 use Rattle.log_levels.specs.Slots.{IsPartOf}
 use Rattle.log_levels.specs.Levels.{live_items, all_items, weight_of}
+use Rattle.log_levels.specs.Cost.{IsWithin, quotas}
+use Rattle.log_levels.proofs.Spending.{IsWithin-more}
 use Rattle.log_method.specs.Retired.{parts_at}
 use Rattle.log_method.proofs.GivingUp.{memory-at, same-at}
 use Rattle.global_rebuild.specs.Index.{live_in}
@@ -49,4 +51,16 @@ returns-clause-shadow g c stamps rise h =
     (subst (λ l. IsPartOf (all_items contents c.insert.new.self.levels) (c.item.result ∷ l)) (c.in_ok-prepare.ensures.same.items ∙ ap (λ r. all_items contents r.stack.levels) c.self.view_is) c.insert.ensures.items)
 
 pub returns-clause-cost : goal.returns-clause-cost
-returns-clause-cost g c g' light = c.insert.ensures.cost.within g' light
+returns-clause-cost g c g' light =
+    let live = live_in g.B.Part.Part.contents in
+    let turns = quotas g.B.Builder.SLOPE g.B.Builder.BASE 0 g' in
+    let one : 1 ≡ live c.insert.new.self - live c.args.self.now.stack = omega (arith, more g c) in
+    subst (λ n. IsWithin (n * turns) (n * (2 * g')) (g.B.Part.Part.mark_touches g') c.args.steps.now c.insert.new.steps) one
+    (IsWithin-more (c.insert.ensures.cost.within g' light) (omega arith) (omega arith) (omega arith))
+
+pub returns-clause-some_turns : goal.returns-clause-some_turns
+returns-clause-some_turns g c = omega (arith, more g c, c.insert.ensures.some_turns)
+
+pub returns-in_err-prepare-clause-some_turns : goal.returns-in_err-prepare-clause-some_turns
+returns-in_err-prepare-clause-some_turns g c =
+    omega (arith, ap length c.in_err-prepare.ensures.same.live, ap (λ r. live_in g.B.Part.Part.contents r.stack) c.self.view_is)

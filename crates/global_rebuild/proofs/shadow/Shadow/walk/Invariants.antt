@@ -1,4 +1,4 @@
-use Rattle.std.proofs.Common.{◌≡◌, ℕ, ◌+◌, ◌*◌, ◌^◌, ◌<◌, ◌⊎◌, None}
+use Rattle.std.proofs.Common.{◌≡◌, ℕ, ◌+◌, ◌-◌, ◌*◌, ◌^◌, ◌<◌, ◌≤◌, ◌⊎◌, None}
 use Rattle.id_chain.specs.StampsRise.{StampsRise}
 use Rattle.log_levels.specs.Levels.{weight_of}
 use Rattle.log_levels.specs.Cost.{IsWithin, quotas}
@@ -14,6 +14,8 @@ invariant-loop-taken g l =
           → IsShadowOf contents stamp l.initial.self l.initial.chain.entries stamps → IsShadowOf contents stamp l.self l.initial.chain.entries stamps;
       taken : (l.self.cursor ≡ None) ⊎ (live_in contents l.self.stack ≡ live_in contents l.initial.self.stack + l._taken);
       handed : HandsOver contents l._taken l.initial.self l.self;
+      some_turns : l.initial.steps.turns + 3 * (live_in contents l.self.stack - live_in contents l.initial.self.stack) ≤ l.steps.turns;
       cost : (g' : ℕ) → weight_of l.self.stack.levels < 2 ^ (g' + 1)
-          → IsWithin (l._taken * quotas g.B.Builder.SLOPE g.B.Builder.BASE 0 g') (l._taken * (2 * g')) (g.B.Part.Part.mark_touches g') l.initial.steps l.steps;
+          → let ticks = live_in contents l.self.stack - live_in contents l.initial.self.stack in
+          IsWithin (ticks * quotas g.B.Builder.SLOPE g.B.Builder.BASE 0 g') (ticks * (2 * g')) (g.B.Part.Part.mark_touches g') l.initial.steps l.steps;
     }

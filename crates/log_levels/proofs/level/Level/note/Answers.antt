@@ -1,5 +1,5 @@
 use Rattle.std.proofs.Common.{◌≡◌, ◌+◌, ◌∙◌, Bool, true, false, if◌then◌else◌, Option, Some, List, [], ◌∷◌, ◌++◌, length, ap, sym, subst, arith}
-use Rattle.std.specs.Option.{option_map_or}
+use Rattle.std.specs.Option.{option_map, option_map_or}
 use Rattle.std.proofs.lemmas.List.{length_push}
 use Rattle.query_laws.specs.declared.item.Order.TheVariants.{First}
 use Rattle.builder_trait.specs.Builders.{PartProfile}
@@ -27,6 +27,12 @@ returns-clause-waiting g c =
     ap (λ v. length v.waiting) c.note.ensures.noted ∙ pushed (is_passed before build.merge.reached x) build.waiting x
     ∙ sym (ap (λ (o : Option (Construction g.row.B-Item.Denot)). option_map_or (λ v. length v.waiting) o 0
     + option_map_or (λ v. one_if (is_passed before v.merge.reached x)) o 0) was)
+
+pub returns-clause-work : goal.returns-clause-work
+returns-clause-work g c =
+    let was : c.args.self.now.construction ≡ Some c.in-Some.construction = sym (ap (λ v. v.construction) c.self.view_is) ∙ c.in-Some.is in
+    ap (λ (v : Construction g.row.B-Item.Denot). Some (record v { waiting = [] })) c.note.ensures.noted
+    ∙ sym (ap (option_map (λ (v : Construction g.row.B-Item.Denot). record v { waiting = [] })) was)
 
 pub invariant_of-self-2 : goal.invariant_of-self-2
 invariant_of-self-2 g c =

@@ -1,11 +1,17 @@
 use Rattle.std.proofs.Common.{rules, ◌≡◌, ◌+◌, ◌^◌, ◌∙◌, [], ◌∷◌, ◌++◌, Option, None, length, drop, ap, sym, subst, arith}
 use Rattle.std.specs.Option.{option_map_or}
-use Rattle.partial_build.specs.Construction.{Construction, skipped_of}
+use Rattle.builder_trait.specs.Builders.{PartProfile}
+use Rattle.partial_build.specs.Construction.{Construction, skipped_of, turns_left}
 use Rattle.log_levels.specs.Slots.{ticks_of, waiting_in}
 use Rattle.log_levels.specs.Level.{IsOfLevel}
 use Rattle.log_levels.proofs.Neighbouring.{none_waiting}
+use Rattle.log_levels.proofs.Paying.{left-ended}
 use Rattle.log_levels.proofs.Publishing.{two_oldest, none_of}
+use Rattle.log_levels.proofs.level.Level.publish.Given.{Over}
 use Rattle.log_levels.proofs.level.Level.publish.Goals as goal
+
+abbrev profile : (g : Over) → PartProfile g.row.B-Item.Denot
+profile g = record { stamp = g.B.Item.Item.stamp; before = g.B.Item.Item.before; slope = g.B.Builder.SLOPE; base = g.B.Builder.BASE }
 
 pub publish-part-requires-clause-ended : goal.publish-part-requires-clause-ended
 publish-part-requires-clause-ended g c =
@@ -63,3 +69,12 @@ returns-in-Some-clause-waiting g c =
     let before : waiting_in c.args.self.now ≡ length c.in-Some.construction.waiting =
     ap (λ (o : Option (Construction g.row.B-Item.Denot)). option_map_or (λ v. length v.waiting) o 0) h.0 in
     omega (arith, none_waiting c.keep_tables.new.self none, before, h.2, (c.requires.punctual c.in-Some.construction h.0).few_to_come)
+
+pub returns-in-Some-clause-left : goal.returns-in-Some-clause-left
+returns-in-Some-clause-left g c =
+    let h = c.in-Some.ensures.ended in
+    let left = turns_left (profile g) in
+    let none : c.keep_tables.new.self.construction ≡ None =
+    ap (λ v. v.construction) c.keep_tables.ensures ∙ ap (λ v. v.construction) c.arrive.ensures ∙ ap (λ v. v.construction) c.in-Some.ensures.taken in
+    ap (λ o. option_map_or left o 0) none
+    ∙ sym (ap (λ o. option_map_or left o 0) h.0 ∙ left-ended (profile g) c.in-Some.construction h.2 (c.requires.punctual c.in-Some.construction h.0))

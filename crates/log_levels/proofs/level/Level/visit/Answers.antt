@@ -4,10 +4,11 @@ use Rattle.std.proofs.lemmas.Bool.{cases_lt}
 use Rattle.builder_trait.specs.Builders.{PartProfile}
 use Rattle.partial_build.specs.Construction.{turns_left}
 use Rattle.partial_build.specs.Quota.{quota}
-use Rattle.log_levels.specs.Slots.{ticks_of, turns_to_go, items_in}
-use Rattle.log_levels.specs.Cost.{IsWithin}
+use Rattle.log_levels.specs.Slots.{ticks_of, turns_to_go, most_turns, open_turns, all_turns, saved_by, left_in, items_in}
+use Rattle.log_levels.specs.Cost.{IsWithin, IsPaid}
 use Rattle.log_levels.specs.Neighbours.{IsVisited}
 use Rattle.log_levels.proofs.Distinct.{AllStampsDiffer-part}
+use Rattle.log_levels.proofs.Paying.{due_in-runs, due_in-none, saved_in-gone}
 use Rattle.log_levels.proofs.Publishing.{are_oldest, oldest_items}
 use Rattle.log_levels.proofs.Neighbouring.{fed_by, visited-idle, visited-ticked, visited-published}
 use Rattle.log_levels.proofs.level.Level.visit.Given.{Over}
@@ -60,6 +61,43 @@ returns-clause-cost g c =
       drained = omega (arith, c.begin.ensures.waiting, c.tick.ensures.waiting, c.publish.ensures.waiting);
       within = here;
     }
+
+pub returns-clause-paid : goal.returns-clause-paid
+returns-clause-paid g c =
+    let old = c.args.self.now in
+    let mid = c.tick.new.self in
+    let new = c.publish.new.self in
+    let before = c.args.steps.now in
+    let after = c.tick.new.steps in
+    let level : mid.level ≡ old.level = ap (λ v. v.level) c.tick.ensures.same ∙ ap (λ v. v.level) c.begin.ensures.same in
+    let ticked : ticks_of mid ≡ ticks_of old + 1 = c.tick.ensures.ticked ∙ ap (λ n. n + 1) c.begin.ensures.ticks in
+    ⊎_elim
+    (λ none.
+    let first : IsPaid (profile g) (record c.begin.new.self { construction = None }) mid before after = c.tick.ensures.first (c.begin.ensures.begun none) in
+    let paid : IsPaid (profile g) old mid before after =
+    subst (λ o. option_map_or (turns_left (profile g)) o (option_map_or (all_turns (profile g)) mid.construction 0) + before.turns
+    ≤ left_in (profile g) mid + saved_by (option_map_or (open_turns (profile g)) o (option_map_or (most_turns (profile g)) mid.construction 0)) mid.construction + after.turns)
+    (sym none) first in
+    ⊎_elim
+    (λ early. subst (λ l. IsPaid (profile g) old l before after) (sym (c.publish.ensures.waits early).0) paid)
+    (λ late. let ended : ticks_of mid ≡ 2 ^ mid.level = omega (arith, late, ticked, c.requires.below.early, ap (λ k. 2 ^ k) level) in
+    omega (arith, due_in-none (profile g) old new none (c.publish.ensures.ends ended).none, c.tick.ensures.cost.spent.turns_spent))
+    (cases_lt (ticks_of mid) (2 ^ mid.level)))
+    (λ some.
+    let paid : IsPaid (profile g) old mid before after = subst (λ l. IsPaid (profile g) l mid before after) (c.begin.ensures.running some) c.tick.ensures.paid in
+    ⊎_elim
+    (λ early. subst (λ l. IsPaid (profile g) old l before after) (sym (c.publish.ensures.waits early).0) paid)
+    (λ late. let ended : ticks_of mid ≡ 2 ^ mid.level = omega (arith, late, ticked, c.requires.below.early, ap (λ k. 2 ^ k) level) in
+    omega (
+      arith,
+      paid,
+      due_in-runs (profile g) old mid some,
+      due_in-runs (profile g) old new some,
+      c.publish.ensures.left,
+      saved_in-gone (profile g) old mid new some (c.publish.ensures.ends ended).none,
+    ))
+    (cases_lt (ticks_of mid) (2 ^ mid.level)))
+    (either old.construction)
 
 pub returns-clause-visited : goal.returns-clause-visited
 returns-clause-visited g c =

@@ -106,3 +106,6 @@ returns-clause-few_asked g c g' light =
 
 pub returns-clause-ticks : goal.returns-clause-ticks
 returns-clause-ticks g c = rw (whole g c, ← seen g c) c.take_out.ensures.each
+
+pub returns-clause-paid : goal.returns-clause-paid
+returns-clause-paid g c = rw (whole g c, ← seen g c) c.take_out.ensures.paid

@@ -123,3 +123,6 @@ returns-clause-some_turns g c =
 
 pub returns-clause-ticks : goal.returns-clause-ticks
 returns-clause-ticks g c = rw (whole g c, ← seen g c) c.take_in.ensures.each
+
+pub returns-clause-paid : goal.returns-clause-paid
+returns-clause-paid g c = rw (whole g c, ← seen g c) (omega (arith, c.take_in.ensures.paid, c.part_of-part.ensures.some_turns))

@@ -88,6 +88,13 @@ invariant_of-result g c =
           }
     ]
 
+pub returns-clause-unsealed : goal.returns-clause-unsealed
+returns-clause-unsealed g c some =
+    elim c.if-done.branch [
+      | then-done w ↦ absurd (omega (arith, some, c.done.ensures.value.0 w.if-done.true))
+      | else-done w ↦ ap (λ p. p.is_sealed) w.part-is ∙ ap (λ p. p.is_sealed) c.new-part.ensures ∙ ap (λ p. p.is_sealed) c.requires.empty
+    ]
+
 pub returns-clause-on_time : goal.returns-clause-on_time
 returns-clause-on_time g c = record {
   in_time = in_time g c;
