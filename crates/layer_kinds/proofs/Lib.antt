@@ -1,4 +1,5 @@
 pub mod Shared
 pub mod Items
+pub mod Keeping
 pub mod WithinBounds
 pub mod Touches

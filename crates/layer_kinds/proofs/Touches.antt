@@ -8,7 +8,7 @@ use Rattle.std.proofs.lemmas.Grind.{common_steps}
 use Rattle.std.proofs.lemmas.List.{length-append, length-map}
 use Rattle.std.proofs.lemmas.List.Sums.{sum_by-cons}
 use Rattle.query_laws.proofs.Permutations.{Permuted-filter, Permuted-length}
-use Rattle.query_laws.specs.StepLedger.{Counts, Spends, AtLapStart, lap_of}
+use Rattle.query_laws.specs.StepLedger.{Counts, Consults, Spends, AtLapStart, lap_of}
 use Rattle.builder_trait.specs.Parts.{Contents, live_of}
 use Rattle.id_chain.specs.Chain.{Entry}
 use Rattle.log_levels.specs.Slots.{Slots}
@@ -27,7 +27,7 @@ use Rattle.layer_kinds.specs.Indexing.{IsOf}
 use Rattle.layer_kinds.specs.declared.faults.AskFault.{AskFault}
 use Rattle.layer_kinds.specs.declared.faults.AskFault.TheVariants as ask
 use Rattle.layer_kinds.specs.Layered.{items_of, IsAskRefusal}
-use Rattle.layer_kinds.specs.Asking.{IsEveryPart, IsAsking, IsReading, IsTouching, most_of}
+use Rattle.layer_kinds.specs.Asking.{IsEveryPart, IsAsking, IsReading, IsTouching, ReadsAtMost, most_of}
 use Rattle.layer_kinds.proofs.WithinBounds.{greatest-light}
 
 -- so much for each part, so much for each of what is counted in it, and so much for each of its items
@@ -196,12 +196,13 @@ lap-exact most spent few small told = (
 
 -- ---- a question only reads
 
-pub only_reads : {old new : Counts} {n : ℕ} → Spends old new 0 0 n → IsReading old new
+pub only_reads : {old new : Counts} {parts n : ℕ} → Consults old new parts n → IsReading old new
 only_reads spent = record {
-  turns = omega (arith, spent.turns_spent);
-  marks = omega (arith, spent.marks_spent);
-  touches = spent.touches_kept;
-  same_lap = spent.same_lap;
+  turns = omega (arith, spent.read.turns_spent);
+  marks = omega (arith, spent.read.marks_spent);
+  touches = spent.read.touches_kept;
+  consulted = spent.consulted_kept;
+  same_lap = spent.read.same_lap;
 }
 
 -- ---- an index that may be there
@@ -210,7 +211,7 @@ abbrev MayBeFew : {Item : Type 0} → Option (Indexed (Contents Item) Item) → 
 MayBeFew index = IfSome index (λ i. AreFew (λ part. part) (2 * live_in (λ part. part) i.main + 9) i.main.levels)
 
 abbrev MaySpend : {Item : Type 0} → (Contents Item → ℕ) → Option (Indexed (Contents Item) Item) → Counts → Counts → Type 0
-MaySpend touches index old new = IfSome index (λ i. Spends old new 0 0 (touches_of touches i.main.levels))
+MaySpend touches index old new = IfSome index (λ i. Consults old new (parts_of i.main.levels) (touches_of touches i.main.levels))
 
 gone : {I : Type 0} (index : Option I) → is_some index ≡ false → index ≡ None
 gone None none = refl
@@ -226,41 +227,44 @@ module _ {Item : Type 0} (stamp : Item → ℕ) (hits : Item → Bool) (touches 
     → touches p ≤ (of_part g).part + (of_part g).hit * length (filter hits (live_of p)) + (of_part g).item * length p.items)
     (few_of : (g : ℕ) → g ≤ 17 → kinds.AreFew (of_part g))
     (es : List (Entry Item)) (stamps : ℕ) (few : length es ≤ 2 ^ 16) where
-  -- asked or not, so many touches at most
+  -- asked or not, so many parts and touches at most
   pub few_touches : {old new : Counts} (index : Option (Indexed (Contents Item) Item)) → IsOf (λ part. part) stamp index es stamps → MayBeFew index
-      → MaySpend touches index old new → (index ≡ None → new ≡ old) → new.touches ≤ old.touches + most_of (of_part (greatest_level (length es))) (length es)
-  few_touches None of parts spent nothing = omega (arith, ap (λ s. s.touches) (nothing refl))
-  few_touches (Some i) of parts spent nothing =
-      omega (arith, spent.touches_bound, most-asking stamp hits touches of_part one few_of i es of few parts)
+      → MaySpend touches index old new → (index ≡ None → new ≡ old) → ReadsAtMost (bounds_at (length es)).parts (most_of (of_part (greatest_level (length es))) (length es)) old new
+  few_touches None of parts spent nothing = (omega (arith, ap (λ s. s.consulted) (nothing refl)), omega (arith, ap (λ s. s.touches) (nothing refl)))
+  few_touches (Some i) of parts spent nothing = (
+    omega (arith, spent.few_consulted, few_parts stamp hits touches of_part one few_of i es of few parts),
+    omega (arith, spent.read.touches_bound, most-asking stamp hits touches of_part one few_of i es of few parts),
+  )
 
   pub touching : {T : Type 0} {old new : Counts} (index : Option (Indexed (Contents Item) Item)) (refusable : Bool) (result : Result T AskFault)
       → IsAskRefusal index refusable result → IsOf (λ part. part) stamp index es stamps → MayBeFew index → MaySpend touches index old new
-      → (index ≡ None → new ≡ old) → IsTouching (most_of (of_part (greatest_level (length es))) (length es)) result old new
+      → (index ≡ None → new ≡ old) → IsTouching (bounds_at (length es)).parts (most_of (of_part (greatest_level (length es))) (length es)) result old new
   touching index refusable (Ok given) refused of parts spent nothing = few_touches index of parts spent nothing
   touching index refusable (Err ask.NoIndex) refused of parts spent nothing = nothing (gone index refused)
   touching index refusable (Err ask.NoMemory) refused of parts spent nothing = few_touches index of parts spent nothing
 
   pub asked_told : {old new : Counts} (index : Option (Indexed (Contents Item) Item)) (asked : QuestionCost) (most : ℕ) → IsOf (λ part. part) stamp index es stamps
       → is_some index ≡ true → MayBeFew index → MaySpend touches index old new → IfSome index (λ i. asked.parts ≡ parts_of i.main.levels)
-      → asked.part_bound ≡ (bounds_at (length es)).parts
+      → new.consulted ≡ old.consulted + asked.parts → asked.part_bound ≡ (bounds_at (length es)).parts
       → AtLapStart old → asked.touches ≡ lap_of new.lap_start.touches new.touches
       → asked.parts * (of_part (greatest_level (length es))).part + (of_part (greatest_level (length es))).hit * length (filter hits (map (λ e. e.item) es))
       + (of_part (greatest_level (length es))).item * (2 * length es + 9) ≤ most
       → IsAsking (length es) most asked old new
-  asked_told None asked most of there parts spent all bound lap told within = absurd cc
-  asked_told {old} {new} (Some i) asked most of there parts spent all bound lap told within =
+  asked_told None asked most of there parts spent all consulted bound lap told within = absurd cc
+  asked_told {old} {new} (Some i) asked most of there parts spent all consulted bound lap told within =
       let n = length es in
-      let from : new.lap_start.touches ≡ old.touches = ap (λ l. l.touches) spent.same_lap ∙ lap.no_touches in
+      let from : new.lap_start.touches ≡ old.touches = ap (λ l. l.touches) spent.read.same_lap ∙ lap.no_touches in
       let rate = of_part (greatest_level n) in
-      let exact = lap-exact (most_of rate n) spent (most-asking stamp hits touches of_part one few_of i es of few parts)
+      let exact = lap-exact (most_of rate n) spent.read (most-asking stamp hits touches of_part one few_of i es of few parts)
       (most-small stamp hits touches of_part one few_of i es of few parts) (told ∙ ap (λ k. lap_of k new.touches) from) in
-      let consulted = ap (λ k. k * rate.part) all in
+      let by_part = ap (λ k. k * rate.part) all in
       record {
         part_bound = bound;
         few_parts = omega (arith, bound, all, few_parts stamp hits touches of_part one few_of i es of few parts);
         some_part = λ some. omega (arith, all, some_part (λ part. part) i.main.levels (omega (arith, some, as_many (λ part. part) stamp i es of)));
+        consulted = consulted;
         touches = exact.0;
-        few_touches = omega (arith, exact.1, most-parts stamp hits touches of_part one few_of i es of few parts, consulted, within);
+        few_touches = omega (arith, exact.1, most-parts stamp hits touches of_part one few_of i es of few parts, by_part, within);
       }
 
 -- ---- the items of entries

@@ -1,6 +1,7 @@
 pub mod Shares
 pub mod SharesLaws
 pub mod Indexing
+pub mod Memory
 pub mod Layered
 pub mod Costs
 pub mod Asking

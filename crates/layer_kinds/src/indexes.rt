@@ -8,6 +8,7 @@ ghost use Rattle.id_chain.specs.Chain.{Entry, HandlesDiffer, is_linked, without_
 ghost use Rattle.layer_kinds.specs.Shares.{Rates, AreLow, count_of, CostsShares, prepare_turns, prepare_marks, insert_turns, insert_marks, delete_turns, delete_marks};
 ghost use Rattle.layer_kinds.specs.SharesLaws.{AreLow-one, AreLow-both};
 ghost use Rattle.layer_kinds.specs.Indexing.{rates_of, IsOf, IsReady};
+ghost use Rattle.layer_kinds.specs.Memory.{Memory, memories_of, Each, IsReadied, KeepsAll};
 
 use builder_trait::{Builder, Part};
 use global_rebuild::Index;
@@ -34,6 +35,9 @@ pub trait Indexes: Drop + Sized {
     /// The next update of each is prepared.
     ghost are_ready: { Self → Type 0 };
 
+    /// The memory of each that is there.
+    ghost memory: { Self → List Memory };
+
     /// How many there are.
     fn count(&self) -> u64
         requires few { length (rates self.now) ≤ 16 }
@@ -51,6 +55,9 @@ pub trait Indexes: Drop + Sized {
         ensures of { (stamps : ℕ) → are_of self.old chain.now.entries stamps → are_of self.new chain.now.entries stamps }
         ensures there { rates self.new ≡ rates self.old }
         ensures ready { OnOk result (are_ready self.new) }
+
+        // Refused or not, each gives up a part at most; no rebuild begins, and none is given up.
+        ensures kept { Each IsReadied (memory self.old) (memory self.new) }
         ensures cost { CostsShares prepare_turns prepare_marks (2 * length chain.now.entries + 10) (rates self.old) steps.old steps.new };
 
     /// Takes in the last item of a chain.
@@ -63,6 +70,7 @@ pub trait Indexes: Drop + Sized {
         ensures of { (front : List (Entry Self.Item)) (item : Self.Item) → chain.now.entries ≡ front ++ record { handle = handle; item = item } ∷ []
             → are_of self.new chain.now.entries (Self.Item.stamp item + 1) }
         ensures there { rates self.new ≡ rates self.old }
+        ensures held { Each KeepsAll (memory self.old) (memory self.new) }
         ensures some_turns { steps.old.turns + 3 * count_of (rates self.old) ≤ steps.new.turns }
         ensures cost { CostsShares insert_turns insert_marks (2 * length chain.now.entries + 8) (rates self.old) steps.old steps.new };
 
@@ -73,6 +81,7 @@ pub trait Indexes: Drop + Sized {
         requires linked { IsTrue (is_linked handle chain.now.entries) }
         ensures of { (stamps : ℕ) → are_of self.old chain.now.entries stamps → are_of self.new (without_handle handle chain.now.entries) stamps }
         ensures there { rates self.new ≡ rates self.old }
+        ensures held { Each KeepsAll (memory self.old) (memory self.new) }
         ensures cost { CostsShares delete_turns delete_marks (2 * length chain.now.entries + 10) (rates self.old) steps.old steps.new };
 
     /// All are of structures of the map.
@@ -121,6 +130,8 @@ where
 
     ghost are_ready = { λ s. IsReady B.Part.Part.contents s };
 
+    ghost memory = { λ s. memories_of B.Part.Part.contents s };
+
     fn count(&self) -> u64 {
         u64::from(self.index.is_some())
     }
@@ -159,6 +170,8 @@ impl<A: Indexes, B: Indexes<Item = A::Item>> Indexes for (A, B) {
     ghost are_of = { λ s es stamps. A.are_of s.0 es stamps × B.are_of s.1 es stamps };
 
     ghost are_ready = { λ s. A.are_ready s.0 × B.are_ready s.1 };
+
+    ghost memory = { λ s. A.memory s.0 ++ B.memory s.1 };
 
     fn count(&self) -> u64 {
         self.0.count() + self.1.count()

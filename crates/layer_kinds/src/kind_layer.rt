@@ -15,6 +15,7 @@ ghost use Rattle.layer_kinds.specs.declared.faults.UpdateFault.TheVariants as fa
 ghost use Rattle.layer_kinds.specs.Shares.{count_of};
 ghost use Rattle.layer_kinds.specs.Layered.{items_of, IsAdd, IsRemoval};
 ghost use Rattle.layer_kinds.specs.Costs.{turns_of, marks_of, IsCost, IsTold};
+ghost use Rattle.layer_kinds.specs.Memory.{KeepsMemory};
 
 use crate::bounds::{Bounds, spent};
 use crate::{Indexes, UpdateFault};
@@ -122,6 +123,7 @@ impl<X: Indexes> KindLayer<X> {
         ensures adds { self.new.adds ≡ self.old.adds + one_if (is_ok result) }
         ensures name { self.new.name ≡ self.old.name }
         ensures there { X.rates self.new.indexes ≡ X.rates self.old.indexes }
+        ensures kept { KeepsMemory result (X.memory self.old.indexes) (X.memory self.new.indexes) }
         ensures cost { IsCost (count_of (X.rates self.old.indexes)) (length self.old.entries) result steps.old steps.new }
         ensures told { IfOk result (λ spent. IsTold (count_of (X.rates self.old.indexes)) (length self.old.entries) true spent steps.old steps.new) }
     {
@@ -159,6 +161,7 @@ impl<X: Indexes> KindLayer<X> {
         ensures adds { self.new.adds ≡ self.old.adds }
         ensures name { self.new.name ≡ self.old.name }
         ensures there { X.rates self.new.indexes ≡ X.rates self.old.indexes }
+        ensures kept { KeepsMemory result (X.memory self.old.indexes) (X.memory self.new.indexes) }
         ensures cost { IsCost (count_of (X.rates self.old.indexes)) (length self.old.entries) result steps.old steps.new }
         ensures told { IfOk result (λ spent. IsTold (count_of (X.rates self.old.indexes)) (length self.old.entries) false spent steps.old steps.new) }
     {

@@ -3,7 +3,7 @@ ghost use Rattle.std.specs.Prelude.{◌≡◌, ℕ};
 ghost use Rattle.query_laws.specs.StepLedger.{AtLapStart};
 ghost use Rattle.map_model.specs.Answer.{index_of};
 ghost use Rattle.map_layers.specs.Faults.{ask_result_of};
-ghost use Rattle.map_layers.specs.Layer.{held_by, seen};
+ghost use Rattle.map_layers.specs.Layer.{held_by, layer_seen};
 ghost use Rattle.map_layers.specs.Questions.{touches_for, most_for, Asks};
 ghost use Rattle.map_indexes.specs.Held.{parts_held};
 
@@ -30,7 +30,8 @@ where
     requires touches { (level : ℕ) → Q.touches level ≡ touches_for (Q.asks question.now) level }
     requires most { (level parts n : ℕ) (answer : Q.Answer) → Q.most_touches level parts n answer ≡ most_for level parts n (Q.tells answer) }
     requires lap { AtLapStart steps.old }
-    ensures { Asks (seen R.Item.kind R.Item.item_of X.held layer.now) (Q.asks question.now) (ask_result_of result) steps.old steps.new }
+    ensures { Asks (layer_seen R.Item.kind R.Item.item_of X.held layer.now) (X.held layer.now.indexes) (Q.asks question.now) (ask_result_of result)
+        steps.old steps.new }
 {
     let (given, asked) = ask_layer::<R, X, Q, L>(layer, alloc, question, steps)?;
     Ok((Answered::new(given), asked))

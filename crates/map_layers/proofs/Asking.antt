@@ -15,6 +15,7 @@ IsAskingIn-of o layer found {old} {new} most asked h reads = subst (λ l. IsAski
     parts_bounded = h.few_parts;
     some_part = h.some_part;
   };
+  consulted = h.consulted;
   touches = h.touches;
   few_touches = h.few_touches;
   turns = reads.turns;

@@ -1,5 +1,5 @@
 -- Layers by their names.
-use Rattle.std.proofs.Common.{◌≡◌, ℕ, zero, suc, ◌+◌, ◌<◌, ◌≤◌, ◌∙◌, Bool, true, false, List, [], ◌∷◌, ◌++◌, Option, Some, None, length, map, bytes_eq, get_or, set, refl, sym, ap, subst, arith}
+use Rattle.std.proofs.Common.{◌≡◌, ℕ, zero, suc, ◌+◌, ◌<◌, ◌≤◌, ◌∙◌, Bool, true, false, List, [], ◌∷◌, ◌++◌, Option, Some, None, Result, Ok, Err, length, map, bytes_eq, get_or, set, refl, sym, ap, subst, arith}
 use Rattle.std.specs.List.{list_any, position_from, refill}
 use Rattle.std.specs.Option.{is_some, option_map}
 use Rattle.std.proofs.lemmas.Grind.{common_steps}
@@ -11,6 +11,12 @@ use Rattle.std.proofs.lemmas.Slice.Eq.{bytes_eq-Decides}
 use Rattle.log_levels.proofs.Held.{written}
 use Rattle.map_model.specs.State.{Item, layer_named, changed, with_items}
 use Rattle.map_model.specs.Machine.{is_taken}
+use Rattle.layer_kinds.specs.Memory.{Memory}
+use Rattle.layer_kinds.specs.declared.faults.UpdateFault.TheVariants as of_kind
+use Rattle.layer_kinds.proofs.Keeping as keeping
+use Rattle.map_layers.specs.declared.faults.UpdateFault.{UpdateFault}
+use Rattle.map_layers.specs.declared.faults.UpdateFault.TheVariants.{NoLayer, WrongKind, Duplicate, Unknown, Full, NoMemory}
+use Rattle.map_layers.specs.Memory.{KeepsMemory, KeepsMemoryWhere, KeepsMemoryIn}
 use Rattle.map_layers.specs.Layer.{LayerState, name_in, adds_in, items_in, layer_of}
 use Rattle.map_layers.specs.Layers.{has_name, named, place_named, names_of, adds_of, AllDiffer}
 use Rattle.map_layers.proofs.Answering.{IsRenewed}
@@ -96,6 +102,35 @@ module _ (name : List ℕ) (change : List Item → List Item) (d l' : LayerState
       let after = renewed (i + 1) k ls (grind (arith, common_steps)) differ.1 is in
       grind (arith, common_steps)
 
+-- what memory the layers keep
+
+KeepsMemory-same : {T : Type 0} (result : Result T UpdateFault) (ms : List Memory) → KeepsMemory result ms ms
+KeepsMemory-same {T} (Ok done) ms = keeping.KeepsMemory-same (Ok done) ms
+KeepsMemory-same (Err NoLayer) ms = refl
+KeepsMemory-same (Err WrongKind) ms = refl
+KeepsMemory-same (Err (Duplicate id)) ms = refl
+KeepsMemory-same (Err (Unknown id)) ms = refl
+KeepsMemory-same (Err Full) ms = refl
+KeepsMemory-same {T} (Err NoMemory) ms = keeping.KeepsMemory-same {T = T} (Err of_kind.NoMemory) ms
+
+module _ (name : List ℕ) {T : Type 0} (result : Result T UpdateFault) where
+  KeepsMemoryWhere-same : (b : Bool) (ms : List Memory) → KeepsMemoryWhere b result ms ms
+  KeepsMemoryWhere-same true ms = KeepsMemory-same result ms
+  KeepsMemoryWhere-same false ms = refl
+
+  pub KeepsMemoryIn-same : (ls : List LayerState) → KeepsMemoryIn name result ls ls
+  KeepsMemoryIn-same ls =
+      keeping.Each-same (λ l l'. KeepsMemoryWhere (has_name name l) result l.memory l'.memory) (λ l. KeepsMemoryWhere-same (has_name name l) l.memory) ls
+
+  KeepsMemoryIn-set : (d l' : LayerState) (i k : ℕ) (ls : List LayerState) → position_from (has_name name) i ls ≡ Some (i + k)
+      → KeepsMemory result (get_or ls k d).memory l'.memory → KeepsMemoryIn name result ls (set ls k l')
+  KeepsMemoryIn-set d l' i k [] found kept = absurd cc
+  KeepsMemoryIn-set d l' i zero (l ∷ ls) found kept =
+      let has : has_name name l ≡ true = grind (arith, common_steps, place_from name (i + 1) i ls) in
+      (subst (λ b. KeepsMemoryWhere b result l.memory l'.memory) (sym has) kept, KeepsMemoryIn-same ls)
+  KeepsMemoryIn-set d l' i (suc k) (l ∷ ls) found kept =
+      (KeepsMemoryWhere-same (has_name name l) l.memory, KeepsMemoryIn-set d l' (i + 1) k ls (grind (arith, common_steps)) kept)
+
 module _ (name : List ℕ) (k : ℕ) (items ls : List LayerState) (d l' : LayerState) (written_to : ls ≡ items) (found : place_named name ls ≡ Some k) (within : k < length ls)
     (kept : layer_of l' ≡ record (layer_of (get_or ls k d)) { items = items_in l' }) where
   abbrev l : LayerState
@@ -135,3 +170,8 @@ module _ (name : List ℕ) (k : ℕ) (items ls : List LayerState) (d l' : LayerS
         ap (map layer_of) is_set ∙ renewed name change d l' 0 k ls place (subst (λ xs. AllDiffer (names_of xs)) (sym written_to) differ) is
         ∙ ap (λ xs. with_items name change (map layer_of xs)) written_to;
   }
+
+  pub KeepsMemoryIn-at : {T : Type 0} (result : Result T UpdateFault) → KeepsMemory result l.memory l'.memory → KeepsMemoryIn name result items ls'
+  KeepsMemoryIn-at result same_memory =
+      subst (λ xs. KeepsMemoryIn name result items xs) (sym is_set)
+      (subst (λ xs. KeepsMemoryIn name result xs (set ls k l')) written_to (KeepsMemoryIn-set name result d l' 0 k ls place same_memory))

@@ -27,17 +27,18 @@ pub record IsTold (layer : state.Layer) (adds : Bool) (spent : Spent) (old new :
   pub turns : new.turns ≡ old.turns + spent.turns
   pub marks : new.marks ≡ old.marks + spent.marks
 
--- A question that is answered costs so many touches at most, and no turn and no mark; how many parts and touches is told.
+-- A question that is answered costs so many touches at most, and no turn and no mark; how many parts were consulted and how many touches is told.
 pub record IsAsking (layer : state.Layer) (most : ℕ) (asked : QuestionCost) (old new : Counts) : Type 0 where
   pub bounds : IsAsked layer (asked_of asked)
+  pub consulted : new.consulted ≡ old.consulted + asked.parts
   pub touches : new.touches ≡ old.touches + asked.touches
   pub few_touches : asked.touches ≤ most
   pub turns : new.turns ≡ old.turns
   pub marks : new.marks ≡ old.marks
 
--- One that is answered or that memory refused touches so much at most, and any other that is refused counts nothing.
-abbrev pub IsTouching : {T : Type 0} → ℕ → Result T AskFault → Counts → Counts → Type 0
-IsTouching most result old new = IfAsked (λ r. asking.IsTouching most r old new) (new ≡ old) result
+-- One that is answered or that memory refused consults so many parts and touches so much at most, and any other that is refused counts nothing.
+abbrev pub IsTouching : {T : Type 0} → ℕ → ℕ → Result T AskFault → Counts → Counts → Type 0
+IsTouching parts most result old new = IfAsked (λ r. asking.IsTouching parts most r old new) (new ≡ old) result
 
 -- the most touches, by the greatest level that a part of the layer may have, and the live items
 abbrev pub most_in : state.Layer → (ℕ → ℕ → ℕ) → ℕ
@@ -61,11 +62,11 @@ abbrev pub IsAskingIn : Option state.Layer → (ℕ → ℕ → ℕ) → Questio
 IsAskingIn None most asked old new = ⊥
 IsAskingIn (Some layer) most asked old new = IsAsking layer (most_in layer most) asked old new
 
--- Answered or refused for want of memory, a question touches so much at most of the layer; where there is none, or it is refused for
+-- Answered or refused for want of memory, a question consults so many parts and touches so much at most of the layer; where there is none, or it is refused for
 -- another cause, nothing is counted.
 abbrev pub IsTouchingIn : {T : Type 0} → Option state.Layer → (ℕ → PartTouches) → Result T AskFault → Counts → Counts → Type 0
 IsTouchingIn None touches result old new = new ≡ old
-IsTouchingIn (Some layer) touches result old new = IsTouching (most_in layer (λ level n. most_of (touches level) n)) result old new
+IsTouchingIn (Some layer) touches result old new = IsTouching (bounds_at (live_count layer)).parts (most_in layer (λ level n. most_of (touches level) n)) result old new
 
 -- so many parts as the index of a layer has complete ones, of which no level has more than three, and as many live items as the layer has
 abbrev pub IsEveryPartIn : Option LayerState → Index → ℕ → ℕ → Type 0

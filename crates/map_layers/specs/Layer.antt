@@ -1,7 +1,8 @@
 -- What contracts see of a layer of either kind, and what an add does to its items.
-use Rattle.std.specs.Prelude.{◌≡◌, ℕ, ◌≤◌, true, false, All, List, Option, None, Some, Result, length, map, sum_by}
+use Rattle.std.specs.Prelude.{◌≡◌, ℕ, ◌≤◌, true, false, All, List, Option, None, Some, Result, sum_by}
 use Rattle.std.specs.Option.{is_some}
 use Rattle.layer_kinds.specs.Layered.{Layered, items_of, IsAdd, IsRemoval}
+use Rattle.layer_kinds.specs.Memory.{Memory}
 use Rattle.map_model.specs.Shape as model
 use Rattle.map_model.specs.Index.{Index, Range, Near, Top, Stab, IndexSet}
 use Rattle.map_model.specs.Machine.{is_same_kind}
@@ -30,11 +31,12 @@ held_by held Stab = held.stab
 abbrev pub set_of : Held → IndexSet
 set_of held = record { range = is_some held.range; near = is_some held.near; top = is_some held.top; stab = is_some held.stab }
 
--- a layer as the definitions have it, how many adds there ever were, and what its indexes hold
+-- a layer as the definitions have it, how many adds there ever were, what its indexes hold, and the memory of each
 pub record LayerState : Type 0 where
   pub layer : state.Layer
   pub adds : ℕ
   pub held : Held
+  pub memory : List Memory
 
 -- the layer as the definitions have it
 abbrev pub layer_of : LayerState → state.Layer
@@ -58,8 +60,8 @@ module _ {X I : Type 0} (kind : model.Kind) (item_of : I → Item) (held : X →
   layer_seen l = record { name = l.name; kind = kind; indexes = set_of (held l.indexes); items = items_of item_of l.entries }
 
   -- a layer of items of one kind as contracts see it
-  abbrev pub seen : Layered X I → LayerState
-  seen l = record { layer = layer_seen l; adds = l.adds; held = held l.indexes }
+  abbrev pub seen : (X → List Memory) → Layered X I → LayerState
+  seen memory l = record { layer = layer_seen l; adds = l.adds; held = held l.indexes; memory = memory l.indexes }
 
   -- nothing of a layer is another, but for items and what its indexes hold
   abbrev pub IsKept : Layered X I → Layered X I → Type 0

@@ -4,3 +4,4 @@ pub mod Questions
 pub mod Costs
 pub mod Replies
 pub mod Layers
+pub mod Memory

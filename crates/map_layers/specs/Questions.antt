@@ -21,7 +21,7 @@ use Rattle.interval_tree.specs.QuestionLaws as stabs
 use Rattle.map_layers.specs.declared.faults.AskFault.{AskFault}
 use Rattle.map_layers.specs.declared.faults.AskFault.TheVariants.{NoLayer, WrongKind, NoIndex, Unknown, NoMemory}
 use Rattle.map_layers.specs.Costs.{IsTouching}
-use Rattle.map_layers.specs.Layer.{LayerState, items_in, held_by, IsEveryPart}
+use Rattle.map_layers.specs.Layer.{Held, held_by, IsEveryPart}
 
 -- a question, its answer, how many parts were consulted, and how many live items they have
 pub record AnsweredState : Type 0 where
@@ -70,13 +70,14 @@ IsRefusal layer question (Err NoIndex) = IsOfKind layer question true × IsThere
 IsRefusal layer question (Err (Unknown id)) = ⊥
 IsRefusal layer question (Err NoMemory) = IsOfKind layer question true × IsThere layer question true × (lists_ids question ≡ true)
 
--- A question to a layer is answered over all its items by every complete part of one index, or refused, and so much is touched.
-pub record Asks (layer : LayerState) (question : Question) (result : Result (AnsweredState × QuestionCost) AskFault) (old new : Counts) : Type 0 where
-  pub refused : IsRefusal layer.layer question result
-  pub answer : IfOk result (λ given. (given.0.question ≡ question) × (given.0.answer ≡ answer_over (items_in layer) question))
-  pub every_part : IfOk result (λ given. IsEveryPart (held_by layer.held (index_of question)) given.1.parts
-      × (given.1.parts ≡ given.0.parts) × (given.0.live ≡ length (items_in layer)))
-  pub cost : IfOk result (λ given. let n = length (items_in layer) in
+-- A question to a layer, whose indexes hold so much, is answered over all its items by every complete part of one index, or refused, and so much is
+-- touched.
+pub record Asks (layer : state.Layer) (held : Held) (question : Question) (result : Result (AnsweredState × QuestionCost) AskFault) (old new : Counts) : Type 0 where
+  pub refused : IsRefusal layer question result
+  pub answer : IfOk result (λ given. (given.0.question ≡ question) × (given.0.answer ≡ answer_over layer.items question))
+  pub every_part : IfOk result (λ given. IsEveryPart (held_by held (index_of question)) given.1.parts
+      × (given.1.parts ≡ given.0.parts) × (given.0.live ≡ length layer.items))
+  pub cost : IfOk result (λ given. let n = length layer.items in
       IsAsking n (most_for (bounds_at n).level given.1.parts n given.0.answer) given.1 old new)
-  pub touches : let n = length (items_in layer) in IsTouching (most_of (touches_for question (bounds_at n).level) n) result old new
+  pub touches : let n = length layer.items in IsTouching (bounds_at n).parts (most_of (touches_for question (bounds_at n).level) n) result old new
   pub reads : IsReading old new

@@ -15,6 +15,7 @@ ghost use Rattle.map_questions.specs.Any.{question_of};
 ghost use Rattle.map_layers.specs.Questions.{Asks};
 ghost use Rattle.layer_kinds.specs.Layered.{items_of};
 ghost use Rattle.map_layers.specs.Costs.{IsCost, IsTold};
+ghost use Rattle.map_layers.specs.Memory.{KeepsMemory};
 
 use crate::{Answered, AskFault, NamedIndexes, OverPoints, OverSegments, UpdateFault};
 use layer_kinds::KindLayer;
@@ -26,7 +27,7 @@ use std::default::MadeWith;
 use std::marker::Model;
 use std::sync::ledger::Ledger;
 
-/// A layer of points, or of segments. Contracts see it as the definitions do, beside what its indexes hold.
+/// A layer of points, or of segments. Contracts see it as the definitions do, beside what its indexes hold and their memory.
 #[derive(Drop)]
 pub struct Layer<P: OverPoints, S: OverSegments> {
     shapes: Shapes<P, S>,
@@ -44,7 +45,7 @@ impl<P: OverPoints, S: OverSegments> Model for Layer<P, S> {
 
     ghost Value = { LayerState };
 
-    ghost view = { λ l. seen_of (seen P.Item.kind P.Item.item_of P.held) (seen S.Item.kind S.Item.item_of S.held) l.shapes };
+    ghost view = { λ l. seen_of (seen P.Item.kind P.Item.item_of P.held P.memory) (seen S.Item.kind S.Item.item_of S.held S.memory) l.shapes };
 }
 
 /// What fills a place that no layer has yet.
@@ -129,7 +130,7 @@ impl<P: OverPoints, S: OverSegments> Layer<P, S> {
         steps: &mut Steps<L>,
     ) -> Result<(Answered, QuestionCost), AskFault>
         requires lap { AtLapStart steps.old }
-        ensures { Asks self.now (question_of question.now) result steps.old steps.new }
+        ensures { Asks self.now.layer self.now.held (question_of question.now) result steps.old steps.new }
     {
         match (&self.shapes, question) {
             (Shapes::Points(points), AnyQuestion::Points(question)) => {
@@ -156,6 +157,7 @@ impl<P: OverPoints, S: OverSegments> Layer<P, S> {
         ensures added { IsAddTo self.old.layer (record { id = id; shape = model_shape shape }) (items_in self.new) result }
         ensures same { self.new.layer ≡ record self.old.layer { items = items_in self.new } }
         ensures adds { self.new.adds ≡ self.old.adds + one_if (is_ok result) }
+        ensures kept { KeepsMemory result self.old.memory self.new.memory }
         ensures cost { IsCost self.old.layer result steps.old steps.new }
         ensures told { IfOk result (λ spent. IsTold self.old.layer true spent steps.old steps.new) }
     {
@@ -175,6 +177,7 @@ impl<P: OverPoints, S: OverSegments> Layer<P, S> {
         ensures removed { IsRemovalFrom (items_in self.old) id (items_in self.new) result }
         ensures same { self.new.layer ≡ record self.old.layer { items = items_in self.new } }
         ensures adds { self.new.adds ≡ self.old.adds }
+        ensures kept { KeepsMemory result self.old.memory self.new.memory }
         ensures cost { IsCost self.old.layer result steps.old steps.new }
         ensures told { IfOk result (λ spent. IsTold self.old.layer false spent steps.old steps.new) }
     {
@@ -199,6 +202,7 @@ fn add_to<X: NamedIndexes, L: Ledger>(
         (items_of X.Item.item_of layer.new.entries) result }
     ensures same { IsKept X.Item.kind X.Item.item_of X.held layer.old layer.new }
     ensures adds { layer.new.adds ≡ layer.old.adds + one_if (is_ok result) }
+    ensures kept { KeepsMemory result (X.memory layer.old.indexes) (X.memory layer.new.indexes) }
     ensures cost { IsCost (layer_seen X.Item.kind X.Item.item_of X.held layer.old) result steps.old steps.new }
     ensures told { IfOk result (λ spent. IsTold (layer_seen X.Item.kind X.Item.item_of X.held layer.old) true spent steps.old steps.new) }
 {
@@ -218,6 +222,7 @@ fn remove_from<X: NamedIndexes, L: Ledger>(
     ensures removed { IsRemovalFrom (items_of X.Item.item_of layer.old.entries) id (items_of X.Item.item_of layer.new.entries) result }
     ensures same { IsKept X.Item.kind X.Item.item_of X.held layer.old layer.new }
     ensures adds { layer.new.adds ≡ layer.old.adds }
+    ensures kept { KeepsMemory result (X.memory layer.old.indexes) (X.memory layer.new.indexes) }
     ensures cost { IsCost (layer_seen X.Item.kind X.Item.item_of X.held layer.old) result steps.old steps.new }
     ensures told { IfOk result (λ spent. IsTold (layer_seen X.Item.kind X.Item.item_of X.held layer.old) false spent steps.old steps.new) }
 {

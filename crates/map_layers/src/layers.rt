@@ -2,7 +2,7 @@
 mod asking;
 mod updating;
 
-ghost use Rattle.std.specs.Prelude.{◌≡◌, ◌+◌, ◌<◌, ◌≤◌, ◌^◌, true, false, IfOk};
+ghost use Rattle.std.specs.Prelude.{◌≡◌, ◌+◌, ◌<◌, ◌≤◌, ◌^◌, ◌++◌, List, true, false, IfOk};
 ghost use Rattle.std.specs.Option.{option_map};
 ghost use Rattle.query_laws.specs.StepLedger.{lap_begun};
 ghost use Rattle.map_model.specs.State.{layer_named};
@@ -13,8 +13,10 @@ ghost use Rattle.map_model.specs.Reply as replies;
 ghost use Rattle.map_shapes.specs.Kind.{kind_of};
 ghost use Rattle.map_shapes.specs.IndexSet.{index_set_of};
 ghost use Rattle.map_shapes.specs.Shape.{model_shape};
+ghost use Rattle.map_layers.specs.Layer.{LayerState};
 ghost use Rattle.map_layers.specs.Layers.{no_layers, map_of, named};
 ghost use Rattle.map_layers.specs.Costs.{IsCostIn, IsToldIn};
+ghost use Rattle.map_layers.specs.Memory.{KeepsMemoryIn};
 ghost use Rattle.map_layers.specs.Replies.{created, updated, questioned, IsAnswered};
 
 use crate::layers::updating::{add_in, remove_in};
@@ -68,6 +70,9 @@ impl<P: OverPoints, S: OverSegments> Layers<P, S> {
         requires fits { fits (kind_of kind) (index_set_of indexes) ≡ true }
         ensures answered { IsAnswered (map_of self.old) (commands.MakeLayer name.now (kind_of kind) (index_set_of indexes)) (map_of self.new) (created result) }
         ensures updates { self.new.updates ≡ self.old.updates }
+
+        // The layers that were there keep their memory.
+        ensures kept { (made : List LayerState) × (self.new.layers ≡ self.old.layers ++ made) }
     {
         if self.layer(name).is_some() {
             return Err(CreateFault::Taken);
@@ -92,6 +97,7 @@ impl<P: OverPoints, S: OverSegments> Layers<P, S> {
         requires few { self.old.updates < 2 ^ 40 }
         ensures answered { IsAnswered (map_of self.old) (commands.Add name.now id (model_shape shape)) (map_of self.new) (updated result) }
         ensures counted { self.new.updates ≡ self.old.updates + 1 }
+        ensures kept { KeepsMemoryIn name.now result self.old.layers self.new.layers }
 
         // Bounded, refused memory or not; and nothing where it is refused for another cause.
         ensures cost { IsCostIn (layer_named name.now (map_of self.old)) result (lap_begun steps.old) steps.new }
@@ -112,6 +118,7 @@ impl<P: OverPoints, S: OverSegments> Layers<P, S> {
         requires few { self.old.updates < 2 ^ 40 }
         ensures answered { IsAnswered (map_of self.old) (commands.Drop name.now id) (map_of self.new) (updated result) }
         ensures counted { self.new.updates ≡ self.old.updates + 1 }
+        ensures kept { KeepsMemoryIn name.now result self.old.layers self.new.layers }
 
         // Bounded, refused memory or not; and nothing where it is refused for another cause.
         ensures cost { IsCostIn (layer_named name.now (map_of self.old)) result (lap_begun steps.old) steps.new }

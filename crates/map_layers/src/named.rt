@@ -8,7 +8,7 @@ ghost use Rattle.map_model.specs.Shape as model;
 ghost use Rattle.map_shapes.specs.IndexSet.{index_set_of};
 ghost use Rattle.map_shapes.specs.Shape.{model_shape};
 ghost use Rattle.layer_kinds.specs.Shares.{count_of};
-ghost use Rattle.map_layers.specs.Layer.{Held, seen, set_of};
+ghost use Rattle.map_layers.specs.Layer.{Held, layer_seen, set_of};
 ghost use Rattle.map_layers.specs.Faults.{ask_result_of};
 ghost use Rattle.map_layers.specs.Questions.{Asks};
 
@@ -55,7 +55,8 @@ pub trait AnsweringIndexes<Q: KindQuestion>: NamedIndexes {
         steps: &mut Steps<L>,
     ) -> Result<(Answered, QuestionCost), AskFault>
         requires lap { AtLapStart steps.old }
-        ensures { Asks (seen Self.Item.kind Self.Item.item_of Self.held layer.now) (Q.asks question.now) (ask_result_of result) steps.old steps.new };
+        ensures { Asks (layer_seen Self.Item.kind Self.Item.item_of Self.held layer.now) (Self.held layer.now.indexes) (Q.asks question.now)
+            (ask_result_of result) steps.old steps.new };
 }
 
 /// Those of points.

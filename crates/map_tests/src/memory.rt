@@ -40,6 +40,8 @@ impl<X: Indexes> Indexes for Unfed<X> {
 
     ghost are_ready = { λ s. X.are_ready s.indexes };
 
+    ghost memory = { λ s. X.memory s.indexes };
+
     fn count(&self) -> u64 {
         self.indexes.count()
     }

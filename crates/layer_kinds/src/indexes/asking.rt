@@ -1,6 +1,6 @@
 //! A question to one index of a layer.
 ghost use Rattle.std.specs.Prelude.{◌≡◌, ℕ, ◌+◌, ◌*◌, List, None, IfOk, IfSome, length, map};
-ghost use Rattle.query_laws.specs.StepLedger.{Spends};
+ghost use Rattle.query_laws.specs.StepLedger.{Consults};
 ghost use Rattle.id_chain.specs.Chain.{Entry};
 ghost use Rattle.log_levels.specs.Levels.{parts_of, touches_of};
 ghost use Rattle.log_method.specs.Height.{AreFew};
@@ -35,7 +35,8 @@ impl<B: MapStructure> LayerIndex<B> {
         ensures refused { IsAskRefusal self.now Q.refusable result }
         ensures parts { IfOk result (λ given. IfSome self.now (λ i. given.parts ≡ parts_of i.main.levels)) }
         ensures few { IfSome self.now (λ i. AreFew B.Part.Part.contents (2 * live_in B.Part.Part.contents i.main + 9) i.main.levels) }
-        ensures cost { IfSome self.now (λ i. Spends steps.old steps.new 0 0 (touches_of (B.Part.ask_touches question.now) i.main.levels)) }
+        ensures consulted { IfOk result (λ given. steps.new.consulted ≡ steps.old.consulted + given.parts) }
+        ensures cost { IfSome self.now (λ i. Consults steps.old steps.new (parts_of i.main.levels) (touches_of (B.Part.ask_touches question.now) i.main.levels)) }
         ensures nothing { self.now ≡ None → steps.new ≡ steps.old }
     {
         let Some(index) = &self.index else {

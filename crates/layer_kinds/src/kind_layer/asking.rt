@@ -37,7 +37,7 @@ where
         × (given.0.live ≡ length layer.now.entries)) }
     ensures cost { IfOk result (λ given. let n = length layer.now.entries in
         IsAsking n (Q.most_touches (bounds_at n).level given.1.parts n given.0.answer) given.1 steps.old steps.new) }
-    ensures touches { let n = length layer.now.entries in IsTouching (most_of (Q.touches (bounds_at n).level) n) result steps.old steps.new }
+    ensures touches { let n = length layer.now.entries in IsTouching (bounds_at n).parts (most_of (Q.touches (bounds_at n).level) n) result steps.old steps.new }
     ensures reads { IsReading steps.old steps.new }
 {
     let given = layer.indexes.index().ask(alloc, question, steps)?;

@@ -38,6 +38,8 @@ impl Indexes for PointIndexes {
 
     ghost are_ready = { λ s. ⟦<OfPoints as Indexes>⟧.are_ready s.indexes };
 
+    ghost memory = { λ s. ⟦<OfPoints as Indexes>⟧.memory s.indexes };
+
     fn count(&self) -> u64 {
         self.indexes.count()
     }

@@ -31,6 +31,8 @@ impl Indexes for SegmentIndexes {
 
     ghost are_ready = { λ s. ⟦<LayerIndex<StabBuilder> as Indexes>⟧.are_ready s.index };
 
+    ghost memory = { λ s. ⟦<LayerIndex<StabBuilder> as Indexes>⟧.memory s.index };
+
     fn count(&self) -> u64 {
         self.index.count()
     }

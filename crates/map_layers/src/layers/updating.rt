@@ -8,6 +8,7 @@ ghost use Rattle.map_shapes.specs.Shape.{model_shape};
 ghost use Rattle.map_layers.specs.Layer.{layer_of};
 ghost use Rattle.map_layers.specs.Layers.{AllDiffer, adds_of, names_of, place_named};
 ghost use Rattle.map_layers.specs.Costs.{IsCostIn, IsToldIn};
+ghost use Rattle.map_layers.specs.Memory.{KeepsMemoryIn};
 ghost use Rattle.map_layers.specs.Replies.{updated, IsAnswered};
 
 use super::MOST_LAYERS;
@@ -33,6 +34,7 @@ pub(super) fn add_in<P: OverPoints, S: OverSegments, L: Ledger>(
     ensures answered { IsAnswered (map layer_of layers.old.items) (commands.Add name.now id (model_shape shape)) (map layer_of layers.new.items) (updated result) }
     ensures differ { AllDiffer (names_of layers.new.items) }
     ensures adds { adds_of layers.new.items ≤ adds_of layers.old.items + 1 }
+    ensures kept { KeepsMemoryIn name.now result layers.old.items layers.new.items }
     ensures cost { IsCostIn (layer_named name.now (map layer_of layers.old.items)) result steps.old steps.new }
     ensures told { IfOk result (λ spent. IsToldIn (layer_named name.now (map layer_of layers.old.items)) true spent steps.old steps.new) }
 {
@@ -54,6 +56,7 @@ pub(super) fn remove_in<P: OverPoints, S: OverSegments, L: Ledger>(
     ensures answered { IsAnswered (map layer_of layers.old.items) (commands.Drop name.now id) (map layer_of layers.new.items) (updated result) }
     ensures differ { AllDiffer (names_of layers.new.items) }
     ensures adds { adds_of layers.new.items ≡ adds_of layers.old.items }
+    ensures kept { KeepsMemoryIn name.now result layers.old.items layers.new.items }
     ensures cost { IsCostIn (layer_named name.now (map layer_of layers.old.items)) result steps.old steps.new }
     ensures told { IfOk result (λ spent. IsToldIn (layer_named name.now (map layer_of layers.old.items)) false spent steps.old steps.new) }
 {

@@ -1,6 +1,6 @@
-use Rattle.std.proofs.Common.{◌+◌, ◌≤◌, ◌∙◌, length, ap, sym, subst}
+use Rattle.std.proofs.Common.{◌∙◌, length, ap, sym, subst}
 use Rattle.layer_kinds.proofs.Items.{as_many_items}
-use Rattle.layer_kinds.specs.Asking.{IsAsking, most_of}
+use Rattle.layer_kinds.specs.Asking.{IsAsking, ReadsAtMost, most_of}
 use Rattle.map_model.specs.Answer.{kind_asked, index_of}
 use Rattle.map_model.specs.Cost.{bounds_at}
 use Rattle.map_layers.specs.Layer.{IsEveryPart}
@@ -32,7 +32,7 @@ returns g c =
       cost = subst (λ n. IsAsking n (most_for (bounds_at n).level asked.parts n c.new.result.answer) asked old new) (sym many)
           (subst (λ most. IsAsking m most asked old new)
           (c.requires.most level asked.parts m c.in_ok-given.given.answer ∙ sym (ap (λ a. most_for level asked.parts m a.answer) c.new.ensures)) e.cost);
-      touches = subst (λ n. new.touches ≤ old.touches + most_of (touches_for question (bounds_at n).level) n) (sym many)
-          (subst (λ t. new.touches ≤ old.touches + most_of t m) (c.requires.touches level) e.touches);
+      touches = subst (λ n. ReadsAtMost (bounds_at n).parts (most_of (touches_for question (bounds_at n).level) n) old new) (sym many)
+          (subst (λ t. ReadsAtMost (bounds_at m).parts (most_of t m) old new) (c.requires.touches level) e.touches);
       reads = e.reads;
     }

@@ -1,4 +1,5 @@
 use Rattle.std.proofs.Common.{◌≡◌, ◌+◌, ◌∙◌, [], ◌∷◌, Some, length, ap, sym, subst, arith}
+use Rattle.std.specs.Option.{is_some}
 use Rattle.std.proofs.lemmas.List.{length-append}
 use Rattle.id_chain.specs.Chain.{Entry, HandlesDiffer, item_at}
 use Rattle.id_chain.proofs.Entries.{Apart-parts, item_at-split, linked_head}
@@ -6,6 +7,8 @@ use Rattle.global_rebuild.specs.Index.{IsIndexOf}
 use Rattle.global_rebuild.proofs.Weights.{as_many}
 use Rattle.layer_kinds.specs.Shares.{Rate, IsShared, insert_turns, insert_marks}
 use Rattle.layer_kinds.specs.Indexing.{rates_of, IsOf}
+use Rattle.layer_kinds.specs.Memory.{KeepsAll}
+use Rattle.layer_kinds.proofs.Keeping.{Each-there, Each-none, keeps_all}
 use Rattle.layer_kinds.proofs.Shared.{IsShared-there, IsShared-none}
 use Rattle.layer_kinds.proofs.indexes.LayerIndexIndexes.insert.Goals as goal
 use Rattle.layer_kinds.proofs.indexes.LayerIndexIndexes.insert.Goals.{in-Some, in_default}
@@ -45,4 +48,17 @@ returns-clause-of g c front item is =
     elim c.match-self.branch [
       | in-Some w ↦ subst (λ l. IsOf contents stamp l.index es (stamp item + 1)) (sym w.self-inside-is) (w.commit_insert.ensures.chain item at)
       | in_default w ↦ subst (λ l. IsOf contents stamp l.index es (stamp item + 1)) (sym w.self-inside-is) (subst (λ o. IsOf contents stamp o es (stamp item + 1)) (sym w.in_default.is) tt)
+    ]
+
+pub returns-clause-held : goal.returns-clause-held
+returns-clause-held g c =
+    let contents = g.B.Part.Part.contents in
+    elim c.match-self.branch [
+      | in-Some w ↦
+          let e = w.commit_insert.ensures in
+          Each-there contents KeepsAll c.args.self.now c.match-self.self-inside.index w.in-Some.index w.commit_insert.new.self (sym c.self.view_is ∙ w.in-Some.is)
+          (ap (λ l. l.index) w.self-inside-is) (keeps_all contents w.in-Some.index w.commit_insert.new.self e.held (λ runs. ap is_some e.rebuild ∙ runs))
+      | in_default w ↦
+          Each-none contents KeepsAll c.args.self.now c.match-self.self-inside.index (sym c.self.view_is ∙ w.in_default.is)
+          (ap (λ l. l.index) w.self-inside-is ∙ w.in_default.is)
     ]

@@ -4,10 +4,13 @@ use Rattle.std.proofs.lemmas.List.{length-append, map-append}
 use Rattle.id_directory.specs.Directory.{handle_of}
 use Rattle.map_model.specs.State.{is_live}
 use Rattle.map_model.specs.Cost.{greatest_level}
+use Rattle.map_shapes.specs.declared.spent.Spent.{Spent}
 use Rattle.layer_kinds.specs.declared.faults.UpdateFault.TheVariants as faults
 use Rattle.layer_kinds.specs.Shares.{count_of, IsShared, insert_turns, insert_marks}
 use Rattle.layer_kinds.specs.Costs.{IsInBounds}
 use Rattle.layer_kinds.specs.Layered.{items_of, IsAdd}
+use Rattle.layer_kinds.specs.Memory.{Each, IsReadied, LosesOne, KeepsMemory}
+use Rattle.layer_kinds.proofs.Keeping.{KeepsMemory-same, loses_one}
 use Rattle.layer_kinds.proofs.WithinBounds.{IsTold-of, greatest-light, refused-cost, added-cost}
 use Rattle.layer_kinds.proofs.Items.{live_found, as_many_items, duplicate_refused, full_refused}
 use Rattle.layer_kinds.proofs.kind_layer.KindLayer.add.Goals as goal
@@ -126,3 +129,25 @@ returns-clause-told g c =
     let cost : IsInBounds (count_of rates) (length c.args.self.now.entries) c.args.steps.now c.insert.new.steps = returns-clause-cost g c in
     IsTold-of (count_of rates) (length c.args.self.now.entries) true c.bounds-bounds.result.turns c.bounds-bounds.result.marks cost c.requires.lap
     c.bounds-bounds.ensures.turns c.bounds-bounds.ensures.marks c.bounds-bounds.ensures.few_turns c.bounds-bounds.ensures.few_marks (λ adds. some_turns) c.spent.ensures
+
+pub returns-then-len-ge-MOST_ITEMS-clause-kept : goal.returns-then-len-ge-MOST_ITEMS-clause-kept
+returns-then-len-ge-MOST_ITEMS-clause-kept g c =
+    KeepsMemory-same {T = Spent} (Err c.fault_when_full.result) (g.X.Indexes.memory c.args.self.now.indexes)
+
+pub returns-then-not-branch-clause-kept : goal.returns-then-not-branch-clause-kept
+returns-then-not-branch-clause-kept g c = ap (λ k. g.X.Indexes.memory k.indexes) c.self.view_is
+
+pub returns-in_err-prepare_add-clause-kept : goal.returns-in_err-prepare_add-clause-kept
+returns-in_err-prepare_add-clause-kept g c =
+    subst (λ k. KeepsMemory c.from_residual.result (g.X.Indexes.memory k.indexes) (g.X.Indexes.memory c.self.inside.indexes)) c.self.view_is
+    (KeepsMemory-same c.from_residual.result (g.X.Indexes.memory c.self.inside.indexes))
+
+pub returns-then-is_err-clause-kept : goal.returns-then-is_err-clause-kept
+returns-then-is_err-clause-kept g c =
+    subst (λ k. Each IsReadied (g.X.Indexes.memory k.indexes) (g.X.Indexes.memory c.prepare.new.self)) c.self.view_is c.prepare.ensures.kept
+
+pub returns-clause-kept : goal.returns-clause-kept
+returns-clause-kept g c =
+    subst (λ k. Each LosesOne (g.X.Indexes.memory k.indexes) (g.X.Indexes.memory c.insert.new.self)) c.self.view_is
+    (loses_one (g.X.Indexes.memory c.self.inside.indexes) (g.X.Indexes.memory c.prepare.new.self) (g.X.Indexes.memory c.insert.new.self)
+    c.prepare.ensures.kept c.insert.ensures.held)

@@ -7,6 +7,8 @@ use Rattle.layer_kinds.specs.declared.faults.UpdateFault.TheVariants as faults
 use Rattle.layer_kinds.specs.Shares.{count_of, IsShared, delete_turns, delete_marks}
 use Rattle.layer_kinds.specs.Costs.{IsCost, IsInBounds}
 use Rattle.layer_kinds.specs.Layered.{items_of, IsRemoval}
+use Rattle.layer_kinds.specs.Memory.{Each, IsReadied, LosesOne, KeepsMemory}
+use Rattle.layer_kinds.proofs.Keeping.{loses_one}
 use Rattle.layer_kinds.proofs.WithinBounds.{IsTold-of, greatest-light, refused-cost, removed-cost}
 use Rattle.layer_kinds.proofs.Items.{live_found, items_without, linked_found, fewer}
 use Rattle.layer_kinds.proofs.kind_layer.KindLayer.remove.Goals as goal
@@ -93,3 +95,15 @@ returns-clause-told g c =
     let cost : IsInBounds (count_of rates) (length l.entries) c.args.steps.now c.delete.new.steps = returns-clause-cost g c in
     IsTold-of (count_of rates) (length l.entries) false c.bounds-bounds.result.turns c.bounds-bounds.result.marks cost c.requires.lap c.bounds-bounds.ensures.turns c.bounds-bounds.ensures.marks
     c.bounds-bounds.ensures.few_turns c.bounds-bounds.ensures.few_marks (λ adds. absurd cc) c.spent.ensures
+
+pub returns-in_err-prepare-clause-kept : goal.returns-in_err-prepare-clause-kept
+returns-in_err-prepare-clause-kept g c =
+    let refused : c.from_residual.result ≡ Err faults.NoMemory = search rules in
+    subst (λ r. KeepsMemory r (g.X.Indexes.memory c.args.self.now.indexes) (g.X.Indexes.memory c.prepare.new.self)) (sym refused)
+    (subst (λ k. Each IsReadied (g.X.Indexes.memory k.indexes) (g.X.Indexes.memory c.prepare.new.self)) c.self.view_is c.prepare.ensures.kept)
+
+pub returns-clause-kept : goal.returns-clause-kept
+returns-clause-kept g c =
+    subst (λ k. Each LosesOne (g.X.Indexes.memory k.indexes) (g.X.Indexes.memory c.delete.new.self)) c.self.view_is
+    (loses_one (g.X.Indexes.memory c.self.inside.indexes) (g.X.Indexes.memory c.prepare.new.self) (g.X.Indexes.memory c.delete.new.self)
+    c.prepare.ensures.kept c.delete.ensures.held)

@@ -3,7 +3,7 @@ use Rattle.std.specs.Prelude.{nat_le}
 use Rattle.std.specs.List.{list_any}
 use Rattle.std.specs.Option.{is_some}
 use Rattle.std.proofs.lemmas.Bool.{le-leb, lt-leb}
-use Rattle.std.proofs.lemmas.List.{length-map, map-append}
+use Rattle.std.proofs.lemmas.List.{append-nil, length-map, map-append}
 use Rattle.std.proofs.lemmas.List.Sums.{sum_by_push}
 use Rattle.map_model.specs.State.{Layer, most_layers}
 use Rattle.map_model.specs.Reply.{Made}
@@ -59,3 +59,14 @@ returns-clause-answered g c =
     (is_taken-named c.args.name.now ls ∙ free)
     (lt-leb most_layers (length (map_of c.args.self.now)) (omega (arith, c.if-len-ge-MOST_LAYERS.false, held, length-map ls layer_of)))
     ∙ ap (λ s. replied s Made) (sym (ap (map layer_of) items ∙ map-append layer_of ls (c.new.result ∷ []) ∙ ap (λ (l : Layer). map_of c.args.self.now ++ l ∷ []) c.new.ensures.made))
+
+pub returns-then-is_some-clause-kept : goal.returns-then-is_some-clause-kept
+returns-then-is_some-clause-kept g c = ([], sym (append-nil c.args.self.now.layers))
+
+pub returns-then-len-ge-MOST_LAYERS-clause-kept : goal.returns-then-len-ge-MOST_LAYERS-clause-kept
+returns-then-len-ge-MOST_LAYERS-clause-kept g c = ([], sym (append-nil c.args.self.now.layers))
+
+pub returns-clause-kept : goal.returns-clause-kept
+returns-clause-kept g c =
+    let items : c.push.new.self.items ≡ c.args.self.now.layers ++ c.new.result ∷ [] = search rules in
+    (c.new.result ∷ [], items)

@@ -1,4 +1,4 @@
-use Rattle.std.proofs.Common.{rules, ◌≡◌, ◌≤◌, ◌<◌, Bool, true, false, None, Some, IfOk, length, map, get_or, set, ap, sym, subst, arith}
+use Rattle.std.proofs.Common.{rules, ◌≡◌, ◌≤◌, ◌<◌, Bool, true, false, None, Some, Err, IfOk, length, map, get_or, set, ap, sym, subst, arith}
 use Rattle.std.specs.List.{refill}
 use Rattle.std.specs.Result.{is_ok}
 use Rattle.map_model.specs.Index.{one_if}
@@ -6,9 +6,11 @@ use Rattle.std.proofs.lemmas.List.Sums.{get_or-le-sum_by}
 use Rattle.map_layers.specs.Costs.{IsCostIn, IsToldIn}
 use Rattle.map_shapes.specs.Shape.{model_shape}
 use Rattle.map_layers.specs.Layer.{adds_in, items_in, layer_of}
+use Rattle.map_layers.specs.declared.faults.UpdateFault.TheVariants.{NoLayer}
+use Rattle.map_shapes.specs.declared.spent.Spent.{Spent}
 use Rattle.map_layers.specs.Layers.{place_named, adds_of}
 use Rattle.map_layers.proofs.Answering.{IsAnswered-add, unfound-add}
-use Rattle.map_layers.proofs.Names.{named-none, layer_named-None, AllDiffer-at, adds-at, found-at, IsRenewed-at}
+use Rattle.map_layers.proofs.Names.{named-none, layer_named-None, AllDiffer-at, adds-at, found-at, IsRenewed-at, KeepsMemoryIn-same, KeepsMemoryIn-at}
 use Rattle.map_layers.proofs.layers.updating.add_in.Goals as goal
 
 one_if-few : (b : Bool) → one_if b ≤ 1
@@ -38,6 +40,7 @@ returns-in-Some g c =
           (IsRenewed-at name k items ls d new same found within c.add.ensures.same c.requires.differ) (model_shape c.args.shape) c.add.result c.add.ensures.added;
       differ = AllDiffer-at name k items ls d new same found within c.add.ensures.same c.requires.differ;
       adds = omega (arith, adds-at name k items ls d new same found within c.add.ensures.same, c.add.ensures.adds, one_if-few (is_ok c.add.result));
+      kept = KeepsMemoryIn-at name k items ls d new same found within c.add.ensures.same c.add.result c.add.ensures.kept;
       cost = subst (λ o. IsCostIn o c.add.result c.args.steps.now c.add.new.steps) here c.add.ensures.cost;
       told = subst (λ o. IfOk c.add.result (λ spent. IsToldIn o true spent c.args.steps.now c.add.new.steps)) here c.add.ensures.told;
     }
@@ -47,3 +50,6 @@ returns-in-None-clause-answered g c =
     let none : place_named c.args.name.now c.args.layers.now.items ≡ None = search rules in
     unfound-add (map layer_of c.args.layers.now.items) c.args.name.now c.args.id (model_shape c.args.shape)
     (layer_named-None c.args.name.now c.args.layers.now.items (named-none c.args.name.now 0 c.args.layers.now.items none))
+
+pub returns-in-None-clause-kept : goal.returns-in-None-clause-kept
+returns-in-None-clause-kept g c = KeepsMemoryIn-same c.args.name.now {T = Spent} (Err NoLayer) c.args.layers.now.items

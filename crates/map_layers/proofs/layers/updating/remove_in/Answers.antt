@@ -1,10 +1,12 @@
-use Rattle.std.proofs.Common.{rules, ◌≡◌, ◌<◌, false, None, Some, IfOk, length, map, get_or, set, sym, subst, arith}
+use Rattle.std.proofs.Common.{rules, ◌≡◌, ◌<◌, false, None, Some, Err, IfOk, length, map, get_or, set, sym, subst, arith}
 use Rattle.std.specs.List.{refill}
 use Rattle.map_layers.specs.Costs.{IsCostIn, IsToldIn}
 use Rattle.map_layers.specs.Layer.{items_in, layer_of}
+use Rattle.map_layers.specs.declared.faults.UpdateFault.TheVariants.{NoLayer}
+use Rattle.map_shapes.specs.declared.spent.Spent.{Spent}
 use Rattle.map_layers.specs.Layers.{place_named}
 use Rattle.map_layers.proofs.Answering.{IsAnswered-drop, unfound-drop}
-use Rattle.map_layers.proofs.Names.{named-none, layer_named-None, AllDiffer-at, adds-at, found-at, IsRenewed-at}
+use Rattle.map_layers.proofs.Names.{named-none, layer_named-None, AllDiffer-at, adds-at, found-at, IsRenewed-at, KeepsMemoryIn-same, KeepsMemoryIn-at}
 use Rattle.map_layers.proofs.layers.updating.remove_in.Goals as goal
 
 pub returns-in-Some : goal.returns-in-Some
@@ -24,6 +26,7 @@ returns-in-Some g c =
           (IsRenewed-at name k items ls d new same found within c.remove.ensures.same c.requires.differ) c.remove.result c.remove.ensures.removed;
       differ = AllDiffer-at name k items ls d new same found within c.remove.ensures.same c.requires.differ;
       adds = omega (arith, adds-at name k items ls d new same found within c.remove.ensures.same, c.remove.ensures.adds);
+      kept = KeepsMemoryIn-at name k items ls d new same found within c.remove.ensures.same c.remove.result c.remove.ensures.kept;
       cost = subst (λ o. IsCostIn o c.remove.result c.args.steps.now c.remove.new.steps) here c.remove.ensures.cost;
       told = subst (λ o. IfOk c.remove.result (λ spent. IsToldIn o false spent c.args.steps.now c.remove.new.steps)) here c.remove.ensures.told;
     }
@@ -33,3 +36,6 @@ returns-in-None-clause-answered g c =
     let none : place_named c.args.name.now c.args.layers.now.items ≡ None = search rules in
     unfound-drop (map layer_of c.args.layers.now.items) c.args.name.now c.args.id
     (layer_named-None c.args.name.now c.args.layers.now.items (named-none c.args.name.now 0 c.args.layers.now.items none))
+
+pub returns-in-None-clause-kept : goal.returns-in-None-clause-kept
+returns-in-None-clause-kept g c = KeepsMemoryIn-same c.args.name.now {T = Spent} (Err NoLayer) c.args.layers.now.items

@@ -1,0 +1,73 @@
+-- What updates keep of the memory of a layer's indexes, and of their rebuilds.
+use Rattle.std.specs.Prelude.{◌≡◌, ℕ, ◌+◌, ◌≤◌, ◌==◌, List, [], ◌∷◌, ◌++◌, get_or, map, sum_by, Option, None, Some, Result, Ok, Err}
+use Rattle.std.specs.Option.{option_map, option_to_list}
+use Rattle.builder_trait.specs.Parts.{Contents}
+use Rattle.log_levels.specs.Slots.{one_if}
+use Rattle.log_method.specs.Stack.{Stacked, held_by_level}
+use Rattle.global_rebuild.specs.Index.{Indexed, unwalked}
+use Rattle.layer_kinds.specs.declared.faults.UpdateFault.{UpdateFault}
+use Rattle.layer_kinds.specs.declared.faults.UpdateFault.TheVariants.{Duplicate, Unknown, Full, NoMemory}
+
+-- the memory of an index: how many parts of each level each of its stacks has, in whatever use, and how many items its rebuild hasn't come by,
+-- where one runs
+pub record Memory : Type 0 where
+  pub stacks : List (List ℕ)
+  pub unwalked : Option ℕ
+
+-- how many parts of level k there are
+abbrev pub parts_of_level : ℕ → Memory → ℕ
+parts_of_level k m = sum_by (λ parts. get_or parts k 0) m.stacks
+
+module _ {P Item : Type 0} where
+  -- how many parts of each level a stack has
+  abbrev pub by_level : Stacked P Item → List ℕ
+  by_level s = map (λ h. h.parts) (held_by_level s)
+
+  module _ (contents : P → Contents Item) where
+    -- the memory of an index, with its shadow and what is put out of use
+    abbrev pub memory_in : Indexed P Item → Memory
+    memory_in i = record {
+      stacks = map by_level (i.main ∷ (option_to_list (option_map (λ r. r.stack) i.shadow) ++ i.retired));
+      unwalked = unwalked contents i;
+    }
+
+    -- the same, where the index is there
+    abbrev pub memories_of : Option (Indexed P Item) → List Memory
+    memories_of index = option_to_list (option_map memory_in index)
+
+-- of each level there are as many parts
+abbrev pub KeepsAll : (old new : Memory) → Type 0
+KeepsAll old new = (k : ℕ) → parts_of_level k new ≡ parts_of_level k old
+
+-- of each level there are no fewer parts, but for one part at most
+abbrev pub LosesOne : (old new : Memory) → Type 0
+LosesOne old new = (t : ℕ) × ((k : ℕ) → parts_of_level k old ≤ parts_of_level k new + one_if (k == t))
+
+-- a rebuild comes by four items at most: none begins, and one that runs ends where no more are left, and not before
+abbrev pub GoesOn : (old new : Option ℕ) → Type 0
+GoesOn None None = Unit {0}
+GoesOn None (Some w') = ⊥
+GoesOn (Some w) None = w ≤ 4
+GoesOn (Some w) (Some w') = (w' ≤ w) × (w ≤ w' + 4)
+
+-- what a preparation keeps, whether memory is refused or not
+pub record IsReadied (old new : Memory) : Type 0 where
+  pub parts : LosesOne old new
+  pub rebuild : GoesOn old.unwalked new.unwalked
+
+module _ {A : Type 0} (R : A → A → Type 0) where
+  -- two lists are of the same length, and the relation holds at each place
+  abbrev pub Each : List A → List A → Type 0
+  Each [] [] = Unit {0}
+  Each (x ∷ xs) (y ∷ ys) = R x y × Each xs ys
+  Each [] (y ∷ ys) = ⊥
+  Each (x ∷ xs) [] = ⊥
+
+-- Of each index an update loses one part at most. Where memory refused it, no rebuild began, and none was given up; one that is refused for another
+-- cause loses nothing.
+abbrev pub KeepsMemory : {T : Type 0} → Result T UpdateFault → (old new : List Memory) → Type 0
+KeepsMemory (Ok done) old new = Each LosesOne old new
+KeepsMemory (Err (Duplicate id)) old new = new ≡ old
+KeepsMemory (Err (Unknown id)) old new = new ≡ old
+KeepsMemory (Err Full) old new = new ≡ old
+KeepsMemory (Err NoMemory) old new = Each IsReadied old new
