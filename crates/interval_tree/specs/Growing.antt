@@ -19,7 +19,7 @@ pub record AreEmpty (cap : ℕ) (trees : Trees) : Type 0 where
 -- Before the seal nothing is put: the puts are turns too.
 pub record IsPutting (b : Progress Segment) (rows : StabRows) : Type 0 where
   pub small : b.at_level < 32
-  pub empty : AreEmpty (2 ^ b.at_level) rows.trees.value
+  pub empty : AreEmpty (2 ^ b.at_level) rows.trees
   pub none_left : rows.left ≡ 0
 
 -- the places of segments that are all live
@@ -54,7 +54,7 @@ turns_left n trees = turns_to (n - 1) n trees.ends + turns_to n n trees.by_lower
 pub record IsGrowing (part : Contents Segment) (rows : StabRows) : Type 0 where
   pub small : part.at_level < 32
   pub few : length part.items ≤ 2 ^ part.at_level
-  pub room : HaveRoom (2 ^ part.at_level) rows.trees.value
+  pub room : HaveRoom (2 ^ part.at_level) rows.trees
   pub live : flags_reordered part ≡ replicate (length part.items) true
-  pub filling : AreFilling part.items rows.trees.value
-  pub left : rows.left ≡ turns_left (length part.items) rows.trees.value
+  pub filling : AreFilling part.items rows.trees
+  pub left : rows.left ≡ turns_left (length part.items) rows.trees

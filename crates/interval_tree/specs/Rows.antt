@@ -59,5 +59,5 @@ pub record HaveRoom (cap : ℕ) (trees : Trees) : Type 0 where
 -- The rows that a part keeps, which have room for what the next builder takes.
 pub record AreKept (part : Contents Segment) (rows : StabRows) : Type 0 where
   pub small : part.at_level < 32
-  pub room : HaveRoom (2 ^ part.at_level) rows.trees.value
-  pub over : AreOver part rows.trees.value
+  pub room : HaveRoom (2 ^ part.at_level) rows.trees
+  pub over : AreOver part rows.trees

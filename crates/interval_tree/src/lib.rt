@@ -10,6 +10,7 @@
 #![tactic(auto)]
 
 mod answers;
+mod boxed;
 mod growing;
 mod questions;
 mod rows;

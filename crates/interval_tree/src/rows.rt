@@ -1,6 +1,7 @@
 //! The rows of the structure: the three trees, and how far they have grown.
 ghost use Rattle.std.specs.Prelude.{◌≡◌};
 
+use crate::boxed::Boxed;
 use crate::search::index_of;
 use crate::trees::Trees;
 use builder_trait::flat::{FlatBuilder, FlatPart};
@@ -9,6 +10,7 @@ use map_shapes::Segment;
 use query_laws::NoMemory;
 use query_laws::step_ledger::Steps;
 use std::alloc::Global;
+use std::mem::size_of;
 use std::sync::ledger::Ledger;
 
 /// Segments of which those over any place can be counted and listed, and in which segments are marked as dead (weak deletion,
@@ -32,12 +34,15 @@ pub type StabBuilder = RowsBuilder<StabRows>;
 
 /// The three trees over segments that stand beside them. While they grow, `left` turns are left.
 ///
-/// The trees, 312 bytes of them, lie in a box, since builders are moved often.
+/// The trees, 312 bytes of them, lie in a box, since builders are moved often; it lends no allocator.
 #[derive(Drop)]
 pub struct StabRows {
-    pub(crate) trees: Box<Trees>,
+    pub(crate) trees: Boxed<Trees>,
     pub(crate) left: u64,
 }
+
+// A touch of the segments beside them reads or writes one of them, of at most 64 bytes.
+const _: () = prove!(size_of::<Segment>() <= 64);
 
 impl Rows for StabRows {
     ghost use Rattle.std.specs.Prelude.{◌≡◌, ◌*◌, ◌+◌, ◌-◌, refl};
@@ -72,7 +77,7 @@ impl Rows for StabRows {
     fn room(alloc: Global, level: u32) -> Result<StabRows, NoMemory> {
         let trees = Trees::room(alloc, 2usize.pow(level))?;
         Ok(StabRows {
-            trees: Box::new(alloc, trees)?,
+            trees: Boxed::new(alloc, trees)?,
             left: 0,
         })
     }

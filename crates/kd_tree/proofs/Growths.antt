@@ -7,8 +7,9 @@ use Rattle.builder_trait.specs.Parts.{Contents}
 use Rattle.map_shapes.specs.declared.point.Point.{Point}
 use Rattle.kd_tree.specs.declared.area.Area.{Area}
 use Rattle.kd_tree.specs.declared.rows.KdRows.{KdRows}
+use Rattle.kd_tree.specs.Areas.{IsInside, IsBox}
 use Rattle.kd_tree.specs.Heights.{nodes_in, depth_for}
-use Rattle.kd_tree.specs.Blocks.{Holds, IsNode, AreNodes}
+use Rattle.kd_tree.specs.Blocks.{IsLeastBox, IsNode, AreNodes}
 use Rattle.kd_tree.specs.Growing.{IsShaping, to_go}
 use Rattle.kd_tree.specs.HeightLaws.{depth_small, depth_rise, few_points, nodes_rise, nodes_none, four_some, four_small, four_below, index_next}
 use Rattle.kd_tree.proofs.NodeLemmas.{AreNodes-put, AreNodes-next}
@@ -19,9 +20,11 @@ shallow part rows shaping =
     omega (arith, shaping.depth_is, depth_small (length part.items) (few_points (length part.items) part.at_level shaping.room.small shaping.few))
 
 -- beyond all positions there is nothing to have
-pub Holds-beyond : (part : Contents Point) (order : List ℕ) (area : Area) (from to : ℕ) → length order ≤ from → Holds part order area from to
-Holds-beyond part order area from to past = record {
-  each = λ position place p low high stands item flag. absurd (omega (arith, slice_get_within order position place stands));
+pub IsLeastBox-beyond : (part : Contents Point) (order : List ℕ) (area : Area) (from to : ℕ) → length order ≤ from
+    → ((all : Area) → IsBox all → IsInside area all) → IsLeastBox part order area from to
+IsLeastBox-beyond part order area from to past nothing = record {
+  holds = record { each = λ position place p low high stands item flag. absurd (omega (arith, slice_get_within order position place stands)) };
+  least = λ all box holds. nothing all box;
 }
 
 -- while nodes are left there is a next one

@@ -1,5 +1,6 @@
 -- A point that dies, and the tree without it.
 use Rattle.std.proofs.Common.{◌≡◌, ℕ, ◌+◌, ◌-◌, ◌*◌, ◌^◌, ◌≤◌, false, List, length, set, sym, ap, ◌∙◌, arith, subst}
+use Rattle.std.proofs.lemmas.List.{length-set}
 use Rattle.builder_trait.specs.Parts.{Contents}
 use Rattle.map_shapes.specs.declared.point.Point.{Point}
 use Rattle.row_blocks.specs.Heights.{height_of}
@@ -9,6 +10,7 @@ use Rattle.kd_tree.specs.declared.area.Area.{Area}
 use Rattle.kd_tree.specs.Heights.{span}
 use Rattle.kd_tree.specs.HeightLaws.{few_points, least_height, depth_low, depth_small, depth_covers}
 use Rattle.kd_tree.specs.Blocks.{AreSpots, AreLive, AreNodes}
+use Rattle.kd_tree.specs.Shrinking.{died}
 use Rattle.kd_tree.specs.Growing.{IsTree}
 
 module _ (part : Contents Point) (rows : KdRows) (tree : IsTree part rows) where
@@ -31,8 +33,8 @@ module _ (part : Contents Point) (rows : KdRows) (tree : IsTree part rows) where
       → leaves ≡ record rows.leaves { live = record rows.leaves.live { items = leaves.live.items } }
       → length leaves.live.items ≡ length rows.leaves.live.items
       → AreLive (set part.flags place false) rows.places.items leaves.live.items
-      → AreNodes (record part { flags = set part.flags place false }) rows.places.items rows.depth rows.depth 0 nodes
-      → IsTree (record part { flags = set part.flags place false }) (record rows { leaves = leaves; nodes = record rows.nodes { items = nodes } })
+      → AreNodes (died part place) rows.places.items rows.depth rows.depth 0 nodes
+      → IsTree (died part place) (record rows { leaves = leaves; nodes = record rows.nodes { items = nodes } })
   IsTree-killed place leaves nodes kept as_many live are = record {
     room = record {
       small = tree.room.small;
@@ -42,6 +44,7 @@ module _ (part : Contents Point) (rows : KdRows) (tree : IsTree part rows) where
       nodes = tree.room.nodes;
     };
     few = tree.few;
+    flagged = length-set part.flags place false ∙ tree.flagged;
     long = tree.long;
     depth_is = tree.depth_is;
     leaves = record { spots = ap (λ l. length l.spots.items) kept ∙ tree.leaves.spots; live = as_many ∙ tree.leaves.live };

@@ -1,6 +1,7 @@
 pub mod Placings
 pub mod LeafLemmas
 pub mod NodeLemmas
+pub mod Shrinkings
 pub mod Growths
 pub mod Puttings
 pub mod Killings

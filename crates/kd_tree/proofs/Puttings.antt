@@ -21,7 +21,7 @@ use Rattle.row_blocks.specs.Heights.{height_of}
 use Rattle.kd_tree.specs.declared.rows.KdRows.{KdRows}
 use Rattle.kd_tree.specs.declared.sorting.Sorting.{Sorting}
 use Rattle.kd_tree.specs.Heights.{depth_for, nodes_in}
-use Rattle.kd_tree.specs.HeightLaws.{few_points, least_height, depth_low, depth_small, depth_some, some_points, nodes-is, four-is, four_some}
+use Rattle.kd_tree.specs.HeightLaws.{few_points, least_height, depth_low, depth_small, some_points, nodes-is, four-is, four_some}
 use Rattle.kd_tree.specs.Growing.{IsPutting, IsGrowing}
 use Rattle.kd_tree.proofs.Placings.{range-more}
 use Rattle.kd_tree.proofs.NodeLemmas.{AreNodes-none}
@@ -110,15 +110,13 @@ module _ (b : Progress Point) (rows : KdRows) (putting : IsPutting b rows) where
         (slice_get_cases b.reordered k).1
 
     pub IsGrowing-begun : (sorting : Sorting) (depth left : ℕ) → depth ≡ depth_for (length b.items)
-        → sorting ≡ record rows.sorting { level = depth - 1; next = 0; counted = 0; by_first = sorting.by_first }
-        → left ≡ depth * length b.items + nodes_in depth
+        → sorting ≡ record rows.sorting { level = sorting.level; next = 0; counted = 0; by_first = sorting.by_first } → sorting.level < depth
+        → left ≡ sorting.level * length b.items + length b.items + nodes_in depth
         → IsGrowing (all_live b) (record rows { sorting = sorting; depth = depth; filled = 0; level = 0; place = 0; left = left })
-    IsGrowing-begun sorting depth left depth_is kept left_is =
-        let level : sorting.level ≡ depth - 1 = ap (λ s. s.level) kept in
+    IsGrowing-begun sorting depth left depth_is kept low left_is =
         let next : sorting.next ≡ 0 = ap (λ s. s.next) kept in
         let by_y : sorting.by_y.items ≡ b.places = ap (λ s. s.by_y.items) kept ∙ putting.sorting.by_y in
         let counts : length sorting.counts.items ≡ (length b.items + 7) / 8 = ap (λ s. length s.counts.items) kept ∙ putting.sorting.counts in
-        let one : depth ≡ (depth - 1) + 1 = omega (arith, depth_is, depth_some (length b.items)) in
         let none : length rows.nodes.items ≡ 0 = ap length putting.nodes in
         let first : nodes_in (depth - 0) ≡ nodes_in depth = ap nodes_in (omega arith) in
         let no_order : List ℕ = rows.places.items in (
@@ -136,11 +134,11 @@ module _ (b : Progress Point) (rows : KdRows) (putting : IsPutting b rows) where
             depth_is = depth_is;
             sorting = record {
               few = few_items;
-              low = omega (arith, level, depth_is, depth_small (length b.items) few_items);
+              low = omega (arith, depth_is, depth_small (length b.items) few_items);
               long = ap length by_y ∙ length-placed b.items b.reordered b.places underway.placed ∙ complete;
               places = subst (All (λ place. place < length b.items)) (sym by_y) known;
               counts = λ some. omega (arith, counts, some);
-              next = λ more. omega (arith, next, some_points (length b.items) (omega (arith, more, level, depth_is)));
+              next = λ more. omega (arith, next, some_points (length b.items) (omega (arith, more, depth_is)));
             };
             filled_few = omega arith;
             unfilled = λ more. refl;
@@ -148,11 +146,11 @@ module _ (b : Progress Point) (rows : KdRows) (putting : IsPutting b rows) where
             spots = record { each = λ j slot place p leaf small below stands item at. absurd (omega arith) };
             live = record { each = λ j slot leaf small at. absurd (let no : slice_get [] j ≡ Some leaf = sym (ap (λ l. slice_get l j) putting.live) ∙ at in cc) };
             no_nodes = λ less. (refl, refl);
-            is_next = inl (omega (arith, one), omega (arith, four_some (depth - 1 - 0)));
+            is_next = inl (omega arith, omega (arith, four_some (depth - 1 - 0)));
             next = omega (arith, none, first);
             nodes = AreNodes-none (all_live b) no_order depth rows.nodes.items;
           },
-          omega (arith, left_is, level, next, none, ap (λ d. d * length b.items) one, ap (λ l. l * length b.items) level),
+          omega (arith, left_is, next, none),
         )
 
 -- all that a builder of this level may take: a turn for each point's flag, one for each level of the tree, and one for each node
@@ -169,5 +167,6 @@ IsQuota-begun n level small few =
       bounded = omega (arith, few, levels, points, high, four, nodes-is (depth_for n), four-is (depth_for n));
     }
 
-pub IsQuota-left : (n level left : ℕ) → level < 32 → n ≤ 2 ^ level → left ≡ depth_for n * n + nodes_in (depth_for n) → IsQuota 4 12 level n (n + left)
-IsQuota-left n level left small few is = subst (λ m. IsQuota 4 12 level n (n + m)) (sym is) (IsQuota-begun n level small few)
+pub IsQuota-left : (n level left : ℕ) → level < 32 → n ≤ 2 ^ level → left ≤ depth_for n * n + nodes_in (depth_for n) → IsQuota 4 12 level n (n + left)
+IsQuota-left n level left small few most =
+    record { enough = omega arith; bounded = omega (arith, (IsQuota-begun n level small few).bounded) }

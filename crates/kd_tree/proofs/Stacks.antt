@@ -259,7 +259,7 @@ child_is part order q depth n l place c areas b node four small level there reac
       level = level;
       place = omega (arith, there, few, small);
       within = λ some. omega (arith, from, reached some);
-      far = IsFar-of part order q area b l (4 * place + c) level there (node.each c area at) (λ spot has below. far area spot at has (omega (arith, below, long)));
+      far = IsFar-of part order q area b l (4 * place + c) level there (node.each c area at).holds (λ spot has below. far area spot at has (omega (arith, below, long)));
     })
     (λ (past, none). absurd (omega arith))
     (slice_get_cases areas c).1

@@ -57,10 +57,11 @@ to_go part rows = turns_left (length part.items) rows.sorting + (length part.ite
 abbrev pub IsGrowing : Contents Point → KdRows → Type 0
 IsGrowing part rows = IsShaping part rows × (rows.left ≡ to_go part rows)
 
--- The leaves have the part's points, each once, and which are live; and no live point of a block lies outside its box.
+-- The leaves have the part's points, each once, and which are live; and each block's box is the least one of its live points.
 pub record IsTree (part : Contents Point) (rows : KdRows) : Type 0 where
   pub room : HasRoom part.at_level rows
   pub few : length part.items ≤ 2 ^ part.at_level
+  pub flagged : length part.flags ≡ length part.items
   pub long : length rows.places.items ≡ length part.items
   pub depth_is : rows.depth ≡ depth_for (length part.items)
   pub leaves : HasLeaves (length part.items) rows.leaves

@@ -33,6 +33,7 @@ IsTree-grown b rows (shaping, left) none =
     record {
       room = shaping.room;
       few = shaping.few;
+      flagged = ap length shaping.flags ∙ length-replicate (length b.items) true;
       long = shaping.long;
       depth_is = shaping.depth_is;
       leaves = subst (λ n. HasLeaves n rows.leaves) filled shaping.leaves;

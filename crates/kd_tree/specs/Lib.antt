@@ -5,6 +5,7 @@ pub mod HeightLaws
 pub mod Sorting
 pub mod Blocks
 pub mod Leaves
+pub mod Shrinking
 pub mod Growing
 pub mod GrowingLaws
 pub mod Walks

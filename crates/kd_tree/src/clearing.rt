@@ -1,10 +1,10 @@
 //! Marks: a point that dies is taken out of its leaf, and the boxes over it shrink.
-ghost use Rattle.std.specs.Prelude.{◌≡◌, ℕ, ◌+◌, ◌*◌, ◌/◌, ◌^◌, ◌<◌, ◌≤◌, ◌-◌, List, Bool, false, IfSome, length, slice_set};
+ghost use Rattle.std.specs.Prelude.{◌≡◌, ◌+◌, ◌*◌, ◌/◌, ◌^◌, ◌<◌, ◌≤◌, ◌-◌, IfSome, IfNone, length};
 ghost use Rattle.query_laws.specs.StepLedger.{Spends};
 ghost use Rattle.builder_trait.specs.Parts.{Contents};
 ghost use Rattle.map_shapes.specs.declared.point.Point.{Point};
-ghost use Rattle.kd_tree.specs.Heights.{span};
-ghost use Rattle.kd_tree.specs.Blocks.{Holds, AreNodes};
+ghost use Rattle.kd_tree.specs.Blocks.{AreNodes};
+ghost use Rattle.kd_tree.specs.Shrinking.{Death, IsShrinking, died, rest};
 ghost use Rattle.kd_tree.specs.Growing.{IsTree};
 
 use crate::area::Area;
@@ -23,17 +23,14 @@ impl KdRows {
         area: Area,
         steps: &mut Steps<L>,
     ) -> Option<Area>
-        requires nodes { (part : Contents Point) × (order : List ℕ) × AreNodes part order self.old.depth self.old.depth 0 self.old.nodes.items }
+        requires shrinking { (death : Death) × IsShrinking death self.old.depth level block area self.old.nodes.items }
         requires small { self.old.depth ≤ 15 }
         requires level { level < self.old.depth }
         requires block { block < 4 ^ (self.old.depth - level) }
-        ensures nodes { (part : Contents Point) (order : List ℕ) → AreNodes part order self.old.depth self.old.depth 0 self.old.nodes.items
-            → Holds part order area (block * span level) ((block + 1) * span level)
-            → AreNodes part order self.old.depth self.old.depth 0 self.new.nodes.items }
-        ensures above { IfSome result (λ above. (part : Contents Point) (order : List ℕ)
-            → AreNodes part order self.old.depth self.old.depth 0 self.old.nodes.items
-            → Holds part order area (block * span level) ((block + 1) * span level)
-            → Holds part order above (block / 4 * span (level + 1)) ((block / 4 + 1) * span (level + 1))) }
+        ensures above { IfSome result (λ above. (death : Death) → IsShrinking death self.old.depth level block area self.old.nodes.items
+            → IsShrinking death self.old.depth (level + 1) (block / 4) above self.new.nodes.items) }
+        ensures there { IfNone result ((death : Death) → IsShrinking death self.old.depth level block area self.old.nodes.items
+            → AreNodes (rest death) death.order self.old.depth self.old.depth 0 self.new.nodes.items) }
         ensures kept { self.new ≡ record self.old { nodes = record self.old.nodes { items = self.new.nodes.items } } }
         ensures cost { Spends steps.old steps.new 0 0 2 }
     {
@@ -49,13 +46,11 @@ impl KdRows {
 
     /// Writes the box of a leaf, and of each block over it, while they change.
     fn raise<L: Ledger>(&mut self, leaf: usize, area: Area, steps: &mut Steps<L>)
-        requires nodes { (part : Contents Point) × (order : List ℕ) × AreNodes part order self.old.depth self.old.depth 0 self.old.nodes.items
-            × Holds part order area (8 * leaf) (8 * leaf + 8) }
+        requires shrinking { (death : Death) × IsShrinking death self.old.depth 0 leaf area self.old.nodes.items }
         requires small { self.old.depth ≤ 15 }
         requires leaf { leaf < 4 ^ self.old.depth }
-        ensures nodes { (part : Contents Point) (order : List ℕ) → AreNodes part order self.old.depth self.old.depth 0 self.old.nodes.items
-            → Holds part order area (8 * leaf) (8 * leaf + 8)
-            → AreNodes part order self.old.depth self.old.depth 0 self.new.nodes.items }
+        ensures nodes { (death : Death) → IsShrinking death self.old.depth 0 leaf area self.old.nodes.items
+            → AreNodes (rest death) death.order self.old.depth self.old.depth 0 self.new.nodes.items }
         ensures kept { self.new ≡ record self.old { nodes = record self.old.nodes { items = self.new.nodes.items } } }
         ensures cost { Spends steps.old steps.new 0 0 (2 * self.old.depth) }
     {
@@ -71,17 +66,16 @@ impl KdRows {
     }
 
     /// Takes out the point at a place, which has just died.
-    pub(crate) fn kill<L: Ledger>(&mut self, len: usize, place: usize, steps: &mut Steps<L>)
-        requires tree { (part : Contents Point) × IsTree part self.old × (length part.items ≡ len) }
-        requires within { place < len }
-        ensures tree { (part : Contents Point) → IsTree part self.old → length part.items ≡ len
-            → IsTree (record part { flags = slice_set part.flags place false }) self.new }
+    pub(crate) fn kill<L: Ledger>(&mut self, place: usize, steps: &mut Steps<L>)
+        requires tree { (part : Contents Point) × IsTree part self.old }
+        requires within { place < length self.old.places.items }
+        ensures tree { (part : Contents Point) → IsTree part self.old → IsTree (died part place) self.new }
         ensures cost { Spends steps.old steps.new 0 0 (2 * self.old.depth + 5) }
     {
         let position = self.places.position_of(place, steps);
         self.leaves.kill(position, steps);
         let leaf = position / LEAF;
-        let area = self.leaves.area(leaf, len, steps);
+        let area = self.leaves.area(leaf, self.places.len(), steps);
         self.raise(leaf, area, steps);
     }
 }

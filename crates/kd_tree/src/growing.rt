@@ -5,7 +5,7 @@ ghost use Rattle.builder_trait.specs.Parts.{Contents};
 ghost use Rattle.builder_trait.specs.Builders.{all_live};
 ghost use Rattle.map_shapes.specs.declared.point.Point.{Point};
 ghost use Rattle.kd_tree.specs.Heights.{span, nodes_in};
-ghost use Rattle.kd_tree.specs.Blocks.{Holds};
+ghost use Rattle.kd_tree.specs.Blocks.{IsLeastBox};
 ghost use Rattle.kd_tree.specs.Growing.{IsShaping, to_go};
 
 use crate::area::Area;
@@ -33,7 +33,7 @@ impl KdRows {
         } else if self.filled < points.len() {
             self.fill_next(points, steps);
         } else {
-            self.node_next(points.len(), steps);
+            self.node_next(steps);
         }
     }
 
@@ -64,27 +64,23 @@ impl KdRows {
         self.filled += 1;
     }
 
-    /// The box of a block: two touches at most.
-    fn block_area<L: Ledger>(
-        &self,
-        level: u32,
-        place: usize,
-        len: usize,
-        steps: &mut Steps<L>,
-    ) -> Area
-        requires shaping { (part : Contents Point) × IsShaping part self.now × (length part.items ≡ len) }
-        requires filled { self.now.filled ≡ len }
+    /// The least box of a block: two touches at most.
+    fn block_area<L: Ledger>(&self, level: u32, place: usize, steps: &mut Steps<L>) -> Area
+        requires shaping { (part : Contents Point) × IsShaping part self.now }
+        requires filled { self.now.filled ≡ length self.now.places.items }
         requires level { level ≤ self.now.level }
         requires within { level ≤ self.now.depth }
         requires place { place < 4 ^ (self.now.depth - level) }
-        ensures holds { (part : Contents Point) → IsShaping part self.now → length part.items ≡ len
-            → Holds part self.now.places.items result (place * span level) ((place + 1) * span level) }
+        ensures least { (part : Contents Point) → IsShaping part self.now
+            → IsLeastBox part self.now.places.items result (place * span level) ((place + 1) * span level) }
         ensures cost { Spends steps.old steps.new 0 0 2 }
     {
         if level > 0 {
             let areas = self.nodes.at(index(self.depth, level - 1, place), steps);
-            whole(&areas)
-        } else if LEAF * place < len {
+            return whole(&areas);
+        }
+        let len = self.places.len();
+        if LEAF * place < len {
             self.leaves.area(place, len, steps)
         } else {
             Area::nothing()
@@ -92,21 +88,20 @@ impl KdRows {
     }
 
     /// Makes the next node.
-    fn node_next<L: Ledger>(&mut self, len: usize, steps: &mut Steps<L>)
-        requires shaping { (part : Contents Point) × IsShaping part self.old × (length part.items ≡ len) }
-        requires filled { self.old.filled ≡ len }
+    fn node_next<L: Ledger>(&mut self, steps: &mut Steps<L>)
+        requires shaping { (part : Contents Point) × IsShaping part self.old }
+        requires filled { self.old.filled ≡ length self.old.places.items }
         requires more { length self.old.nodes.items < nodes_in self.old.depth }
-        ensures shaping { (part : Contents Point) → IsShaping part self.old → length part.items ≡ len
-            → IsShaping part self.new × (to_go part self.new + 1 ≡ to_go part self.old) }
+        ensures shaping { (part : Contents Point) → IsShaping part self.old → IsShaping part self.new × (to_go part self.new + 1 ≡ to_go part self.old) }
         ensures same_left { self.new.left ≡ self.old.left }
         ensures cost { Spends steps.old steps.new 0 0 10 }
     {
         let first = 4 * self.place;
         let areas = [
-            self.block_area(self.level, first, len, steps),
-            self.block_area(self.level, first + 1, len, steps),
-            self.block_area(self.level, first + 2, len, steps),
-            self.block_area(self.level, first + 3, len, steps),
+            self.block_area(self.level, first, steps),
+            self.block_area(self.level, first + 1, steps),
+            self.block_area(self.level, first + 2, steps),
+            self.block_area(self.level, first + 3, steps),
         ];
         self.nodes.push(areas, steps);
         self.place += 1;

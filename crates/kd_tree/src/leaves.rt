@@ -6,7 +6,8 @@ ghost use Rattle.map_shapes.specs.declared.point.Point.{Point};
 ghost use Rattle.kd_tree.specs.declared.spot.Spot.{Spot};
 ghost use Rattle.kd_tree.specs.declared.area.Area.{Area};
 ghost use Rattle.kd_tree.specs.Areas.{Has, IsInside, IsBox, spot_of};
-ghost use Rattle.kd_tree.specs.Blocks.{AreSpots, AreLive, AllLive, Holds};
+ghost use Rattle.kd_tree.specs.Heights.{span};
+ghost use Rattle.kd_tree.specs.Blocks.{AreSpots, AreLive, AreLeavesOf, AllLive, IsLeastBox};
 ghost use Rattle.kd_tree.specs.Leaves.{HasLive};
 
 use crate::area::Area;
@@ -90,8 +91,8 @@ impl Leaves {
     pub(crate) fn area<L: Ledger>(&self, j: usize, len: usize, steps: &mut Steps<L>) -> Area
         requires leaves { HasLeaves len self.now }
         requires index { 8 * j < len }
-        ensures holds { (part : Contents Point) (order : List ℕ) → length order ≡ len → AreSpots part.items order len self.now.spots.items
-            → AreLive part.flags order self.now.live.items → Holds part order result (8 * j) (8 * j + 8) }
+        ensures least { (part : Contents Point) (order : List ℕ) → AreLeavesOf part order len self.now.spots.items self.now.live.items
+            → IsLeastBox part order result (j * span 0) ((j + 1) * span 0) }
         ensures cost { Spends steps.old steps.new 0 0 2 }
     {
         let spots = self.spots.at(j, steps);

@@ -2,15 +2,15 @@
 //!
 //! The places of a part's points stand in a row, in an order of their own, each once: blocks of that row, cut at a coordinate and then
 //! at the other in turn, hold points that lie near one another. Eight of them are a leaf. Above the leaves stand nodes, each with the
-//! boxes of its four blocks: no live point of a block lies outside its box, and so none is nearer to a place than the box. A question walks the nearest
-//! block first, and leaves a block out whose box is farther than the worst of the points that it keeps.
+//! boxes of its four blocks: each is the least one of its block's live points, so none of these is nearer to a place than the box. A question
+//! walks the nearest block first, and leaves a block out whose box is farther than the worst of the points that it keeps.
 //!
 //! A part keeps its points by the flat structure, and these rows beside them. That the blocks are split well isn't proved: it
 //! shows in touches alone.
 //!
 //! A pass exchanges places: each step is one exchange in an order and its inverse, so each place stands once, which is all that answers
-//! rest on. A node has the boxes of four blocks, so one touch reads four. That a box is the least one isn't proved after marks; that it
-//! has every live point is.
+//! rest on. A node has the boxes of four blocks, so one touch reads four. A mark that finds a box as it was leaves those above it: they had the
+//! point in that box already.
 #![tactic(auto)]
 
 mod area;

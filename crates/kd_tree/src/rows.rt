@@ -7,7 +7,7 @@ use crate::leaves::Leaves;
 use crate::placing::Placing;
 use crate::sorting::Sorting;
 use builder_trait::flat::{FlatBuilder, FlatPart};
-use builder_trait::{Part, Rows, RowsBuilder, RowsPart};
+use builder_trait::{Rows, RowsBuilder, RowsPart};
 use map_shapes::Point;
 use query_laws::NoMemory;
 use query_laws::step_ledger::{Row, Steps};
@@ -122,11 +122,10 @@ impl Rows for KdRows {
         let len = points.len();
         let depth = depth_for(len);
         self.depth = depth;
-        self.sorting.begin(depth);
         self.filled = 0;
         self.level = 0;
         self.place = 0;
-        self.left = u64::from(depth) * len as u64 + nodes_in(depth) as u64;
+        self.left = self.sorting.begin(depth, len) + len as u64 + nodes_in(depth) as u64;
     }
 
     fn left(&self) -> u64 {
@@ -142,12 +141,12 @@ impl Rows for KdRows {
 
     fn mark<L: Ledger>(
         &mut self,
-        points: &FlatPart<Point>,
+        _points: &FlatPart<Point>,
         place: usize,
         _item: &Point,
         steps: &mut Steps<L>,
     ) {
-        self.kill(points.len(), place, steps);
+        self.kill(place, steps);
     }
 
     fn clear(&mut self, _points: &FlatPart<Point>) {

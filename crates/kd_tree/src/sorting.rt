@@ -72,15 +72,19 @@ impl Sorting {
         self.by_y.push(place as u32, steps);
     }
 
-    /// Begins the passes for a tree of so many levels, of which the lowest has leaves for its blocks and takes none.
-    pub(crate) fn begin(&mut self, depth: u32)
-        requires { 1 ≤ depth }
-        ensures { self.new ≡ record self.old { level = depth - 1; next = 0; counted = 0; by_first = self.new.by_first } }
+    /// Begins the passes over so many places for a tree of so many levels, of which the lowest has leaves for its blocks and takes none.
+    /// Gives how many turns they take.
+    pub(crate) fn begin(&mut self, depth: u32, len: usize) -> u64
+        requires some { 1 ≤ depth }
+        requires few { len ≤ 2 ^ 31 }
+        ensures begun { self.new ≡ record self.old { level = depth - 1; next = 0; counted = 0; by_first = self.new.by_first } }
+        ensures turns { result ≡ self.new.level * len }
     {
         self.level = depth - 1;
         self.next = 0;
         self.counted = 0;
         self.by_first = false;
+        u64::from(self.level) * len as u64
     }
 
     /// The place whose step is next: one touch at most.

@@ -11,6 +11,7 @@ use query_laws::NoMemory;
 use query_laws::step_ledger::{Row, Steps};
 use row_blocks::block_len;
 use std::alloc::Global;
+use std::mem::size_of;
 use std::sync::ledger::Ledger;
 
 /// Leaves, and the places above them. The place of a block of `2^h` leaves stands at the leaf in the block's middle, where its second half begins.
@@ -20,6 +21,11 @@ pub(crate) struct Heap {
     pub(crate) nodes: Row<Option<Entry>>,
     pub(crate) leaves: Row<Leaf>,
 }
+
+// A touch reads or writes one entry, of at most 64 bytes, or a leaf, of at most 256.
+const _: () = prove!(size_of::<Option<Entry>>() <= 64);
+
+const _: () = prove!(size_of::<Leaf>() <= 256);
 
 impl Heap {
     /// No leaves yet, and room for `cap` of them.

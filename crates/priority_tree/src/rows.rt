@@ -10,6 +10,7 @@ use query_laws::NoMemory;
 use query_laws::step_ledger::Steps;
 use row_blocks::height_of;
 use std::alloc::Global;
+use std::mem::size_of;
 use std::sync::ledger::Ledger;
 
 /// Points of which the highest of any strip can be found, and those listed that are high: a priority search tree (McCreight 1985), in
@@ -45,6 +46,9 @@ pub struct TopRows {
     pub(crate) hole: usize,
     pub(crate) left: u64,
 }
+
+// A touch of the points beside it reads or writes one of them, of at most 64 bytes.
+const _: () = prove!(size_of::<Point>() <= 64);
 
 impl Rows for TopRows {
     ghost use Rattle.std.specs.Prelude.{◌≡◌, ◌*◌, ◌+◌, refl};

@@ -1,5 +1,4 @@
 use Rattle.std.proofs.Common.{◌^◌, Bool, List, length, sym, ap, ◌∙◌, arith, subst}
-use Rattle.std.specs.Box.{with_value}
 use Rattle.query_laws.proofs.Counting.{Spends-then, Spends-within}
 use Rattle.weak_delete.specs.declared.place.Place.{Place}
 use Rattle.weak_delete.specs.Places.{LivePlaces, IsLive}
@@ -40,7 +39,7 @@ returns-clause-done g c =
     let value = c.deref_mut.ensures.value in
     let over : AreOver before c.deref_mut.result.now = subst (AreOver before) (sym value) behind.done.over in
     let room : HaveRoom (2 ^ part.at_level) c.deref_mut.result.now = subst (HaveRoom (2 ^ part.at_level)) (sym value) behind.done.room in
-    let new : StabRows = record { trees = with_value c.args.self.now.trees c.clear_at.new.self; left = c.args.self.now.left } in
+    let new : StabRows = record { trees = c.clear_at.new.self; left = c.args.self.now.left } in
     let kept : AreKept (died before c.args.place) new = record {
       small = behind.done.small;
       room = record {

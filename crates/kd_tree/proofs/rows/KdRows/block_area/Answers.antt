@@ -1,10 +1,11 @@
-use Rattle.std.proofs.Common.{◌≡◌, ℕ, ◌+◌, ◌-◌, ◌*◌, ◌^◌, ◌<◌, ◌≤◌, length, arith, sym, ap, ◌∙◌, subst, Some, slice_get}
+use Rattle.std.proofs.Common.{◌≡◌, ℕ, ◌+◌, ◌-◌, ◌*◌, ◌^◌, ◌<◌, ◌≤◌, true, length, arith, sym, ap, ◌∙◌, subst, Some, slice_get}
+use Rattle.std.proofs.lemmas.List.{length-replicate}
 use Rattle.kd_tree.specs.Heights.{span, index}
-use Rattle.kd_tree.specs.Blocks.{Holds, AreSpots}
+use Rattle.kd_tree.specs.Blocks.{AreSpots, IsLeastBox}
 use Rattle.kd_tree.specs.HeightLaws.{four_small}
-use Rattle.kd_tree.proofs.NodeLemmas.{node_within, node_is, Holds-whole}
+use Rattle.kd_tree.proofs.NodeLemmas.{node_within, node_is, IsLeastBox-whole}
 use Rattle.kd_tree.specs.GrowingLaws.{AreLive-all}
-use Rattle.kd_tree.proofs.Growths.{shallow, Holds-beyond}
+use Rattle.kd_tree.proofs.Growths.{shallow, IsLeastBox-beyond}
 use Rattle.kd_tree.proofs.rows.KdRows.block_area.Goals as goal
 
 few : (depth level place : ℕ) → depth ≤ 15 → place < 4 ^ (depth - level) → place < 2 ^ 30
@@ -38,34 +39,40 @@ overflow_mul-place g c =
     let there = c.requires.shaping in
     omega (arith, few c.args.self.now.depth c.args.level c.args.place (omega (arith, shallow there.0 c.args.self.now there.1)) c.requires.place)
 
-pub returns-then-level-gt0-clause-holds : goal.returns-then-level-gt0-clause-holds
-returns-then-level-gt0-clause-holds g c part shaping long =
+pub returns-then-level-gt0-clause-least : goal.returns-then-level-gt0-clause-least
+returns-then-level-gt0-clause-least g c part shaping =
     let rows = c.args.self.now in
     let some : 0 < c.args.level = c.if-level-gt0.true in
     let up : c.args.level - 1 + 1 ≡ c.args.level = omega (arith, some) in
     let at : slice_get rows.nodes.items (index rows.depth (c.args.level - 1) c.args.place) ≡ Some c.at-areas.result =
     ap (slice_get rows.nodes.items) (sym c.index.ensures) ∙ c.at-areas.ensures.read in
-    subst (λ l. Holds part rows.places.items c.whole.result (c.args.place * span l) ((c.args.place + 1) * span l)) up
-    (Holds-whole part rows.places.items (c.args.level - 1) c.args.place c.at-areas.result c.whole.result c.whole.ensures.four
+    subst (λ l. IsLeastBox part rows.places.items c.whole.result (c.args.place * span l) ((c.args.place + 1) * span l)) up
+    (IsLeastBox-whole part rows.places.items (c.args.level - 1) c.args.place c.at-areas.result c.whole.result
     (node_is part rows.places.items rows.depth rows.level rows.place (c.args.level - 1) c.args.place rows.nodes.items c.at-areas.result shaping.nodes
     (omega (arith, some, c.requires.within)) (below rows.depth c.args.level c.args.place some c.requires.place) (omega (arith, some, c.requires.level)) at)
-    c.whole.ensures.has)
+    c.whole.ensures.has c.whole.ensures.least)
 
-pub returns-then-place-len-clause-holds : goal.returns-then-place-len-clause-holds
-returns-then-place-len-clause-holds g c part shaping long =
+pub returns-then-place-len-clause-least : goal.returns-then-place-len-clause-least
+returns-then-place-len-clause-least g c part shaping =
     let rows = c.args.self.now in
-    let low : c.args.level ≡ 0 = omega (arith, c.if-level-gt0.false) in
-    let from : 8 * c.args.place ≡ c.args.place * span c.args.level = omega (arith, ap (λ l. c.args.place * span l) low) in
-    let to : 8 * c.args.place + 8 ≡ (c.args.place + 1) * span c.args.level = omega (arith, ap (λ l. (c.args.place + 1) * span l) low) in
-    subst (λ n. Holds part rows.places.items c.area.result n ((c.args.place + 1) * span c.args.level)) from
-    (subst (λ n. Holds part rows.places.items c.area.result (8 * c.args.place) n) to
-    (c.area.ensures.holds part rows.places.items (shaping.long ∙ long)
-    (subst (λ n. AreSpots part.items rows.places.items n rows.leaves.spots.items) c.requires.filled shaping.spots)
-    (AreLive-all part.flags (length part.items) rows.places.items rows.leaves.live.items shaping.flags shaping.live)))
+    let order = rows.places.items in
+    let low : 0 ≡ c.args.level = omega (arith, c.if-level-gt0.false) in
+    let long : c.len-len.result ≡ length part.items = c.len-len.ensures.value ∙ shaping.long in
+    let filled : rows.filled ≡ c.len-len.result = c.requires.filled ∙ sym c.len-len.ensures.value in
+    subst (λ l. IsLeastBox part order c.area.result (c.args.place * span l) ((c.args.place + 1) * span l)) low
+    (c.area.ensures.least part order
+    (record {
+      as_many = sym long;
+      flagged = ap length shaping.flags ∙ length-replicate (length part.items) true ∙ sym long;
+      long = sym c.len-len.ensures.value;
+      each_place = c.len-len.ensures.each_place;
+      spots = subst (λ n. AreSpots part.items order n rows.leaves.spots.items) filled shaping.spots;
+      live = AreLive-all part.flags (length part.items) order rows.leaves.live.items shaping.flags shaping.live;
+    }))
 
-pub returns-else-place-len-clause-holds : goal.returns-else-place-len-clause-holds
-returns-else-place-len-clause-holds g c part shaping long =
+pub returns-else-place-len-clause-least : goal.returns-else-place-len-clause-least
+returns-else-place-len-clause-least g c part shaping =
     let low : c.args.level ≡ 0 = omega (arith, c.if-level-gt0.false) in
-    let past : c.args.len ≤ 8 * c.args.place = c.if-place-len.false in
-    Holds-beyond part c.args.self.now.places.items c.nothing.result (c.args.place * span c.args.level) ((c.args.place + 1) * span c.args.level)
-    (omega (arith, ap (λ l. c.args.place * span l) low, shaping.long, long, past))
+    let past : c.len-len.result ≤ 8 * c.args.place = c.if-place-len.false in
+    IsLeastBox-beyond part c.args.self.now.places.items c.nothing.result (c.args.place * span c.args.level) ((c.args.place + 1) * span c.args.level)
+    (omega (arith, ap (λ l. c.args.place * span l) low, c.len-len.ensures.value, past)) c.nothing.ensures

@@ -49,31 +49,31 @@ overflow_add-self-then-self-nodes_over g c =
     omega (arith, shallow there.0 c.args.self.now there.1, (goes_on there.0 c.args.self.now there.1 c.requires.more).0)
 
 pub returns-then-self-nodes_over-clause-shaping : goal.returns-then-self-nodes_over-clause-shaping
-returns-then-self-nodes_over-clause-shaping g c part shaping long =
+returns-then-self-nodes_over-clause-shaping g c part shaping =
     let rows = c.args.self.now in
     let areas : List Area = c.block_area.result ∷ c.block_area-2.result ∷ c.block_area-3.result ∷ c.block_area-4.result ∷ [] in
     let node : IsNode part rows.places.items rows.level rows.place areas =
     IsNode-made part rows.places.items rows.level rows.place c.block_area.result c.block_area-2.result c.block_area-3.result c.block_area-4.result
-    (c.block_area.ensures.holds part shaping long) (c.block_area-2.ensures.holds part shaping long) (c.block_area-3.ensures.holds part shaping long)
-    (c.block_area-4.ensures.holds part shaping long) in
+    (c.block_area.ensures.least part shaping) (c.block_area-2.ensures.least part shaping) (c.block_area-3.ensures.least part shaping)
+    (c.block_area-4.ensures.least part shaping) in
     let more = c.requires.more in
     subst
     (λ (n : Entries (List Area)). IsShaping part (record rows { nodes = n; place = 0; level = rows.level + 1 })
     × (to_go part (record rows { nodes = n; place = 0; level = rows.level + 1 }) + 1 ≡ to_go part rows))
     (sym c.push.ensures.appended)
-    (IsShaping-level part rows areas shaping (c.requires.filled ∙ sym long) more node (omega (arith, c.if-self-nodes_over.true, c.nodes_over.ensures)))
+    (IsShaping-level part rows areas shaping (c.requires.filled ∙ shaping.long) more node (omega (arith, c.if-self-nodes_over.true, c.nodes_over.ensures)))
 
 pub returns-else-self-nodes_over-clause-shaping : goal.returns-else-self-nodes_over-clause-shaping
-returns-else-self-nodes_over-clause-shaping g c part shaping long =
+returns-else-self-nodes_over-clause-shaping g c part shaping =
     let rows = c.args.self.now in
     let areas : List Area = c.block_area.result ∷ c.block_area-2.result ∷ c.block_area-3.result ∷ c.block_area-4.result ∷ [] in
     let node : IsNode part rows.places.items rows.level rows.place areas =
     IsNode-made part rows.places.items rows.level rows.place c.block_area.result c.block_area-2.result c.block_area-3.result c.block_area-4.result
-    (c.block_area.ensures.holds part shaping long) (c.block_area-2.ensures.holds part shaping long) (c.block_area-3.ensures.holds part shaping long)
-    (c.block_area-4.ensures.holds part shaping long) in
+    (c.block_area.ensures.least part shaping) (c.block_area-2.ensures.least part shaping) (c.block_area-3.ensures.least part shaping)
+    (c.block_area-4.ensures.least part shaping) in
     let more = c.requires.more in
     subst
     (λ (n : Entries (List Area)). IsShaping part (record rows { nodes = n; place = rows.place + 1 })
     × (to_go part (record rows { nodes = n; place = rows.place + 1 }) + 1 ≡ to_go part rows))
     (sym c.push.ensures.appended)
-    (IsShaping-place part rows areas shaping (c.requires.filled ∙ sym long) more node (λ is. c.if-self-nodes_over.false (is ∙ sym c.nodes_over.ensures)))
+    (IsShaping-place part rows areas shaping (c.requires.filled ∙ shaping.long) more node (λ is. c.if-self-nodes_over.false (is ∙ sym c.nodes_over.ensures)))

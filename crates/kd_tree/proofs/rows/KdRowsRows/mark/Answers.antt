@@ -6,5 +6,5 @@ use Rattle.kd_tree.proofs.rows.KdRowsRows.mark.Goals as goal
 
 pub returns-clause-cost : goal.returns-clause-cost
 returns-clause-cost g c h few =
-    let before : Contents Point = record c.args.points.now { flags = c.requires.behind.flags } in
+    let before : Contents Point = record c.args._points.now { flags = c.requires.behind.flags } in
     Spends-weaker c.kill.ensures.cost (cheap before c.args.self.now c.requires.behind.done h few)

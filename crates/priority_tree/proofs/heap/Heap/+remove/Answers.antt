@@ -27,7 +27,7 @@ remove-requires g t c =
     let not_held = sym c.holds.ensures.value ∙ c.if-holds.false in
     let block = first_block c.args.self.now c.args.height low c.args.start k e at c.requires.block in
     let heap = first_heap c.args.self.now c.args.height low c.args.start k e at c.requires.heap in
-    let among = first_among c.args.self.now c.args.height low c.args.start k c.args.entry.now e at c.requires.heap c.requires.there c.requires.owned not_held c.if-entry-middle.true in
+    let among = first_among c.args.self.now c.args.height low c.args.start k c.args.entry.now e at c.requires.heap c.requires.there c.requires.owned not_held (omega (arith, c.if-entry-middle.true)) in
     let owned = first_owned c.args.self.now c.args.height low c.args.start k c.args.entry.now e at c.requires.heap c.requires.there c.requires.owned not_held in
     search rules
 
@@ -40,7 +40,7 @@ remove-requires-else-entry-middle g t c =
     let not_held = sym c.holds.ensures.value ∙ c.if-holds.false in
     let block = second_block c.args.self.now c.args.height low c.args.start k e at c.requires.block in
     let heap = second_heap c.args.self.now c.args.height low c.args.start k e at c.requires.heap in
-    let among = second_among c.args.self.now c.args.height low c.args.start k c.args.entry.now e at c.requires.heap c.requires.there c.requires.owned not_held c.if-entry-middle.false in
+    let among = second_among c.args.self.now c.args.height low c.args.start k c.args.entry.now e at c.requires.heap c.requires.there c.requires.owned not_held (omega (arith, c.if-entry-middle.false)) in
     let owned = second_owned c.args.self.now c.args.height low c.args.start k c.args.entry.now e at c.requires.heap c.requires.there c.requires.owned not_held in
     search rules
 
