@@ -1,36 +1,44 @@
-//! A merge of two flat parts of one item each.
-ghost use Rattle.std.specs.Prelude.{◌≡◌, ◌≢◌, ◌<◌, false, length};
-ghost use Rattle.builder_trait.specs.Parts.{IsPart};
+//! A merge of two flat parts of two items each, one of which dies after it was read, and one before.
+ghost use Rattle.std.specs.Prelude.{◌≡◌, ◌≢◌, IsTrue, false, length};
+ghost use Rattle.query_laws.specs.declared.item.Order.TheVariants.{First, Second};
 ghost use Rattle.ordered_merge.specs.Merging.{MergesInto};
 
-use crate::pairs::sealed;
-use builder_trait::{Builder, Part, Profiled, part_of_one};
+use crate::pairs::{rising_pair, sealed};
+use builder_trait::{Builder, Part, Profiled};
 use ordered_merge::Merge;
 use query_laws::step_ledger::Steps;
 use query_laws::{Item, NoMemory, Order};
 use std::alloc::Global;
 use std::sync::ledger::Ledger;
 
-/// Takes all turns of a merge: whether the first order had passed an item after the first of them, and whether all was done after the others.
+/// The turns left at the beginning, after two of them, and once the merge is cleared; which of the four items the first order had passed after two
+/// turns; whether all was done, and after how many turns; and the stamps of the part of both, in the first order and then in the second.
+#[derive(Drop)]
+pub struct MergeFindings {
+    pub left: [u64; 3],
+    pub passed: [bool; 4],
+    pub done: bool,
+    pub turns: u64,
+    pub stamps: Vec<u64>,
+}
+
+/// Takes all turns that are left, and says whether all is done.
 fn run<B: Builder, L: Ledger>(
     merge: &mut Merge<B>,
     a: &B::Part,
     b: &B::Part,
     builder: &mut B,
-    item: &B::Item,
     steps: &mut Steps<L>,
-) -> [bool; 2]
-    requires more { 0 < merge.old.left }
-    requires valid { (IsPart B.Item.before (B.Part.Part.contents a.now)) × (IsPart B.Item.before (B.Part.Part.contents b.now)) }
-    requires merges { MergesInto B.Part.Part.contents B.progress ⟦<B as Profiled>⟧.profile merge.old a.now b.now builder.old }
+) -> bool
+    requires { MergesInto B.Part.Part.contents B.progress ⟦<B as Profiled>⟧.profile merge.old a.now b.now builder.old }
     ensures open { (B.progress builder.new).is_sealed ≡ false }
     ensures complete { length (B.progress builder.new).reordered ≡ length (B.progress builder.new).items }
 {
+    // By their contracts both are parts.
+    let _lengths = (a.len(), b.len());
     let left = merge.left();
-    merge.turn(a, b, builder, steps);
-    let passed = merge.passed(item);
-    merge.turns(left - 1, a, b, builder, steps);
-    [passed, merge.done()]
+    merge.turns(left, a, b, builder, steps);
+    merge.done()
 }
 
 /// Adds the stamps of a part in an order.
@@ -46,28 +54,51 @@ fn add_stamps<P: Part, L: Ledger>(
     Ok(())
 }
 
-/// The parts of two items, merged: the turns left at the beginning, and once the merge is cleared; whether the first order had passed the
-/// first item after a turn, and whether all was done after the others; and the stamps of the part of both, in the first order and then in the
-/// second.
+/// The parts of the first and the third item, and of the second and the fourth, merged. After two turns the first item dies, and the fourth.
 pub fn merged<B: Builder, L: Ledger>(
     alloc: Global,
-    low: B::Item,
-    high: B::Item,
+    first: B::Item,
+    second: B::Item,
+    third: B::Item,
+    fourth: B::Item,
     steps: &mut Steps<L>,
-) -> Result<([u64; 2], [bool; 2], Vec<u64>), NoMemory>
-    requires { B.Item.stamp low ≢ B.Item.stamp high }
+) -> Result<MergeFindings, NoMemory>
+    requires rising_a { IsTrue (B.Item.before First first third) × IsTrue (B.Item.before Second first third) }
+    requires rising_b { IsTrue (B.Item.before First second fourth) × IsTrue (B.Item.before Second second fourth) }
+    requires apart_first { (B.Item.stamp first ≢ B.Item.stamp second) × (B.Item.stamp first ≢ B.Item.stamp fourth) }
+    requires apart_third { (B.Item.stamp third ≢ B.Item.stamp second) × (B.Item.stamp third ≢ B.Item.stamp fourth) }
+    requires within_a { B.Item.stamp first ≢ B.Item.stamp third }
+    requires within_b { B.Item.stamp second ≢ B.Item.stamp fourth }
 {
-    let a: B::Part = part_of_one(B::room(alloc, 0)?, low, steps);
-    let b: B::Part = part_of_one(B::room(alloc, 0)?, high, steps);
-    let mut merge = Merge::<B>::room(alloc, 1)?;
-    let mut builder = B::room(alloc, 1)?;
+    let mut a: B::Part = rising_pair::<B, L>(alloc, first, third, steps)?;
+    let mut b: B::Part = rising_pair::<B, L>(alloc, second, fourth, steps)?;
+    let mut merge = Merge::<B>::room(alloc, 2)?;
+    let mut builder = B::room(alloc, 2)?;
+    steps.start_lap();
     merge.begin(&a, &b);
+    let begun = merge.left();
+    merge.turns(2, &a, &b, &mut builder, steps);
     let left = merge.left();
-    let passed_and_done = run(&mut merge, &a, &b, &mut builder, &low, steps);
+    a.mark(&first, steps);
+    b.mark(&fourth, steps);
+    let passed = [
+        merge.passed(&first),
+        merge.passed(&second),
+        merge.passed(&third),
+        merge.passed(&fourth),
+    ];
+    let done = run(&mut merge, &a, &b, &mut builder, steps);
+    let turns = steps.lap_turns();
     merge.clear();
     let (_turns, part) = sealed(builder, steps);
     let mut stamps = Vec::new(alloc);
     add_stamps(&mut stamps, Order::First, &part, steps)?;
     add_stamps(&mut stamps, Order::Second, &part, steps)?;
-    Ok(([left, merge.left()], passed_and_done, stamps))
+    Ok(MergeFindings {
+        left: [begun, left, merge.left()],
+        passed,
+        done,
+        turns,
+        stamps,
+    })
 }

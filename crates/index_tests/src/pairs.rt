@@ -90,21 +90,21 @@ pub fn rising_pair<B: Builder, L: Ledger>(
     Ok(sealed(builder, steps).1)
 }
 
-/// A part of two items, the first of which is marked: the turns left after the seal, all turns and marks, whether it was live, how many items are
-/// live, and how many a part of the second has, on the same memory.
+/// A part of two items, the first of which is marked twice: the turns left after the seal, all turns and marks, whether it was live at each mark, how
+/// many items are live, and how many a part of the second has, on the same memory.
 pub fn marked<B: Builder, L: Ledger>(
     alloc: Global,
     low: B::Item,
     high: B::Item,
     steps: &mut Steps<L>,
-) -> Result<([u64; 3], bool, [usize; 2]), NoMemory>
+) -> Result<([u64; 3], [bool; 2], [usize; 2]), NoMemory>
     requires rising { IsTrue (B.Item.before First low high) }
     requires rising_reordered { IsTrue (B.Item.before Second low high) }
     requires apart { B.Item.stamp low ≢ B.Item.stamp high }
 {
     steps.start_lap();
     let (left, mut part) = pair::<B, L>(alloc, low, high, steps)?;
-    let was_live = part.mark(&low, steps);
+    let was_live = [part.mark(&low, steps), part.mark(&low, steps)];
     let counted = [left, steps.lap_turns(), steps.lap_marks()];
     let live = part.live();
     let single = part_of_one(B::recycle(part), high, steps).len();

@@ -6,7 +6,7 @@ ghost use Rattle.std.specs.Prelude.{◌≡◌};
 
 use crate::constructions::built;
 use crate::item::Pair;
-use crate::merges::merged;
+use crate::merges::{MergeFindings, merged};
 use crate::pairs::marked;
 use crate::stacks::{deleted, prepared_thrice, retired, traced};
 use crate::sums::SumOfX;
@@ -21,8 +21,8 @@ use std::test::Fail;
 
 #[derive(Drop)]
 struct Findings {
-    marked: ([u64; 3], bool, [usize; 2]),
-    merged: ([u64; 2], [bool; 2], Vec<u64>),
+    marked: ([u64; 3], [bool; 2], [usize; 2]),
+    merged: MergeFindings,
     built: ([u64; 4], [usize; 4], [u64; 5]),
     traced: (Vec<(u32, u64)>, u64, u32, u128),
     deleted: (u64, u64, u32, u32, u32),
@@ -47,7 +47,7 @@ where
     let fourth = Pair::new(4, 4, 3);
     Ok(Findings {
         marked: marked::<B, L>(alloc, first, third, &mut steps)?,
-        merged: merged::<B, L>(alloc, Pair::new(1, 4, 7), Pair::new(2, 3, 9), &mut steps)?,
+        merged: merged::<B, L>(alloc, first, second, third, fourth, &mut steps)?,
         built: built::<B, L>(alloc, first, second, third, fourth, &mut steps)?,
         traced: traced::<B, L>(alloc, &mut steps)?,
         deleted: deleted::<B, L>(alloc, &mut steps)?,
@@ -59,9 +59,17 @@ where
 #[test]
 fn rows_are_as_worked(rt: HostRuntime) -> Result<(), Fail> {
     let seen = seen::<FlatBuilder<Pair>, Brand>(rt.alloc(), blank())?;
-    assert_eq!(rt; seen.marked, ([2, 6, 1], true, [1, 1]));
-    assert_eq!(rt; (seen.merged.0, seen.merged.1), ([4, 0], [true, true]));
-    assert_eq!(rt; seen.merged.2.as_slice(), [7, 9, 9, 7].as_slice());
+    assert_eq!(rt; seen.marked, ([2, 6, 2], [true, false], [1, 1]));
+    let MergeFindings {
+        left,
+        passed,
+        done,
+        turns,
+        ref stamps,
+    } = seen.merged;
+    assert_eq!(rt; (left, done, turns), ([8, 6, 0], true, 8));
+    assert_eq!(rt; passed, [true, true, false, false]);
+    assert_eq!(rt; stamps.as_slice(), [0, 2, 1, 0, 2, 1].as_slice());
     assert_eq!(rt;
         seen.built,
         ([12, 6, 6, 0], [0, 0, 1, 0], [4, 3, 12, 2, 12])

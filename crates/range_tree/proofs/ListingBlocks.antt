@@ -81,6 +81,10 @@ pub cost_listed : (first second all each one two n : ℕ) → 2 + first + second
     → 2 + (first + one * each) + (second + two * each) ≤ all + n * each
 cost_listed first second all each one two n bound is = omega (arith, bound, ap (λ k. k * each) is)
 
+-- what one costs that is taken whole
+pub cost_listed_whole : (one all listed : ℕ) → 2 + (one + 0) ≤ all → 2 + (one + listed) ≤ all + listed
+cost_listed_whole one all listed bound = omega (arith, bound)
+
 -- a part of a sum
 pub less_one : (a b c : ℕ) → a + b ≤ c → a ≤ c
 less_one a b c le = omega arith

@@ -129,28 +129,36 @@ measure-small part rows low high places span measure few =
       counted_by-few part (measure_of measure) (is_at places) (2 ^ 31) (measure-few measure) (is_in_block (λ p. p) (rows.height - span.row) span.start) (slice_range part.places low high),
     )
 
--- the cost of a block that is cut
-pub cost_cut : (height below ends first second : ℕ) → 1 ≤ ends → first + second ≤ ends
-    → 2 + blocks_touches height below first + blocks_touches height below second ≤ blocks_touches height (below + 1) ends
-cost_cut height below ends first second some fewer =
-    let m = 2 * height + 132 in
-    omega (arith, mul-le (first + second) (below * m) ends (below * m) fewer (omega arith), mul-le 1 m ends m some (omega arith))
+-- the cost of a block that is taken whole
+pub cost_whole : (more height row ends : ℕ) → row < rows_to height → 2 + (2 * (height - row) + more) ≤ blocks_touches more (rows_to height - row) ends
+cost_whole more height row ends low = whole (height - row) (rows_to height - row) (omega (arith, low))
+  where
+    whole : (high below : ℕ) → high ≡ below + 8 → 2 + (2 * high + more) ≤ blocks_touches more below ends
+    whole high below is = omega (arith, is)
+
+-- of one that is cut
+pub cost_cut : (more below ends first second : ℕ) → 1 ≤ ends → first + second ≤ ends
+    → 2 + blocks_touches more below first + blocks_touches more below second ≤ blocks_touches more (below + 1) ends
+cost_cut more below ends first second some fewer =
+    let m = below * (below + 17 + more) in
+    let rest = 2 * below + 18 + more in
+    omega (arith, mul-le (first + second) m ends m fewer (omega arith), mul-le 1 rest ends rest some (omega arith))
 
 -- and of its halves
-pub cost_halves : (part : Contents Point) (rows : RangeTree) (low high : ℕ) (places : Places) (span first second : Span) → AreHalves part rows low high span first second
+pub cost_halves : (more : ℕ) (part : Contents Point) (rows : RangeTree) (low high : ℕ) (places : Places) (span first second : Span) → AreHalves part rows low high span first second
     → span.row + 1 < rows_to rows.height → 1 ≤ ends_inside rows.height places span
-    → 2 + blocks_touches rows.height (rows_to rows.height - first.row) (ends_inside rows.height places first)
-    + blocks_touches rows.height (rows_to rows.height - second.row) (ends_inside rows.height places second)
-    ≤ blocks_touches rows.height (rows_to rows.height - span.row) (ends_inside rows.height places span)
-cost_halves part rows low high places span first second halves below some =
+    → 2 + blocks_touches more (rows_to rows.height - first.row) (ends_inside rows.height places first)
+    + blocks_touches more (rows_to rows.height - second.row) (ends_inside rows.height places second)
+    ≤ blocks_touches more (rows_to rows.height - span.row) (ends_inside rows.height places span)
+cost_halves more part rows low high places span first second halves below some =
     let h : ℕ = rows.height in
     let b : ℕ = rows_to h - (span.row + 1) in
     let one : ℕ = ends_inside h places first in
     let two : ℕ = ends_inside h places second in
     let all : ℕ = ends_inside h places span in
-    let more : b + 1 ≡ rows_to h - span.row = omega (arith, below) in
-    let cost : 2 + blocks_touches h b one + blocks_touches h b two ≤ blocks_touches h (rows_to h - span.row) all =
-    subst (λ x. 2 + blocks_touches h b one + blocks_touches h b two ≤ blocks_touches h x all) more
-    (cost_cut h b all one two some (ends_halves part rows low high places span first second halves below)) in
-    subst (λ r. 2 + blocks_touches h (rows_to h - r) one + blocks_touches h (rows_to h - second.row) two ≤ blocks_touches h (rows_to h - span.row) all) (sym halves.first_row)
-    (subst (λ r. 2 + blocks_touches h b one + blocks_touches h (rows_to h - r) two ≤ blocks_touches h (rows_to h - span.row) all) (sym halves.second_row) cost)
+    let next : b + 1 ≡ rows_to h - span.row = omega (arith, below) in
+    let cost : 2 + blocks_touches more b one + blocks_touches more b two ≤ blocks_touches more (rows_to h - span.row) all =
+    subst (λ x. 2 + blocks_touches more b one + blocks_touches more b two ≤ blocks_touches more x all) next
+    (cost_cut more b all one two some (ends_halves part rows low high places span first second halves below)) in
+    subst (λ r. 2 + blocks_touches more (rows_to h - r) one + blocks_touches more (rows_to h - second.row) two ≤ blocks_touches more (rows_to h - span.row) all) (sym halves.first_row)
+    (subst (λ r. 2 + blocks_touches more b one + blocks_touches more (rows_to h - r) two ≤ blocks_touches more (rows_to h - span.row) all) (sym halves.second_row) cost)

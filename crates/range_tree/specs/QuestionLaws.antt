@@ -17,7 +17,9 @@ use Rattle.map_shapes.specs.Ascending.{insert_sorted, sorted_ids}
 use Rattle.map_shapes.specs.AscendingLaws.{sorted_ids-sorted_by}
 use Rattle.map_shapes.specs.Questions.{is_in, count_in, weight_in, ids_in}
 use Rattle.map_shapes.specs.Rect.{rect_of}
-use Rattle.range_tree.specs.Costs.{count_touches, list_touches, mark_touches-rise}
+use Rattle.range_tree.specs.declared.measure.Measure.{Measure}
+use Rattle.range_tree.specs.declared.measure.Measure.TheVariants.{Count, Weight}
+use Rattle.range_tree.specs.Costs.{touches_to_measure, measure_touches, list_touches, mark_touches-rise}
 
 abbrev items_of : List Point → List Item
 items_of points = map item_of points
@@ -64,9 +66,14 @@ few_items g p small few = let low : g ≤ 63 = omega (arith, small) in let most 
 rows : (g : ℕ) (p : Contents Point) → g < 64 → length p.items ≤ 2 ^ g → height_of (length p.items) ≤ g
 rows g p small few = (IsLeastHeight-height_of (length p.items) (few_items g p small few)).least g few
 
-pub count-touches : (hits : Point → Bool) (g : ℕ) (p : Contents Point) → g < 64 → length p.items ≤ 2 ^ g
-    → count_touches p.items ≤ touches_at g + 8 * (g + 2) * length (filter hits (live_of p)) + 0 * length p.items
-count-touches hits g p small few = omega (arith, mark_touches-rise (height_of (length p.items)) g (rows g p small few))
+measured : (measure : Measure) (g : ℕ) → touches_to_measure measure g ≤ touches_at g
+measured Count g = omega arith
+measured Weight g = omega arith
+
+pub measure-touches : (measure : Measure) (hits : Point → Bool) (g : ℕ) (p : Contents Point) → g < 64 → length p.items ≤ 2 ^ g
+    → measure_touches measure p.items ≤ touches_at g + 8 * (g + 2) * length (filter hits (live_of p)) + 0 * length p.items
+measure-touches measure hits g p small few =
+    let h = height_of (length p.items) in omega (arith, measured measure h, mark_touches-rise h g (rows g p small few))
 
 scaled : (h g n : ℕ) → h ≤ g → 8 * (h + 2) * n ≤ 8 * (g + 2) * n
 scaled h g n low = grind (arith, low)

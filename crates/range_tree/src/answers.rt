@@ -5,8 +5,8 @@ ghost use Rattle.query_laws.specs.Sums.{capped_add};
 ghost use Rattle.builder_trait.specs.Parts.{IsPart, live_of};
 ghost use Rattle.map_shapes.specs.Ascending.{sorted_ids, sorted_union};
 ghost use Rattle.map_shapes.specs.Questions.{ids_in};
-ghost use Rattle.range_tree.specs.Costs.{count_touches, list_touches};
-ghost use Rattle.range_tree.specs.Measures.{measure_in};
+ghost use Rattle.range_tree.specs.Costs.{measure_touches, list_touches};
+ghost use Rattle.range_tree.specs.Measures.{measure_in, most_scanned};
 ghost use Rattle.range_tree.specs.Tree.{IsTree, before};
 
 use crate::measure::Measure;
@@ -20,7 +20,7 @@ use std::sync::ledger::Ledger;
 
 /// The most places that are scanned for a number rather than counted by rows.
 fn most_scanned(measure: Measure) -> usize
-    ensures { result ≤ 2048 }
+    ensures { result ≡ most_scanned measure }
 {
     match measure {
         Measure::Count => 1024,
@@ -53,7 +53,7 @@ impl RangeTree {
         requires valid { IsPart before points.now }
         requires over { IsTree points.now self.now }
         ensures added { tally.new ≡ capped_add tally.old (measure_in measure rect.now (live_of points.now)) }
-        ensures cost { Spends steps.old steps.new 0 0 (count_touches points.now.items) }
+        ensures cost { Spends steps.old steps.new 0 0 (measure_touches measure points.now.items) }
     {
         let places = self.places_in(points, rect, steps);
         let whole = places.whole_blocks(LOWEST);

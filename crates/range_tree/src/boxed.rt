@@ -14,9 +14,10 @@ use std::sync::ledger::Ledger;
 /// Points of which any rectangle can be counted, weighed and listed, and which are marked as dead (weak deletion, Overmars 1983). Only a
 /// [`RangeBuilder`] makes one.
 ///
-/// Let h be the least number such that there are at most `2^h` points. A [`CountIn`](map_shapes::CountIn) and a
-/// [`SumIn`](map_shapes::SumIn) touch at most `16 * (h + 2)^2` entries, a [`ListIn`](map_shapes::ListIn) at most `8 * (h + 2)` more
-/// for each point that it lists, and a mark at most `16 * (h + 2)^2`. Nothing takes memory but the tally of a `ListIn`.
+/// Let h be the least number such that there are at most `2^h` points. A [`CountIn`](map_shapes::CountIn) touches at most
+/// `2 * (h + 2)^2` entries, from `2^13` points on fewer than the leaves are, a [`SumIn`](map_shapes::SumIn) at most `16 * (h + 2)^2`, a
+/// [`ListIn`](map_shapes::ListIn) at most `4 * (h + 2)^2` and `8 * (h + 2)` for each point that it lists, and a mark at most
+/// `16 * (h + 2)^2`. Nothing takes memory but the tally of a `ListIn`.
 pub type RangePart = RowsPart<RangeRows>;
 
 /// A [`RangePart`] under construction: a turn carries one point of one row into its half of its block, h - 8 turns for each of `2^h`
@@ -130,9 +131,10 @@ impl Rows for RangeRows {
 }
 
 impl AnsweringRows<CountIn> for RangeRows {
-    ghost use Rattle.range_tree.specs.Costs.{count_touches};
+    ghost use Rattle.range_tree.specs.declared.measure.Measure.TheVariants.{Count};
+    ghost use Rattle.range_tree.specs.Costs.{measure_touches};
 
-    ghost ask_touches = { λ q part. count_touches part.items };
+    ghost ask_touches = { λ q part. measure_touches Count part.items };
 
     fn ask<L: Ledger>(
         &self,
@@ -148,9 +150,10 @@ impl AnsweringRows<CountIn> for RangeRows {
 }
 
 impl AnsweringRows<SumIn> for RangeRows {
-    ghost use Rattle.range_tree.specs.Costs.{count_touches};
+    ghost use Rattle.range_tree.specs.declared.measure.Measure.TheVariants.{Weight};
+    ghost use Rattle.range_tree.specs.Costs.{measure_touches};
 
-    ghost ask_touches = { λ q part. count_touches part.items };
+    ghost ask_touches = { λ q part. measure_touches Weight part.items };
 
     fn ask<L: Ledger>(
         &self,

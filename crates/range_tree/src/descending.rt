@@ -2,7 +2,7 @@
 ghost use Rattle.std.specs.Prelude.{◌≡◌, ◌+◌, ◌-◌, ◌*◌, ◌^◌, ◌<◌, ◌≤◌, ℕ, length, sum_by};
 ghost use Rattle.query_laws.specs.StepLedger.{Spends};
 ghost use Rattle.builder_trait.specs.Parts.{IsPart};
-ghost use Rattle.range_tree.specs.Measures.{measure_of};
+ghost use Rattle.range_tree.specs.Measures.{measure_of, word_touches};
 ghost use Rattle.range_tree.specs.Heights.{rows_to};
 ghost use Rattle.range_tree.specs.Tree.{IsTree, before};
 ghost use Rattle.range_tree.specs.declared.scanning.Places.{Places};
@@ -149,7 +149,7 @@ impl RangeTree {
         requires some { span.start < length points.now.items }
         ensures sum { (low high : ℕ) (places : Places) → IsSpan points.now self.now low high span → IsCut points.now self.now low high places span Whole
             → result ≡ sum_by (measure_of measure) (live_in_span points.now self.now low high places span) }
-        ensures cost { Spends steps.old steps.new 0 0 (2 * (self.now.height - span.row + 64)) }
+        ensures cost { Spends steps.old steps.new 0 0 (2 * (self.now.height - span.row) + word_touches measure) }
     {
         let Span {
             row,
@@ -184,7 +184,7 @@ impl RangeTree {
         ensures sum { (low high : ℕ) → IsSpan points.now self.now low high span
             → result ≡ sum_by (measure_of measure) (live_in_span points.now self.now low high places span) }
         ensures cost { Spends steps.old steps.new 0 0
-            (blocks_touches self.now.height (rows_to self.now.height - span.row) (ends_inside self.now.height places span)) }
+            (blocks_touches (word_touches measure) (rows_to self.now.height - span.row) (ends_inside self.now.height places span)) }
     {
         match self.cut(points, span, places, steps) {
             Cut::Outside => 0,

@@ -96,7 +96,7 @@ impl RangeTree {
             → tally.new ≡ tally.old ++ map (λ p. p.id) (live_in_span points.now self.now low high places span)) }
         ensures cost { (low high : ℕ) (places : Places) → IsSpan points.now self.now low high span → IsCut points.now self.now low high places span Whole
             → Spends steps.old steps.new 0 0
-            (2 * self.now.height + length (live_in_span points.now self.now low high places span) * list_touches_each self.now.height) }
+            (2 * (self.now.height - span.row) + length (live_in_span points.now self.now low high places span) * list_touches_each self.now.height) }
     {
         let Span {
             row,
@@ -135,7 +135,7 @@ impl RangeTree {
             → Permuted tally.new (tally.old ++ map (λ p. p.id) (live_in_span points.now self.now low high places span))) }
         ensures cost { (low high : ℕ) → IsSpan points.now self.now low high span
             → Spends steps.old steps.new 0 0
-            (blocks_touches self.now.height (rows_to self.now.height - span.row) (ends_inside self.now.height places span)
+            (blocks_touches 0 (rows_to self.now.height - span.row) (ends_inside self.now.height places span)
             + length (live_in_span points.now self.now low high places span) * list_touches_each self.now.height) }
     {
         match self.cut(points, span, places, steps) {

@@ -3,8 +3,9 @@ ghost use Rattle.std.specs.Prelude.{false, length};
 ghost use Rattle.std.proofs.Common.{refl, ap, arith};
 ghost use Rattle.map_model.specs.Answer as answers;
 ghost use Rattle.map_shapes.specs.Questions.{is_in};
+ghost use Rattle.range_tree.specs.declared.measure.Measure.TheVariants.{Count, Weight};
 ghost use Rattle.range_tree.specs.Costs.{question_touches, question_touches-few};
-ghost use Rattle.range_tree.specs.QuestionLaws.{count_in-scan, weight_in-scan, ids_in-scan, count-touches, list-touches, most_touches, counting, listing};
+ghost use Rattle.range_tree.specs.QuestionLaws.{count_in-scan, weight_in-scan, ids_in-scan, measure-touches, list-touches, most_touches, counting, listing};
 
 use crate::boxed::RangeRows;
 use map_shapes::{CountIn, ListIn, SumIn};
@@ -29,7 +30,7 @@ impl MapQuestion<RangeRows> for CountIn {
 
     ghost scans = { λ q xs few. ap answers.Counted (count_in-scan q.0 xs few) };
 
-    ghost part_touches = { λ q g p small few. count-touches (λ p. false) g p small few };
+    ghost part_touches = { λ q g p small few. measure-touches Count (λ p. false) g p small few };
 
     ghost all_touches = { λ q g parts xs. counting g parts xs };
 
@@ -49,7 +50,7 @@ impl MapQuestion<RangeRows> for SumIn {
 
     ghost scans = { λ q xs few. ap answers.Summed (weight_in-scan q.0 xs few) };
 
-    ghost part_touches = { λ q g p small few. count-touches (λ p. false) g p small few };
+    ghost part_touches = { λ q g p small few. measure-touches Weight (λ p. false) g p small few };
 
     ghost all_touches = { λ q g parts xs. counting g parts xs };
 

@@ -13,6 +13,7 @@ use query_laws::step_ledger::{Row, Steps};
 use rank_rows::RankRows;
 use row_blocks::height_of;
 use std::alloc::Global;
+use std::mem::size_of;
 use std::sync::ledger::Ledger;
 
 /// The lowest blocks that have a row have `2^9` places.
@@ -34,6 +35,15 @@ pub(crate) struct RangeTree {
     pub(crate) at: usize,
     pub(crate) left: u64,
 }
+
+// A touch reads or writes one entry, of at most 64 bytes.
+const _: () = prove!(size_of::<Point>() <= 64);
+
+const _: () = prove!(size_of::<Leaf>() <= 64);
+
+const _: () = prove!(size_of::<Entry>() <= 64);
+
+const _: () = prove!(size_of::<Carried>() <= 64);
 
 /// How many rows a tree of a height has.
 pub(crate) fn rows_for(height: u32) -> u32

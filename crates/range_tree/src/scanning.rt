@@ -4,7 +4,7 @@ ghost use Rattle.query_laws.specs.StepLedger.{Spends};
 ghost use Rattle.builder_trait.specs.Parts.{IsPart};
 ghost use Rattle.range_tree.specs.Heights.{lowest};
 ghost use Rattle.range_tree.specs.LeafHits.{AreHits, points_at};
-ghost use Rattle.range_tree.specs.Measures.{measure_of};
+ghost use Rattle.range_tree.specs.Measures.{leaf_touches, measure_of};
 ghost use Rattle.range_tree.specs.Tree.{IsTree, before};
 ghost use Rattle.range_tree.specs.declared.scanning.Places.{Places};
 ghost use Rattle.row_blocks.specs.Blocks.{IsMultiple};
@@ -167,7 +167,7 @@ fn measure_leaf<L: Ledger>(
     requires leaf { IsLeafOf points.now rect.now places leaf.now }
     ensures sum { result ≡ sum_by (measure_of measure) (live_in_places points.now rect.now places) }
     ensures small { result ≤ (places.to - places.from) * 2 ^ 31 }
-    ensures cost { Spends steps.old steps.new 0 0 (places.to - places.from) }
+    ensures cost { Spends steps.old steps.new 0 0 (leaf_touches measure (places.to - places.from)) }
 {
     match measure {
         Measure::Count => {
@@ -237,7 +237,7 @@ impl RangeTree {
         requires ordered { places.from ≤ places.to }
         requires inside { (all : Places) × AreWithinX points.now all rect.now × (all.from ≤ places.from) × (places.to ≤ all.to) }
         ensures sum { result ≡ sum_by (measure_of measure) (live_in_places points.now rect.now places) }
-        ensures cost { Spends steps.old steps.new 0 0 ((places.to - places.from) / 16 + 2 + (places.to - places.from)) }
+        ensures cost { Spends steps.old steps.new 0 0 ((places.to - places.from) / 16 + 2 + leaf_touches measure (places.to - places.from)) }
     {
         let mut sum = 0u64;
         for l in places.from / LEAF_LEN..places.to.div_ceil(LEAF_LEN) {

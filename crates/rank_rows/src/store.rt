@@ -8,6 +8,7 @@ ghost use Rattle.rank_rows.specs.Putting.{IsClearFrom, IsWordPut, IsPut, IsKille
 
 use crate::word::{NOTHING, WIDTH, Word, with_bit};
 use query_laws::step_ledger::{Row, Steps};
+use std::mem::size_of;
 use std::sync::ledger::Ledger;
 
 /// Places, sixty-four a word, with the weight of each.
@@ -16,6 +17,9 @@ pub(crate) struct Store {
     pub(crate) words: Row<Word>,
     pub(crate) weights: Row<u32>,
 }
+
+// A touch reads or writes one entry, of at most 64 bytes.
+const _: () = prove!(size_of::<Word>() <= 64);
 
 impl Store {
     /// Begins a word with the place `n`, which is its first.

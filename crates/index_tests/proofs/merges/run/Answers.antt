@@ -7,7 +7,7 @@ returns-clause-open g c = c.turns.ensures.merges.unsealed
 pub returns-clause-complete : goal.returns-clause-complete
 returns-clause-complete g c =
     let contents = g.B.Part.Part.contents in
-    let ended : c.turns.new.self.left ≡ 0 = omega (arith, c.turns.ensures.read.left, c.turn.ensures.read.left, c.left-left.ensures, c.requires.more) in
+    let ended : c.turns.new.self.left ≡ 0 = omega (arith, c.turns.ensures.read.left, c.left-left.ensures) in
     let whole = c.done.ensures.whole (contents c.args.a.now) (contents c.args.b.now) (g.B.Builder.progress c.turns.new.builder) (c.done.ensures.value.1 ended)
-    c.requires.valid.0 c.requires.valid.1 c.turns.ensures.merges in
+    c.len.ensures.valid c.len-2.ensures.valid c.turns.ensures.merges in
     whole.as_many

@@ -1,9 +1,10 @@
-use Rattle.std.proofs.Common.{◌≡◌, ◌+◌, ◌-◌, ◌%◌, List, length, slice_range, arith, refl, subst, sym, ◌∙◌, rules}
+use Rattle.std.proofs.Common.{◌≡◌, ◌+◌, ◌-◌, ◌%◌, ◌≤◌, List, length, slice_range, arith, refl, subst, sym, ◌∙◌, rules}
 use Rattle.std.specs.List.{sum_by}
 use Rattle.std.proofs.lemmas.List.Sums.{length-filter, count_by-le-length}
+use Rattle.query_laws.proofs.Counting.{Spends-nothing, Spends-within}
 use Rattle.row_blocks.proofs.Lists.{length-slice_range}
 use Rattle.map_shapes.specs.declared.point.Point.{Point}
-use Rattle.range_tree.specs.Measures.{measure_of}
+use Rattle.range_tree.specs.Measures.{leaf_touches, measure_of}
 use Rattle.range_tree.specs.Queries.{live_in_places, has_y}
 use Rattle.range_tree.proofs.Hits.{leaf_hits}
 use Rattle.range_tree.proofs.SpanSums.{sum_by-one}
@@ -30,3 +31,11 @@ returns-in-Count-clause-small g c =
       count_by-le-length (has_y c.args.rect.now) slice,
       length-slice_range c.args.leaf.now.ys first end (omega (arith, c.requires.leaf.own)) (omega (arith, whole, c.requires.leaf.own)),
     )
+
+pub returns-in-Count-clause-cost : goal.returns-in-Count-clause-cost
+returns-in-Count-clause-cost g c = Spends-within (Spends-nothing c.args.steps.now) refl refl (omega arith)
+
+pub returns-in-Weight-clause-cost : goal.returns-in-Weight-clause-cost
+returns-in-Weight-clause-cost g c =
+    let n = c.args.places.to - c.args.places.from in
+    Spends-within c.weigh_leaf.ensures.cost refl refl (subst (λ m. n ≤ leaf_touches m n) (sym c.in-Weight.is) (omega arith))

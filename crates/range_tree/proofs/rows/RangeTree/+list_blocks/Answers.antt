@@ -5,9 +5,9 @@ use Rattle.query_laws.proofs.Counting.{Spends-then, Spends-within}
 use Rattle.query_laws.proofs.Permutations.{Permuted-refl}
 use Rattle.map_shapes.specs.declared.point.Point.{Point}
 use Rattle.range_tree.specs.Costs.{list_touches_each}
-use Rattle.range_tree.specs.Queries.{live_in_span}
-use Rattle.range_tree.proofs.SpanMeasures.{cost_halves}
-use Rattle.range_tree.proofs.ListingBlocks.{list_halves, length_halves, pushed_halves, cost_listed, less_one}
+use Rattle.range_tree.specs.Queries.{ends_inside, live_in_span}
+use Rattle.range_tree.proofs.SpanMeasures.{cost_halves, cost_whole}
+use Rattle.range_tree.proofs.ListingBlocks.{list_halves, length_halves, pushed_halves, cost_listed, cost_listed_whole, less_one}
 use Rattle.range_tree.proofs.rows.RangeTree.+list_blocks.Goals as goal
 
 pub returns-in-Outside-clause-listed : goal.returns-in-Outside-clause-listed
@@ -25,7 +25,9 @@ returns-in-Whole-clause-listed g t c =
 
 pub returns-in-Whole-clause-cost : goal.returns-in-Whole-clause-cost
 returns-in-Whole-clause-cost g t c low high is =
-    Spends-within (Spends-then c.cut.ensures.cost (c.list_span.ensures.cost low high c.args.places is (c.in-Whole.ensures.cut low high is))) refl refl (omega arith)
+    let h = c.args.self.now.height in
+    Spends-within (Spends-then c.cut.ensures.cost (c.list_span.ensures.cost low high c.args.places is (c.in-Whole.ensures.cut low high is))) refl refl
+    (cost_listed_whole _ _ _ (cost_whole 0 h c.args.span.row (ends_inside h c.args.places c.args.span) is.row))
 
 pub returns-in_err-list_blocks-in-Halves-clause-cost : goal.returns-in_err-list_blocks-in-Halves-clause-cost
 returns-in_err-list_blocks-in-Halves-clause-cost g t c low high is =
@@ -35,7 +37,7 @@ returns-in_err-list_blocks-in-Halves-clause-cost g t c low high is =
     Spends-within (Spends-then c.cut.ensures.cost (c.list_blocks.ensures.cost low high cut.1.first_span)) refl refl
     (less_one _ _ _
     (cost_listed _ _ _ (list_touches_each rows.height) _ _ _
-    (cost_halves part rows low high c.args.places c.args.span c.in-Halves.first c.in-Halves.second cut.1 cut.0 cut.2)
+    (cost_halves 0 part rows low high c.args.places c.args.span c.in-Halves.first c.in-Halves.second cut.1 cut.0 cut.2)
     (length_halves part rows low high c.args.places c.args.span c.in-Halves.first c.in-Halves.second cut.1 cut.0)))
 
 pub returns-in_ok-list_blocks-in-Halves-clause-listed : goal.returns-in_ok-list_blocks-in-Halves-clause-listed
@@ -59,5 +61,5 @@ returns-in_ok-list_blocks-in-Halves-clause-cost g t c low high is =
     Spends-within
     (Spends-then (Spends-then c.cut.ensures.cost (c.list_blocks.ensures.cost low high cut.1.first_span)) (c.list_blocks-in-Halves.ensures.cost low high cut.1.second_span)) refl refl
     (cost_listed _ _ _ (list_touches_each rows.height) _ _ _
-    (cost_halves part rows low high c.args.places c.args.span c.in-Halves.first c.in-Halves.second cut.1 cut.0 cut.2)
+    (cost_halves 0 part rows low high c.args.places c.args.span c.in-Halves.first c.in-Halves.second cut.1 cut.0 cut.2)
     (length_halves part rows low high c.args.places c.args.span c.in-Halves.first c.in-Halves.second cut.1 cut.0))

@@ -3,15 +3,15 @@ use Rattle.std.specs.List.{sum_by}
 use Rattle.std.proofs.lemmas.Bool.{cases_eq}
 use Rattle.query_laws.proofs.Counting.{Spends-then, Spends-within}
 use Rattle.builder_trait.specs.Parts.{live_of}
-use Rattle.range_tree.specs.Costs.{blocks_touches}
+use Rattle.range_tree.specs.Costs.{blocks_touches, touches_to_measure}
 use Rattle.range_tree.specs.Heights.{rows_to}
-use Rattle.range_tree.specs.Measures.{measure_of}
+use Rattle.range_tree.specs.Measures.{leaf_touches, measure_of, most_scanned, word_touches}
 use Rattle.range_tree.specs.Queries.{ends_inside}
 use Rattle.row_blocks.proofs.Lists.{length-slice_range}
 use Rattle.range_tree.proofs.SpanLemmas.{height-above, many_places}
 use Rattle.range_tree.proofs.SpanMeasures.{measure-small}
 use Rattle.range_tree.proofs.Middle.{middle}
-use Rattle.range_tree.proofs.Budgets.{count_scanned, count_counted, rows_down}
+use Rattle.range_tree.proofs.Budgets.{measure_scanned, measure_counted, scanned_enough}
 use Rattle.range_tree.proofs.Answering.{added_all, places_small, all_of, sum_three, AreWhole-found, tall, ends_few}
 use Rattle.range_tree.proofs.rows.RangeTree.add_measure.Goals as goal
 
@@ -44,13 +44,14 @@ returns-then-scan-clause-cost g c =
     let blocks = c.whole_blocks-whole.ensures in
     let above = height-above part rows c.requires.over in
     let d = places.to - places.from in
-    let few : d ≤ 2048 = elim (cases_eq c.whole_blocks-whole.result.from c.whole_blocks-whole.result.to) [
-      | inl none ↦ omega (arith, none, blocks.few, blocks.first, blocks.last, inside.ordered)
+    let measure = c.args.measure in
+    let few : d ≤ most_scanned measure = elim (cases_eq c.whole_blocks-whole.result.from c.whole_blocks-whole.result.to) [
+      | inl none ↦ omega (arith, none, blocks.few, blocks.first, blocks.last, inside.ordered, scanned_enough measure)
       | inr apart ↦ omega (arith, c.are_scanned-scan.ensures.few c.if-scan.true apart, c.most_scanned-most.ensures)
     ] in
     Spends-within (Spends-then (c.places_in-places.ensures.cost h above) c.measure_places-sum.ensures.cost) refl refl
-    (subst (λ n. 2 * (h + 1) + (d / 16 + 2 + d) ≤ 16 * ((n + 2) * (n + 2))) c.requires.over.height
-    (count_scanned h (length part.items) d (omega (arith, inside.within)) above few))
+    (subst (λ n. 2 * (h + 1) + (d / 16 + 2 + leaf_touches measure d) ≤ touches_to_measure measure n) c.requires.over.height
+    (measure_scanned measure h (length part.items) d (omega (arith, inside.within)) above few))
 
 pub span_in-span-requires-clause-some : goal.span_in-span-requires-clause-some
 span_in-span-requires-clause-some g c =
@@ -158,13 +159,14 @@ returns-clause-cost g c =
     let back = places.to - whole.to in
     let ends = ends_inside h whole span in
     let few : front + back ≤ 1022 = omega (arith, blocks.few) in
-    let blocks_cost = blocks_touches h (rows_to h - span.row) ends in
-    let most = rows_down h ends (rows_to h - span.row) (omega (arith, high, c.span_in-span.ensures.row)) (ends_few h whole span) in
+    let measure = c.args.measure in
+    let rest = rows_to h - span.row in
+    let bound = measure_counted measure h front back ends rest (omega (arith, high, c.span_in-span.ensures.row)) (ends_few h whole span) few in
     Spends-within
     (Spends-then
     (Spends-then (Spends-then (Spends-then (c.places_in-places.ensures.cost h above) (c.span_in-span.ensures.cost h above)) c.measure_places-first.ensures.cost)
     c.measure_places-last.ensures.cost)
     c.measure_blocks-inner.ensures.cost)
     refl refl
-    (subst (λ n. 2 * (h + 1) + 2 * (h + 1) + (front / 16 + 2 + front) + (back / 16 + 2 + back) + blocks_cost ≤ 16 * ((n + 2) * (n + 2))) c.requires.over.height
-    (count_counted h front back blocks_cost most few))
+    (subst (λ n. 2 * (h + 1) + 2 * (h + 1) + (front / 16 + 2 + leaf_touches measure front) + (back / 16 + 2 + leaf_touches measure back)
+    + blocks_touches (word_touches measure) rest ends ≤ touches_to_measure measure n) c.requires.over.height bound)

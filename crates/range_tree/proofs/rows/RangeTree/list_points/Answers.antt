@@ -10,18 +10,18 @@ use Rattle.range_tree.specs.Heights.{rows_to}
 use Rattle.range_tree.specs.Queries.{ends_inside, live_in_places, live_in_span}
 use Rattle.range_tree.proofs.SpanLemmas.{height-above}
 use Rattle.range_tree.proofs.Middle.{middle}
-use Rattle.range_tree.proofs.Budgets.{list_scanned, list_counted, rows_down}
+use Rattle.range_tree.proofs.Budgets.{list_scanned, list_counted, rows_counted}
 use Rattle.range_tree.proofs.ListingBlocks.{less_one, less_two}
 use Rattle.range_tree.proofs.Answering.{all_of, length_three, joined_one, joined_three, AreWhole-found, tall, ends_few}
 use Rattle.range_tree.proofs.rows.RangeTree.list_points.Goals as goal
 
 -- the bound, at the height of the part
-at_height : (h hh front back one two three hits blocks : ℕ) → h ≡ hh → blocks + 1982 ≤ 4 * (h * h) + 234 * h → front + back ≤ 1022 → one + two + three ≡ hits
+at_height : (h hh front back one two three hits blocks : ℕ) → h ≡ hh → blocks + 142 ≤ 2 * (h * h) + 4 * h → front + back ≤ 1022 → one + two + three ≡ hits
     → 2 * (h + 1) + 2 * (h + 1) + (front / 16 + 2 + one) + (back / 16 + 2 + two) + (blocks + three * (8 * (h + 2)))
-    ≤ 16 * ((hh + 2) * (hh + 2)) + 8 * (hh + 2) * hits
+    ≤ 4 * ((hh + 2) * (hh + 2)) + 8 * (hh + 2) * hits
 at_height h hh front back one two three hits blocks same most few all =
     subst (λ n. 2 * (h + 1) + 2 * (h + 1) + (front / 16 + 2 + one) + (back / 16 + 2 + two) + (blocks + three * (8 * (h + 2)))
-    ≤ 16 * ((n + 2) * (n + 2)) + 8 * (n + 2) * hits) same (list_counted h front back one two three hits blocks most few all)
+    ≤ 4 * ((n + 2) * (n + 2)) + 8 * (n + 2) * hits) same (list_counted h front back one two three hits blocks most few all)
 
 pub whole_blocks-whole-requires-clause-ordered : goal.whole_blocks-whole-requires-clause-ordered
 whole_blocks-whole-requires-clause-ordered g c = c.places_in-places.ensures.inside.ordered
@@ -62,8 +62,8 @@ returns-then-scan-clause-cost g c =
       | inr apart ↦ c.are_scanned-scan.ensures.few c.if-scan.true apart
     ] in
     Spends-within (Spends-then (c.places_in-places.ensures.cost h above) c.list_places.ensures.cost) refl refl
-    (subst (λ n. 2 * (h + 1) + (d / 16 + 2 + hits) ≤ 16 * ((n + 2) * (n + 2)) + 8 * (n + 2) * length (filter (is_in rect) (live_of part))) c.requires.over.height
-    (subst (λ k. 2 * (h + 1) + (d / 16 + 2 + hits) ≤ 16 * ((h + 2) * (h + 2)) + 8 * (h + 2) * k) (ap length (all_of part rect places c.requires.valid.flagged inside))
+    (subst (λ n. 2 * (h + 1) + (d / 16 + 2 + hits) ≤ 4 * ((n + 2) * (n + 2)) + 8 * (n + 2) * length (filter (is_in rect) (live_of part))) c.requires.over.height
+    (subst (λ k. 2 * (h + 1) + (d / 16 + 2 + hits) ≤ 4 * ((h + 2) * (h + 2)) + 8 * (h + 2) * k) (ap length (all_of part rect places c.requires.valid.flagged inside))
     (list_scanned h (length part.items) d hits (omega (arith, inside.within)) above few)))
 
 pub span_in-span-requires-clause-some : goal.span_in-span-requires-clause-some
@@ -135,8 +135,8 @@ returns-clause-cost g c =
     let mid = middle part valid rect span.from span.to c.span_in-span.ensures.ys places whole inside blocks.first blocks.ordered blocks.last rows c.requires.over span
     c.span_in-span.ensures.row c.span_in-span.ensures.start in
     let ends = ends_inside h whole span in
-    let most = rows_down h ends (rows_to h - span.row) (omega (arith, high, c.span_in-span.ensures.row)) (ends_few h whole span) in
-    let bound = at_height h _ front back _ _ _ _ (blocks_touches h (rows_to h - span.row) ends) c.requires.over.height most few
+    let most = rows_counted h ends (rows_to h - span.row) (omega (arith, high, c.span_in-span.ensures.row)) (ends_few h whole span) in
+    let bound = at_height h _ front back _ _ _ _ (blocks_touches 0 (rows_to h - span.row) ends) c.requires.over.height most few
     (length_three part rect places valid.flagged inside whole.from whole.to blocks.first blocks.ordered blocks.last (live_in_span part rows span.from span.to whole span) mid) in
     Spends-within
     (Spends-then (Spends-then (Spends-then (Spends-then (c.places_in-places.ensures.cost h above) (c.span_in-span.ensures.cost h above)) c.list_places-2.ensures.cost) c.list_places-3.ensures.cost)
@@ -165,8 +165,8 @@ returns-in_err-list_places-clause-cost g c =
     let mid = middle part valid rect span.from span.to c.span_in-span.ensures.ys places whole inside blocks.first blocks.ordered blocks.last rows c.requires.over span
     c.span_in-span.ensures.row c.span_in-span.ensures.start in
     let ends = ends_inside h whole span in
-    let most = rows_down h ends (rows_to h - span.row) (omega (arith, high, c.span_in-span.ensures.row)) (ends_few h whole span) in
-    let bound = at_height h _ front back _ _ _ _ (blocks_touches h (rows_to h - span.row) ends) c.requires.over.height most few
+    let most = rows_counted h ends (rows_to h - span.row) (omega (arith, high, c.span_in-span.ensures.row)) (ends_few h whole span) in
+    let bound = at_height h _ front back _ _ _ _ (blocks_touches 0 (rows_to h - span.row) ends) c.requires.over.height most few
     (length_three part rect places valid.flagged inside whole.from whole.to blocks.first blocks.ordered blocks.last (live_in_span part rows span.from span.to whole span) mid) in
     Spends-within (Spends-then (Spends-then (c.places_in-places.ensures.cost h above) (c.span_in-span.ensures.cost h above)) c.list_places-2.ensures.cost) refl refl (less_two _ _ _ _ bound)
 
@@ -192,7 +192,7 @@ returns-in_err-list_places-2-clause-cost g c =
     let mid = middle part valid rect span.from span.to c.span_in-span.ensures.ys places whole inside blocks.first blocks.ordered blocks.last rows c.requires.over span
     c.span_in-span.ensures.row c.span_in-span.ensures.start in
     let ends = ends_inside h whole span in
-    let most = rows_down h ends (rows_to h - span.row) (omega (arith, high, c.span_in-span.ensures.row)) (ends_few h whole span) in
-    let bound = at_height h _ front back _ _ _ _ (blocks_touches h (rows_to h - span.row) ends) c.requires.over.height most few
+    let most = rows_counted h ends (rows_to h - span.row) (omega (arith, high, c.span_in-span.ensures.row)) (ends_few h whole span) in
+    let bound = at_height h _ front back _ _ _ _ (blocks_touches 0 (rows_to h - span.row) ends) c.requires.over.height most few
     (length_three part rect places valid.flagged inside whole.from whole.to blocks.first blocks.ordered blocks.last (live_in_span part rows span.from span.to whole span) mid) in
     Spends-within (Spends-then (Spends-then (Spends-then (c.places_in-places.ensures.cost h above) (c.span_in-span.ensures.cost h above)) c.list_places-2.ensures.cost) c.list_places-3.ensures.cost) refl refl (less_one _ _ _ bound)

@@ -14,11 +14,11 @@ use Rattle.range_tree.proofs.Listed.{list_below, list_long, list_standing, span_
 use Rattle.range_tree.proofs.rows.RangeTree.list_span.Goals as goal
 
 -- one point more
-spent_more : {a b c d e : Counts} (height row kept rows n m : ℕ) → Spends a b 0 0 (2 * height + n * list_touches_each height) → Spends b c 0 0 (kept - row + 1)
+spent_more : {a b c d e : Counts} (first height row kept rows n m : ℕ) → Spends a b 0 0 (first + n * list_touches_each height) → Spends b c 0 0 (kept - row + 1)
     → Spends c d 0 0 (2 * (rows - row) + 1) → Spends d e 0 0 1 → kept ≤ height → rows ≤ height → m ≡ n + 1
-    → Spends a e 0 0 (2 * height + m * list_touches_each height)
-spent_more height row kept rows n m first second third fourth same few more =
-    Spends-within (Spends-then (Spends-then (Spends-then first second) third) fourth) refl refl (omega (arith, same, few, ap (λ k. k * (8 * (height + 2))) more))
+    → Spends a e 0 0 (first + m * list_touches_each height)
+spent_more first height row kept rows n m spent second third fourth same few more =
+    Spends-within (Spends-then (Spends-then (Spends-then spent second) third) fourth) refl refl (omega (arith, same, few, ap (λ k. k * (8 * (height + 2))) more))
 
 pub live_before-first-requires : goal.live_before-first-requires
 live_before-first-requires g c =
@@ -140,7 +140,7 @@ loop-rank-preserved g c =
           c.next_live-found.ensures.live (ap (slice_get part.items) (sym stands) ∙ here) ∙ ap (λ n. n + 1) c.next_live-found.ensures.ranked;
       from = omega (arith, from);
       to = omega (arith, c.next_live-found.ensures.within);
-      spent = spent_more rows.height c.args.span.row rows.ranks.height (rows_to rows.height) (c.loop-rank.rank - c.live_before-first.result) _ c.loop-rank.invariant.spent
+      spent = spent_more (2 * (rows.height - c.args.span.row)) rows.height c.args.span.row rows.ranks.height (rows_to rows.height) (c.loop-rank.rank - c.live_before-first.result) _ c.loop-rank.invariant.spent
           c.next_live-found.ensures.cost c.place_of-place.ensures.cost
           (subst (λ s. Spends c.place_of-place.new.steps s 0 0 1) (sym c.at-item.ensures.touched) (Spends-one_touch c.place_of-place.new.steps))
           (omega (arith, (c.requires.over.ranks some).same_height)) (omega arith) (omega (arith, c.loop-rank.auto.rank));
@@ -159,7 +159,7 @@ returns-in_err-push-clause-cost g c low high places is whole =
     let few : n + 1 ≤ length (live_in_span part rows low high places c.args.span) =
     omega (arith, counted, ap length points, c.live_before-first.ensures.value, c.live_before-last.ensures.value, c.loop-rank.auto.rank, c.loop-rank-test.true) in
     Spends-within
-    (spent_more rows.height c.args.span.row rows.ranks.height (rows_to rows.height) n (n + 1) c.loop-rank.invariant.spent c.next_live-found.ensures.cost
+    (spent_more (2 * (rows.height - c.args.span.row)) rows.height c.args.span.row rows.ranks.height (rows_to rows.height) n (n + 1) c.loop-rank.invariant.spent c.next_live-found.ensures.cost
     c.place_of-place.ensures.cost (subst (λ s. Spends c.place_of-place.new.steps s 0 0 1) (sym c.at-item.ensures.touched) (Spends-one_touch c.place_of-place.new.steps))
     (omega (arith, (c.requires.over.ranks some).same_height)) (omega arith) refl)
     refl refl (omega (arith, mul-le (n + 1) (list_touches_each rows.height) (length (live_in_span part rows low high places c.args.span)) (list_touches_each rows.height) few (omega arith)))

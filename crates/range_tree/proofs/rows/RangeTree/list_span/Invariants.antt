@@ -16,5 +16,5 @@ invariant-loop-rank g l = record {
   ranked : how_many (slice_of l.self.ranks l.self.ranks.live l.fn.span.row l.fn.span.start l.k) ≡ l.rank;
   from : l.fn.span.from ≤ l.k;
   to : l.k ≤ l.fn.span.to;
-  spent : Spends l.fn.steps l.steps 0 0 (2 * l.self.height + (l.rank - l.first) * list_touches_each l.self.height);
+  spent : Spends l.fn.steps l.steps 0 0 (2 * (l.self.height - l.fn.span.row) + (l.rank - l.first) * list_touches_each l.self.height);
 }

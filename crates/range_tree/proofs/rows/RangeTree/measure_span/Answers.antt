@@ -1,6 +1,8 @@
-use Rattle.std.proofs.Common.{◌≡◌, ◌-◌, arith, subst, sym}
+use Rattle.std.proofs.Common.{◌≡◌, ◌+◌, ◌-◌, ◌*◌, ◌<◌, ◌≤◌, arith, refl, subst, sym}
+use Rattle.query_laws.proofs.Counting.{Spends-then, Spends-within}
 use Rattle.std.specs.List.{sum_by}
-use Rattle.range_tree.specs.Measures.{measure_of}
+use Rattle.range_tree.specs.Heights.{rows_to}
+use Rattle.range_tree.specs.Measures.{measure_of, word_touches}
 use Rattle.range_tree.specs.Queries.{live_in_span}
 use Rattle.range_tree.proofs.SpanLemmas.{span_front}
 use Rattle.range_tree.proofs.SpanMeasures.{live_fronts, weight_fronts, counted_span, weighed_span}
@@ -71,3 +73,21 @@ returns-in-Weight-clause-sum g c low high places is whole =
       weight_fronts part rows each c.requires.over low high c.args.span is c.requires.some,
       weighed_span part rows each c.requires.over low high c.args.span is c.requires.some places whole,
     ))
+
+pub returns-in-Count-clause-cost : goal.returns-in-Count-clause-cost
+returns-in-Count-clause-cost g c =
+    let rows = c.args.self.now in
+    let row = c.args.span.row in
+    let some : 0 < rows_to rows.height = omega (arith, c.requires.span.2.row) in
+    let high = rows.ranks.height - row in
+    Spends-within (Spends-then c.live_before.ensures.cost c.live_before-in-Count.ensures.cost) refl refl
+    (subst (λ m. high + high ≤ 2 * (rows.height - row) + word_touches m) (sym c.in-Count.is) (omega (arith, (c.requires.over.ranks some).same_height)))
+
+pub returns-in-Weight-clause-cost : goal.returns-in-Weight-clause-cost
+returns-in-Weight-clause-cost g c =
+    let rows = c.args.self.now in
+    let row = c.args.span.row in
+    let some : 0 < rows_to rows.height = omega (arith, c.requires.span.2.row) in
+    let high = rows.ranks.height - row + 64 in
+    Spends-within (Spends-then c.weight_before.ensures.cost c.weight_before-in-Weight.ensures.cost) refl refl
+    (subst (λ m. high + high ≤ 2 * (rows.height - row) + word_touches m) (sym c.in-Weight.is) (omega (arith, (c.requires.over.ranks some).same_height)))
