@@ -5,12 +5,14 @@
 //! clause says that no piece is longer.
 #![tactic(auto)]
 
+mod appending;
 mod piece;
 mod refusal;
 mod reply;
 mod texts;
 mod writing;
 
+pub use appending::append;
 pub use refusal::Refusal;
 pub use reply::Reply;
 pub use writing::write_reply;

@@ -3,6 +3,7 @@ ghost use Rattle.std.specs.Prelude.{◌≡◌, ◌+◌, ◌<◌, ◌≤◌, ◌+
 ghost use Rattle.map_io.specs.SinkTold.{Delivers, CutOff};
 ghost use Rattle.answer_text.specs.Pieces.{CutOffInPieces, Gathers};
 
+use crate::append;
 use arrayvec::ArrayVec;
 use map_io::{Sink, WriteFault, write_all};
 
@@ -38,12 +39,4 @@ pub fn finish<K: Sink>(piece: &Piece, sink: &mut K) -> Result<(), WriteFault>
     ensures cut_off { OnErr result (CutOff (K.told sink.old) (K.told sink.new) piece.now.items 0) }
 {
     write_all(sink, piece.as_slice())
-}
-
-fn append(piece: &mut Piece, bytes: &[u8])
-    requires { length piece.old.items + length bytes.now ≤ 64 }
-    ensures { piece.new.items ≡ piece.old.items ++ bytes.now }
-{
-    let appended = piece.try_extend_from_slice(bytes);
-    prove!(appended.is_ok());
 }

@@ -4,7 +4,7 @@ ghost use Rattle.map_model.specs.Cost.{out_of};
 ghost use Rattle.map_model.specs.Reply.{spaced};
 ghost use Rattle.answer_text.specs.Texts.{refusal_word, answer_word, reply_word, answer_ids, listed_ids, answers_none, has_none, none_text};
 
-use crate::{Refusal, Reply};
+use crate::{Refusal, Reply, append};
 use arrayvec::ArrayVec;
 use itoa::Buffer;
 use map_questions::AnyAnswer;
@@ -176,12 +176,4 @@ fn append_number(text: &mut Text, label: &[u8], n: u64)
     let mut digits = Buffer::new();
     append(text, label);
     append(text, digits.format(n).as_bytes());
-}
-
-fn append(text: &mut Text, bytes: &[u8])
-    requires { length text.old.items + length bytes.now ≤ 64 }
-    ensures { text.new.items ≡ text.old.items ++ bytes.now }
-{
-    let appended = text.try_extend_from_slice(bytes);
-    prove!(appended.is_ok());
 }

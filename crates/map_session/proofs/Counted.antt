@@ -7,7 +7,7 @@ use Rattle.map_layers.specs.declared.faults.AskFault.{AskFault}
 use Rattle.map_layers.specs.declared.faults.AskFault.TheVariants as ask
 use Rattle.map_layers.specs.declared.faults.UpdateFault.{UpdateFault}
 use Rattle.map_layers.specs.declared.faults.UpdateFault.TheVariants.{NoLayer, WrongKind, Duplicate, Unknown, Full, NoMemory}
-use Rattle.layer_kinds.specs.Asking.{IsReading}
+use Rattle.layer_kinds.specs.Asking.{IsReading, ReadsAtMost}
 use Rattle.layer_kinds.specs.Costs.{IsInBounds}
 use Rattle.map_model.specs.Answer.{Question, Answer}
 use Rattle.map_model.specs.Command.{Command, name_of, takes_memory}
@@ -65,9 +65,11 @@ module _ (work : Work) {before after : Counts} where
     turns_kept = omega (arith, ap (λ s. s.turns) same);
     marks_kept = omega (arith, ap (λ s. s.marks) same);
     touches_kept = omega (arith, ap (λ s. s.touches) same);
+    consulted_kept = omega (arith, ap (λ s. s.consulted) same);
     few_turns = omega (arith, ap (λ s. s.turns) same);
     few_marks = omega (arith, ap (λ s. s.marks) same);
     few_touches = omega (arith, ap (λ s. s.touches) same);
+    few_consulted = omega (arith, ap (λ s. s.consulted) same);
     told = tt;
   }
 
@@ -85,22 +87,26 @@ module _ {before after : Counts} where
         turns_kept = omega (arith, h.spent.turns_spent);
         marks_kept = omega (arith, h.spent.marks_spent);
         touches_kept = h.spent.touches_kept;
+        consulted_kept = omega (arith, h.spent.none_consulted);
         few_turns = omega (arith, h.few_turns);
         few_marks = omega (arith, h.few_marks);
         few_touches = omega (arith, h.spent.touches_bound, h.few_turns, marked);
+        few_consulted = omega (arith, h.spent.none_consulted);
         told = told;
       }
 
-  -- a question that touches so much
-  reading : (question : Question) (layer : Layer) (cost : Cost) → after.touches ≤ before.touches + (asking_in question (Some layer)).touches → IsReading (lap_begun before) after
+  -- a question that consults so many parts and touches so much
+  reading : (question : Question) (layer : Layer) (cost : Cost) → ReadsAtMost (asking_in question (Some layer)).consulted (asking_in question (Some layer)).touches before after → IsReading (lap_begun before) after
       → IsTold cost before after → IsCounted (asking_in question (Some layer)) cost before after
   reading question layer cost few h told = record {
     turns_kept = omega (arith, h.turns);
     marks_kept = omega (arith, h.marks);
     touches_kept = h.touches;
+    consulted_kept = h.consulted;
     few_turns = omega (arith, h.turns);
     few_marks = omega (arith, h.marks);
-    few_touches = few;
+    few_touches = few.1;
+    few_consulted = few.0;
     told = told;
   }
 
@@ -126,7 +132,7 @@ module _ (old new : State) (command : Command) {before after : Counts} where
     update_by None is (Err fault) accepted cost told = quiet (work_of old command) cost
     update_by (Some layer) is (Ok spent) accepted cost told =
         subst (λ w. IsCounted w (update_cost {F = UpdateFault} (Ok spent)) before after) (sym (accepted_work old new command (Some layer) is accepted ∙ takes (Some layer)))
-        (within layer (update_cost {F = UpdateFault} (Ok spent)) cost (told.turns, told.marks))
+        (within layer (update_cost {F = UpdateFault} (Ok spent)) cost (told.turns, told.marks, cost.spent.none_consulted))
     update_by (Some layer) is (Err NoLayer) accepted cost told = quiet (work_of old command) cost
     update_by (Some layer) is (Err WrongKind) accepted cost told = quiet (work_of old command) cost
     update_by (Some layer) is (Err (Duplicate id)) accepted cost told = quiet (work_of old command) cost
@@ -148,7 +154,7 @@ module _ (old new : State) (command : Command) {before after : Counts} where
     question_by (Some layer) is (Ok given) answered touching reads told =
         subst (λ w. IsCounted w (question_cost {F = AskFault} (Ok given)) before after)
         (sym (accepted_work old new command (Some layer) is (ap (λ (o : Outcome). is_refusal o.reply) answered) ∙ takes (Some layer)))
-        (reading question layer (question_cost {F = AskFault} (Ok given)) touching reads (told.turns, told.marks, told.touches))
+        (reading question layer (question_cost {F = AskFault} (Ok given)) touching reads (told.turns, told.marks, told.touches, told.consulted))
     question_by (Some layer) is (Err ask.NoLayer) answered touching reads told = quiet (work_of old command) touching
     question_by (Some layer) is (Err ask.WrongKind) answered touching reads told = quiet (work_of old command) touching
     question_by (Some layer) is (Err ask.NoIndex) answered touching reads told = quiet (work_of old command) touching

@@ -1,20 +1,21 @@
--- Lines that a session answered, lap by lap.
+-- What a session executed, lap by lap.
 use Rattle.std.proofs.Common.{◌≡◌, ◌∙◌, ℕ, ◌+◌, ◌-◌, ◌^◌, ◌<◌, ◌≤◌, Bool, true, false, List, [], ◌∷◌, Some, None, Ok, Err, max, min, if◌then◌else◌, refl, sym, ap, subst, arith}
 use Rattle.std.proofs.lemmas.Bool.Decides.{nat_tests}
 use Rattle.std.proofs.lemmas.Grind.{common_steps}
 use Rattle.std.proofs.lemmas.List.Sums.{sum_by-cons}
-use Rattle.query_laws.specs.StepLedger.{Counts, LapStart, lap_begun, most_lap_turns, most_lap_marks}
+use Rattle.query_laws.specs.StepLedger.{Counts, LapStart, lap_begun, most_lap_turns, most_lap_marks, most_lap_consulted}
 use Rattle.map_model.specs.Command.{Command, MakeLayer, Add, Drop, Ask, Get, Size, Recent}
-use Rattle.map_model.specs.Grammar.{Parsed, parse}
+use Rattle.map_model.specs.Grammar.{Parsed}
 use Rattle.map_model.specs.Machine.{step}
 use Rattle.map_model.specs.Reply.{is_refusal}
 use Rattle.map_model.specs.State.{State}
-use Rattle.map_session.specs.Answering.{Moment, AnswersLine, Runs}
+use Rattle.map_model.specs.Output.{Given}
+use Rattle.map_session.specs.Executing.{ExecutesAll}
 use Rattle.map_session.specs.Laps.{laps_of, greatest_of, AreLaps}
-use Rattle.map_session.specs.Session.{map_in}
+use Rattle.map_session.specs.Session.{SessionState, map_in, Executes}
 use Rattle.map_session.specs.Work.{Work, no_work, work_of, work_said, begins_lap, begins_lap_said}
 
--- ---- one line
+-- ---- one of them
 
 grown : (m a b w : ℕ) → b ≤ a + w → max m (min (b - a) (2 ^ 64 - 1)) ≤ max m w
 grown m a b w h = grind (arith, nat_tests, common_steps, h)
@@ -54,34 +55,38 @@ lap_after : (number : LapStart → ℕ) (begun : Bool) (old : Counts) (lap : Lap
 lap_after number true old lap is = ap number is
 lap_after number false old lap is = ap number is
 
-module _ (start next : Moment) (line : List ℕ) (a : AnswersLine start line next) where
+module _ (old : SessionState) (before : Counts) (said : Parsed) (given : Given) (new : SessionState) (counts : Counts) (e : Executes old before said given new counts) where
   abbrev work : Work
-  work = work_said (map_in start.session) (parse line)
+  work = work_said (map_in old) said
 
   abbrev begun : Bool
-  begun = begins_lap_said (parse line)
+  begun = begins_lap_said said
 
-  after : (number : LapStart → ℕ) → number next.counts.lap_start ≡ (if begun then number (lap_begun start.counts).lap_start else number start.counts.lap_start)
-  after number = lap_after number begun start.counts next.counts.lap_start a.executed.lap
+  after : (number : LapStart → ℕ) → number counts.lap_start ≡ (if begun then number (lap_begun before).lap_start else number before.lap_start)
+  after number = lap_after number begun before counts.lap_start e.lap
 
-  line_turns : most_lap_turns next.counts ≤ max (most_lap_turns start.counts) work.turns
-  line_turns =
-      let e = a.executed in
-      risen begun work.turns start.counts.turns next.counts.turns start.counts.lap_start.most_turns start.counts.lap_start.turns next.counts.lap_start.most_turns next.counts.lap_start.turns
-      e.counted.turns_kept e.counted.few_turns (λ none. ap (λ w. w.turns) (lapless (map_in start.session) (parse line) none))
+  one_turns : most_lap_turns counts ≤ max (most_lap_turns before) work.turns
+  one_turns =
+      risen begun work.turns before.turns counts.turns before.lap_start.most_turns before.lap_start.turns counts.lap_start.most_turns counts.lap_start.turns
+      e.counted.turns_kept e.counted.few_turns (λ none. ap (λ w. w.turns) (lapless (map_in old) said none))
       (after (λ l. l.most_turns)) (after (λ l. l.turns))
 
-  line_marks : most_lap_marks next.counts ≤ max (most_lap_marks start.counts) work.marks
-  line_marks =
-      let e = a.executed in
-      risen begun work.marks start.counts.marks next.counts.marks start.counts.lap_start.most_marks start.counts.lap_start.marks next.counts.lap_start.most_marks next.counts.lap_start.marks
-      e.counted.marks_kept e.counted.few_marks (λ none. ap (λ w. w.marks) (lapless (map_in start.session) (parse line) none))
+  one_marks : most_lap_marks counts ≤ max (most_lap_marks before) work.marks
+  one_marks =
+      risen begun work.marks before.marks counts.marks before.lap_start.most_marks before.lap_start.marks counts.lap_start.most_marks counts.lap_start.marks
+      e.counted.marks_kept e.counted.few_marks (λ none. ap (λ w. w.marks) (lapless (map_in old) said none))
       (after (λ l. l.most_marks)) (after (λ l. l.marks))
 
-  line_laps : next.counts.lap_start.laps ≡ (if begun then min (start.counts.lap_start.laps + 1) (2 ^ 64 - 1) else start.counts.lap_start.laps)
-  line_laps = after (λ l. l.laps)
+  one_consulted : most_lap_consulted counts ≤ max (most_lap_consulted before) work.consulted
+  one_consulted =
+      risen begun work.consulted before.consulted counts.consulted before.lap_start.most_consulted before.lap_start.consulted counts.lap_start.most_consulted counts.lap_start.consulted
+      e.counted.consulted_kept e.counted.few_consulted (λ none. ap (λ w. w.consulted) (lapless (map_in old) said none))
+      (after (λ l. l.most_consulted)) (after (λ l. l.consulted))
 
--- ---- all lines
+  one_lap : counts.lap_start.laps ≡ (if begun then min (before.lap_start.laps + 1) (2 ^ 64 - 1) else before.lap_start.laps)
+  one_lap = after (λ l. l.laps)
+
+-- ---- all of them
 
 chained : (n m s w g : ℕ) → n ≤ max m g → m ≤ max s w → n ≤ max s (max w g)
 chained n m s w g h h' = grind (arith, nat_tests, common_steps, h, h')
@@ -93,21 +98,24 @@ counted_on true old next now more is rest few =
     rest (omega (arith, next_is, few)) ∙ omega (arith, next_is)
 counted_on false old next now more is rest few = rest (omega (arith, is, few)) ∙ omega (arith, is)
 
-pub laps_run : (start : Moment) (script : List (List ℕ)) (now : Moment) (runs : Runs start script now) → AreLaps start script now runs
-laps_run start [] now runs = record {
-  laps = λ few. ap (λ m. m.counts.lap_start.laps) runs ∙ omega arith;
-  turns = subst (λ m. most_lap_turns m.counts ≤ max (most_lap_turns start.counts) 0) (sym runs) (grind (arith, nat_tests, common_steps));
-  marks = subst (λ m. most_lap_marks m.counts ≤ max (most_lap_marks start.counts) 0) (sym runs) (grind (arith, nat_tests, common_steps));
+pub laps_run : (old : SessionState) (before : Counts) (script : List Parsed) (new : SessionState) (after : Counts) (all : ExecutesAll old before script new after) → AreLaps old before script new after all
+laps_run old before [] new after all = record {
+  laps = λ few. ap (λ (c : Counts). c.lap_start.laps) all.1 ∙ omega arith;
+  turns = subst (λ (c : Counts). most_lap_turns c ≤ max (most_lap_turns before) 0) (sym all.1) (grind (arith, nat_tests, common_steps));
+  marks = subst (λ (c : Counts). most_lap_marks c ≤ max (most_lap_marks before) 0) (sym all.1) (grind (arith, nat_tests, common_steps));
+  consulted = subst (λ (c : Counts). most_lap_consulted c ≤ max (most_lap_consulted before) 0) (sym all.1) (grind (arith, nat_tests, common_steps));
 }
-laps_run start (line ∷ lines) now runs =
-    let next = runs.0 in
-    let rest = laps_run next lines now runs.2 in
-    let one = sum_by-cons (λ (l : List ℕ). if begins_lap_said (parse l) then 1 else 0) line lines in
+laps_run old before (said ∷ more) new after all =
+    let counts = all.2 in
+    let rest = laps_run all.1 counts more new after all.4 in
+    let one = sum_by-cons (λ (s : Parsed). if begins_lap_said s then 1 else 0) said more in
     record {
-      laps = λ few. counted_on (begins_lap_said (parse line)) start.counts.lap_start.laps next.counts.lap_start.laps now.counts.lap_start.laps (laps_of lines)
-          (line_laps start next line runs.1) rest.laps (omega (arith, few, one)) ∙ omega (arith, one);
-      turns = chained (most_lap_turns now.counts) (most_lap_turns next.counts) (most_lap_turns start.counts) (work_said (map_in start.session) (parse line)).turns
-          (greatest_of (λ work. work.turns) next lines now runs.2) rest.turns (line_turns start next line runs.1);
-      marks = chained (most_lap_marks now.counts) (most_lap_marks next.counts) (most_lap_marks start.counts) (work_said (map_in start.session) (parse line)).marks
-          (greatest_of (λ work. work.marks) next lines now runs.2) rest.marks (line_marks start next line runs.1);
+      laps = λ few. counted_on (begins_lap_said said) before.lap_start.laps counts.lap_start.laps after.lap_start.laps (laps_of more)
+          (one_lap old before said all.0 all.1 counts all.3) rest.laps (omega (arith, few, one)) ∙ omega (arith, one);
+      turns = chained (most_lap_turns after) (most_lap_turns counts) (most_lap_turns before) (work_said (map_in old) said).turns
+          (greatest_of (λ work. work.turns) all.1 counts more new after all.4) rest.turns (one_turns old before said all.0 all.1 counts all.3);
+      marks = chained (most_lap_marks after) (most_lap_marks counts) (most_lap_marks before) (work_said (map_in old) said).marks
+          (greatest_of (λ work. work.marks) all.1 counts more new after all.4) rest.marks (one_marks old before said all.0 all.1 counts all.3);
+      consulted = chained (most_lap_consulted after) (most_lap_consulted counts) (most_lap_consulted before) (work_said (map_in old) said).consulted
+          (greatest_of (λ work. work.consulted) all.1 counts more new after all.4) rest.consulted (one_consulted old before said all.0 all.1 counts all.3);
     }

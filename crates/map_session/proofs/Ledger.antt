@@ -108,21 +108,44 @@ untold state (Ok (Some command)) given (inl executes) none =
 counted_cost : (cost : Cost) (work lacking : Work) (old new : Counts) → IsCounted work cost old new → (cost ≡ Untold → work ≡ lacking)
     → (old.turns + (work_told cost).turns ≤ new.turns) × (old.marks + (work_told cost).marks ≤ new.marks) × (old.touches + (work_told cost).touches ≤ new.touches)
     × (new.turns ≤ old.turns + (work_told cost).turns + lacking.turns) × (new.marks ≤ old.marks + (work_told cost).marks + lacking.marks)
+    × (old.consulted + (work_told cost).consulted ≤ new.consulted) × (new.consulted ≤ old.consulted + (work_told cost).consulted + lacking.consulted)
 counted_cost Untold work lacking old new c none =
     let turns : work.turns ≡ lacking.turns = ap (λ w. w.turns) (none refl) in
     let marks : work.marks ≡ lacking.marks = ap (λ w. w.marks) (none refl) in
-    (omega (arith, c.turns_kept), omega (arith, c.marks_kept), omega (arith, c.touches_kept), omega (arith, c.few_turns, turns), omega (arith, c.few_marks, marks))
-counted_cost (Updating spent) work lacking old new c none =
-    (omega (arith, c.told.0), omega (arith, c.told.1), omega (arith, c.touches_kept), omega (arith, c.told.0), omega (arith, c.told.1))
-counted_cost (Asking asked) work lacking old new c none =
-    (omega (arith, c.told.0), omega (arith, c.told.1), omega (arith, c.told.2), omega (arith, c.told.0), omega (arith, c.told.1))
+    let consulted : work.consulted ≡ lacking.consulted = ap (λ w. w.consulted) (none refl) in (
+      omega (arith, c.turns_kept),
+      omega (arith, c.marks_kept),
+      omega (arith, c.touches_kept),
+      omega (arith, c.few_turns, turns),
+      omega (arith, c.few_marks, marks),
+      omega (arith, c.consulted_kept),
+      omega (arith, c.few_consulted, consulted),
+    )
+counted_cost (Updating spent) work lacking old new c none = (
+  omega (arith, c.told.0),
+  omega (arith, c.told.1),
+  omega (arith, c.touches_kept),
+  omega (arith, c.told.0),
+  omega (arith, c.told.1),
+  omega (arith, c.told.2),
+  omega (arith, c.told.2),
+)
+counted_cost (Asking asked) work lacking old new c none = (
+  omega (arith, c.told.0),
+  omega (arith, c.told.1),
+  omega (arith, c.told.2),
+  omega (arith, c.told.0),
+  omega (arith, c.told.1),
+  omega (arith, c.told.3),
+  omega (arith, c.told.3),
+)
 
 said_adds_up : (old : SessionState) (before : Counts) (said : Parsed) (given : Given) (new : SessionState) (after : Counts) → Executes old before said given new after
     → AddsUp (work_told (cost_told given.told)) (work_lacking (map_in old) said given.told) before after
 said_adds_up old before said given new after e =
     let state = map_in old in
     let all = counted_cost (cost_told given.told) (work_said state said) (work_lacking state said given.told) before after e.counted (untold state said given e.answers) in
-    record { turns_counted = all.0; marks_counted = all.1; touches_counted = all.2; turns_told = all.3; marks_told = all.4 }
+    record { turns_counted = all.0; marks_counted = all.1; touches_counted = all.2; turns_told = all.3; marks_told = all.4; consulted_counted = all.5; consulted_told = all.6 }
 
 -- ---- all of them
 
@@ -131,10 +154,13 @@ nothing_adds_up old new same =
     let turns : new.turns ≡ old.turns = ap (λ (c : Counts). c.turns) same in
     let marks : new.marks ≡ old.marks = ap (λ (c : Counts). c.marks) same in
     let touches : new.touches ≡ old.touches = ap (λ (c : Counts). c.touches) same in
+    let consulted : new.consulted ≡ old.consulted = ap (λ (c : Counts). c.consulted) same in
     record {
       turns_counted = omega (arith, turns);
       marks_counted = omega (arith, marks);
       touches_counted = omega (arith, touches);
+      consulted_counted = omega (arith, consulted);
+      consulted_told = omega (arith, consulted);
       turns_told = omega (arith, turns);
       marks_told = omega (arith, marks);
     }
@@ -144,6 +170,8 @@ both_add_up told lacking told' lacking' old next new one rest = record {
   turns_counted = omega (arith, one.turns_counted, rest.turns_counted);
   marks_counted = omega (arith, one.marks_counted, rest.marks_counted);
   touches_counted = omega (arith, one.touches_counted, rest.touches_counted);
+  consulted_counted = omega (arith, one.consulted_counted, rest.consulted_counted);
+  consulted_told = omega (arith, one.consulted_told, rest.consulted_told);
   turns_told = omega (arith, one.turns_told, rest.turns_told);
   marks_told = omega (arith, one.marks_told, rest.marks_told);
 }

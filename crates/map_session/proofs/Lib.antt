@@ -3,6 +3,7 @@ pub mod Lines
 pub mod Counted
 pub mod Steps
 pub mod Laps
+pub mod AllCounted
 pub mod Unended
 pub mod Underway
 pub mod Ledger

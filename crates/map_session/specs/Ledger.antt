@@ -15,7 +15,7 @@ use Rattle.map_session.specs.Work.{Work, no_work, both, work_said}
 abbrev pub work_told : Cost → Work
 work_told Untold = no_work
 work_told (Updating spent) = record no_work { turns = spent.turns; marks = spent.marks }
-work_told (Asking asked) = record no_work { touches = asked.touches }
+work_told (Asking asked) = record no_work { touches = asked.touches; consulted = asked.parts }
 
 -- What a refused command may have taken and doesn't tell: the bounds of one that memory refuses, and nothing of any other.
 abbrev pub work_lacking : State → Parsed → Option Told → Work
@@ -50,5 +50,7 @@ pub record AddsUp (told lacking : Work) (old new : Counts) : Type 0 where
   pub turns_counted : old.turns + told.turns ≤ new.turns
   pub marks_counted : old.marks + told.marks ≤ new.marks
   pub touches_counted : old.touches + told.touches ≤ new.touches
+  pub consulted_counted : old.consulted + told.consulted ≤ new.consulted
   pub turns_told : new.turns ≤ old.turns + told.turns + lacking.turns
   pub marks_told : new.marks ≤ old.marks + told.marks + lacking.marks
+  pub consulted_told : new.consulted ≤ old.consulted + told.consulted + lacking.consulted

@@ -14,19 +14,20 @@ use Rattle.map_model.specs.Reply.{is_refusal}
 use Rattle.map_model.specs.Machine.{step}
 use Rattle.map_model.specs.Grammar.{Parsed}
 
--- turns, marks and touches
+-- turns, marks, touches and consulted parts
 pub record Work : Type 0 where
   pub turns : ℕ
   pub marks : ℕ
   pub touches : ℕ
+  pub consulted : ℕ
 
 -- none of them
 abbrev pub no_work : Work
-no_work = record { turns = 0; marks = 0; touches = 0 }
+no_work = record { turns = 0; marks = 0; touches = 0; consulted = 0 }
 
 -- both together
 abbrev pub both : Work → Work → Work
-both a b = record { turns = a.turns + b.turns; marks = a.marks + b.marks; touches = a.touches + b.touches }
+both a b = record { turns = a.turns + b.turns; marks = a.marks + b.marks; touches = a.touches + b.touches; consulted = a.consulted + b.consulted }
 
 -- the command is an add or a drop
 abbrev pub is_update : Command → Bool
@@ -71,12 +72,14 @@ bounds_in (Some layer) = record {
   turns = turn_bound layer;
   marks = mark_bound layer;
   touches = 16 * turn_bound layer + mark_bound layer * touches_at (bounds_at (live_count layer)).level;
+  consulted = 0;
 }
 
 -- the same of a question
 abbrev pub asking_in : Question → Option Layer → Work
 asking_in question None = no_work
-asking_in question (Some layer) = record no_work { touches = most_in layer (λ level n. most_of (touches_for question level) n) }
+asking_in question (Some layer) =
+    record no_work { touches = most_in layer (λ level n. most_of (touches_for question level) n); consulted = (bounds_at (live_count layer)).parts }
 
 -- what a command may take in a layer, where nothing but memory refuses it
 abbrev pub work_in : Command → Option Layer → Work
@@ -102,17 +105,19 @@ work_said state (Err fault) = no_work
 -- the numbers that are told are those that were counted
 abbrev pub IsTold : Cost → Counts → Counts → Type 0
 IsTold Untold old new = ⊤
-IsTold (Updating spent) old new = (new.turns ≡ old.turns + spent.turns) × (new.marks ≡ old.marks + spent.marks)
-IsTold (Asking asked) old new = (new.turns ≡ old.turns) × (new.marks ≡ old.marks) × (new.touches ≡ old.touches + asked.touches)
+IsTold (Updating spent) old new = (new.turns ≡ old.turns + spent.turns) × (new.marks ≡ old.marks + spent.marks) × (new.consulted ≡ old.consulted)
+IsTold (Asking asked) old new = (new.turns ≡ old.turns) × (new.marks ≡ old.marks) × (new.touches ≡ old.touches + asked.touches) × (new.consulted ≡ old.consulted + asked.parts)
 
--- no count fell, at most so much was counted, and the turns, marks and touches that a reply tells are those that were
+-- no count fell, at most so much was counted, and the turns, marks, touches and parts that a reply tells are those that were
 pub record IsCounted (work : Work) (cost : Cost) (old new : Counts) : Type 0 where
   pub turns_kept : old.turns ≤ new.turns
   pub marks_kept : old.marks ≤ new.marks
   pub touches_kept : old.touches ≤ new.touches
+  pub consulted_kept : old.consulted ≤ new.consulted
   pub few_turns : new.turns ≤ old.turns + work.turns
   pub few_marks : new.marks ≤ old.marks + work.marks
   pub few_touches : new.touches ≤ old.touches + work.touches
+  pub few_consulted : new.consulted ≤ old.consulted + work.consulted
   pub told : IsTold cost old new
 
 -- The answer to a question tells as many parts as the index that it is for has complete ones.

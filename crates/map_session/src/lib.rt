@@ -2,8 +2,9 @@
 //!
 //! A command and a line do what `Executes` says: one of the definitions' answers to what is said, and at most the work that it may
 //! take on the map before it. Over a text the lines were answered, one after another (`Runs`), or writing stopped inside an answer
-//! (`IsStopped`). What all lines come to together are laws of that: [`lines_sum_up`], [`answers_are_outputs`], [`laps_are_bounded`]
-//! and [`ledger_adds_up`]. Touches of updates aren't told by replies.
+//! (`IsStopped`). What all lines come to together are laws of that: [`lines_sum_up`], [`answers_are_outputs`] and [`ledger_adds_up`].
+//! Laws of whatever was executed one after another, commands too (`ExecutesAll`), are [`work_sums_up`] and [`laps_are_bounded`].
+//! Touches of updates aren't told by replies.
 //!
 //! The bounds of a run's updates stand in the relation of its output (`OutputWithin`): each is that of the map before its update, which
 //! is named nowhere else. A run over commands is told by the list of what each was answered (`Obeys`), so a summary of the list can't
@@ -17,9 +18,11 @@ ghost use Rattle.std.specs.Prelude.{ℕ, List};
 ghost use Rattle.std.specs.Io.KnownBytes.{Appends};
 ghost use Rattle.query_laws.specs.StepLedger.{Counts};
 ghost use Rattle.map_model.specs.Command.{Command};
+ghost use Rattle.map_model.specs.Grammar.{Parsed};
 ghost use Rattle.map_model.specs.Output.{Told, Output, Interrupted};
 ghost use Rattle.map_session.specs.Session.{SessionState, map_in, Obeys};
 ghost use Rattle.map_session.specs.Answering.{Moment, Runs, SumsUp, IsStopped};
+ghost use Rattle.map_session.specs.Executing.{ExecutesAll, AreCounted};
 ghost use Rattle.map_session.specs.Laps.{AreLaps};
 ghost use Rattle.map_session.specs.Ledger.{told_in, lacking_in, told_to, lacking_to, AddsUp};
 
@@ -48,10 +51,18 @@ pub fn answers_are_outputs()
         × Interrupted start.session.ledger (map_in start.session) script bytes (map_in now.session) }
 {}
 
-/// In lines that a session answered each update and each question is one lap of the steps, and none took more turns or marks than the
-/// dearest of them may.
+/// What was executed took at most what all of it may, each line or command on the map before it: lines that were answered (`of_lines`),
+/// lines up to the one in whose answer writing stopped (`of_stopped`), and commands (`of_commands`).
+pub fn work_sums_up()
+    ensures { (old : SessionState) (before : Counts) (script : List Parsed) (new : SessionState) (after : Counts)
+        (all : ExecutesAll old before script new after) → AreCounted old before script new after all }
+{}
+
+/// In what was executed each update and each question is one lap of the steps, and none took more turns or marks than the dearest of
+/// them may.
 pub fn laps_are_bounded()
-    ensures { (start : Moment) (script : List (List ℕ)) (now : Moment) (runs : Runs start script now) → AreLaps start script now runs }
+    ensures { (old : SessionState) (before : Counts) (script : List Parsed) (new : SessionState) (after : Counts)
+        (all : ExecutesAll old before script new after) → AreLaps old before script new after all }
 {}
 
 /// What the replies to lines, or to commands, tell adds up to what was counted, and where memory was never lacking so do turns and

@@ -2,6 +2,7 @@
 ghost use Rattle.std.specs.Prelude.{◌≡◌, ◌==◌, ◌+◌, ◌≤◌, [], ◌++◌, length, take};
 ghost use Rattle.script_lang.specs.Front.{longest_front};
 
+use answer_text::append;
 use arrayvec::ArrayVec;
 use script_lang::LONGEST_FRONT;
 use std::marker::Model;
@@ -60,12 +61,4 @@ impl LineStart {
     {
         self.front.clear();
     }
-}
-
-fn append(front: &mut ArrayVec<u8, LONGEST_FRONT>, bytes: &[u8])
-    requires { length front.old.items + length bytes.now ≤ longest_front }
-    ensures { front.new.items ≡ front.old.items ++ bytes.now }
-{
-    let appended = front.try_extend_from_slice(bytes);
-    prove!(appended.is_ok());
 }

@@ -1,4 +1,5 @@
 pub mod Endings
+pub mod Accepted
 pub mod Underway
 pub mod MadeCommands
 pub mod Pieces

@@ -9,6 +9,15 @@
 //! reads on: where a read fails, each line that ended before it is answered, and no write failed.
 #![tactic(auto)]
 
+ghost use Rattle.std.specs.Prelude.{◌≡◌, ◌≢◌, ◌≤◌, ℕ, false, All, List};
+ghost use Rattle.query_laws.specs.StepLedger.{Counts};
+ghost use Rattle.map_model.specs.Output.{Told};
+ghost use Rattle.map_model.specs.Refusal.{NoMemory};
+ghost use Rattle.map_model.specs.Reply.{Refused, is_refusal};
+ghost use Rattle.map_model.specs.State.{most_items};
+ghost use Rattle.map_session.specs.Session.{SessionState, new_session, Obeys};
+ghost use Rattle.workload_gen.specs.Made.{made_script};
+
 mod ended;
 mod exit;
 mod making;
@@ -21,3 +30,10 @@ use map_session::Session;
 
 /// A session of the program, over all structures.
 pub type MapSession = Session<PointIndexes, SegmentIndexes>;
+
+/// Where no command of a made script is refused memory, none is refused.
+pub fn made_scripts_are_refused_memory_alone()
+    ensures { (seed size : ℕ) (before : Counts) (told : List Told) (new : SessionState) (after : Counts) → size ≤ most_items
+        → Obeys (new_session false) before (made_script seed size) told new after → All (λ (one : Told). one.reply ≢ Refused NoMemory) told
+        → All (λ (one : Told). is_refusal one.reply ≡ false) told }
+{}

@@ -5,7 +5,7 @@ ghost use Rattle.map_questions.specs.Any.{answer_of};
 ghost use Rattle.map_shapes.specs.Cost.{spent_of};
 ghost use Rattle.workload_gen.specs.Summary as summaries;
 
-use answer_text::Reply;
+use answer_text::{Reply, append};
 use arrayvec::ArrayVec;
 use itoa::Buffer;
 use map_io::{Sink, WriteFault, write_all};
@@ -174,12 +174,4 @@ fn put_largest(text: &mut Text, largest: Option<Spent>)
     append(text, b"/");
     append(text, Buffer::new().format(bound).as_bytes());
     append(text, b"\n");
-}
-
-fn append(text: &mut Text, bytes: &[u8])
-    requires { length text.old.items + length bytes.now ≤ 512 }
-    ensures { text.new.items ≡ text.old.items ++ bytes.now }
-{
-    let appended = text.try_extend_from_slice(bytes);
-    prove!(appended.is_ok());
 }

@@ -25,9 +25,11 @@ returns-in-Ok-clause-counted g c =
       turns_kept = h.turns_kept;
       marks_kept = h.marks_kept;
       touches_kept = h.touches_kept;
+      consulted_kept = h.consulted_kept;
       few_turns = h.few_turns;
       few_marks = h.few_marks;
       few_touches = h.few_touches;
+      few_consulted = h.few_consulted;
       told = h.told;
     }
 
