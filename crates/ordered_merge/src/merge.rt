@@ -13,6 +13,7 @@ use query_laws::step_ledger::{Row, Steps};
 use query_laws::{Item, NoMemory, Order};
 use std::alloc::Global;
 use std::marker::Model;
+use std::mem::size_of;
 use std::sync::ledger::Ledger;
 
 /// How far one part is read: for each item that the first order has read its new place, or `None` where it was skipped, and how many
@@ -22,6 +23,9 @@ struct Source {
     table: Row<NewPlace>,
     reread: usize,
 }
+
+// A touch reads or writes one entry, of at most 64 bytes.
+const _: () = prove!(size_of::<NewPlace>() <= 64);
 
 impl Source {
     /// Nothing is read, and there is room for `cap` items.

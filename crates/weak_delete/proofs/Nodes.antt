@@ -247,6 +247,19 @@ pub built_nodes : {places seen : List Place} {nodes : List Node} {unturned : ℕ
 built_nodes {places} {seen} {nodes} {unturned} over same none =
     let P : List Place → Type 0 = λ ps. AreNodes ps nodes 0 in subst P same (subst (AreNodes places nodes) none over)
 
+-- a node, and the one that stands before it
+pub IsOver-joined : {places : List Place} {start middle end : ℕ} (later node : Node) → IsOver places middle end later → IsOver places start middle node
+    → IsOver places start end (record { count = later.count + node.count; weight = later.weight + node.weight })
+IsOver-joined later node over before = record { count = omega (arith, before.count, over.count); weight = omega (arith, before.weight, over.weight) }
+
+-- its sums fit
+pub IsOver-joined_fits : {places : List Place} {start middle end : ℕ} (later node : Node) → IsOver places middle end later → IsOver places start middle node
+    → length places ≤ 2 ^ 31 → sum_by live_amount places ≤ length places * (2 ^ 32 - 1) → (later.count + node.count < 2 ^ 32) × (later.weight + node.weight < 2 ^ 64)
+IsOver-joined_fits {places} {start} {middle} {end} later node over before few small = (
+  omega (arith, before.count, over.count, count_by-le-length is_live (take end places), length-take end places),
+  omega (arith, before.weight, over.weight, sum_by-take-le live_amount places end),
+)
+
 pub sum-cleared-le : (places : List Place) (k : ℕ) → k < length places → sum_by live_amount (cleared places k) ≤ sum_by live_amount places
 sum-cleared-le places k within = omega (arith, sum_by-set live_amount places k (record (get_or places k no_place) { live = false }) no_place within)
 

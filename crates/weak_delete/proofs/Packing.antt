@@ -1,5 +1,5 @@
 -- Places in entries of sixteen.
-use Rattle.std.proofs.Common.{◌≡◌, ◌≢◌, ℕ, zero, suc, ◌+◌, ◌-◌, ◌*◌, ◌/◌, ◌%◌, ◌^◌, ◌<◌, ◌≤◌, ◌==◌, ◌⊎◌, inl, inr, false, cond, List, [], ◌∷◌, ◌++◌, length, take, get_or, set, replicate, refl, sym, ap, ap₂, ◌∙◌, arith, get_or-set_same, get_or-set_other, add_comm}
+use Rattle.std.proofs.Common.{◌≡◌, ◌≢◌, ℕ, zero, suc, ◌+◌, ◌-◌, ◌*◌, ◌/◌, ◌%◌, ◌^◌, ◌<◌, ◌≤◌, ◌==◌, ◌⊎◌, inl, inr, true, false, cond, List, [], ◌∷◌, ◌++◌, length, take, get_or, set, replicate, refl, sym, ap, ap₂, ◌∙◌, arith, get_or-set_same, get_or-set_other, add_comm}
 use Rattle.std.specs.List.{count_by, sum_by}
 use Rattle.std.specs.Int.{bit_at}
 use lib.Count.{ones}
@@ -7,12 +7,12 @@ use Rattle.std.proofs.lemmas.Nat.{ones_cat, ones-le, zero_from_ones, mod-pow-add
 use Rattle.std.proofs.lemmas.Nat.Bits.{bit_at-lt, bit_at_ones}
 use Rattle.std.proofs.lemmas.Bool.{cases_lt, cases_eq}
 use Rattle.std.proofs.lemmas.Bool.Decides.{nat_tests}
-use Rattle.std.proofs.lemmas.List.{same_lists, length-set, get_or_append_left, get_or_push}
+use Rattle.std.proofs.lemmas.List.{same_lists, take_all, length-set, get_or_append_left, get_or_push}
 use Rattle.std.proofs.lemmas.List.FromFn.{length-map-range_with_len, get_or-map-range_with_len, map-range_with_len_more, fill_by_all}
 use Rattle.std.proofs.lemmas.List.Sums.{sum_by_more}
 use Rattle.weak_delete.specs.declared.place.Place.{Place}
-use Rattle.weak_delete.specs.Places.{is_live, cleared, no_place, live_place}
-use Rattle.weak_delete.specs.Packed.{live_bits, place_in, packed}
+use Rattle.weak_delete.specs.Places.{is_live, live_amount, cleared, no_place, live_place}
+use Rattle.weak_delete.specs.Packed.{live_bits, live_weights, place_in, packed}
 
 pub length-packed : (weights : List (List ℕ)) (masks : List ℕ) (n : ℕ) → length (packed weights masks n) ≡ n
 length-packed weights masks n = length-map-range_with_len (place_in weights masks) 0 n
@@ -76,9 +76,40 @@ pub live_bits-more : (mask slot : ℕ) → live_bits mask (slot + 1) ≡ live_bi
 unfolding live_bits
 live_bits-more mask slot = ap (live_bits mask) (let next : slot + 1 ≡ suc slot = omega arith in next)
 
+pub live_weights-none : (weights : List ℕ) (mask : ℕ) → live_weights weights mask 0 ≡ 0
+unfolding live_weights
+live_weights-none weights mask = refl
+
+pub live_weights-more : (weights : List ℕ) (mask slot : ℕ) → live_weights weights mask (slot + 1) ≡ live_weights weights mask slot + get_or weights slot 0 * bit_at mask slot
+unfolding live_weights
+live_weights-more weights mask slot = ap (live_weights weights mask) (let next : slot + 1 ≡ suc slot = omega arith in next)
+
+-- a bit of a weight is no more than the weight
+pub weight-le : (a b : ℕ) → b < 2 → a * b ≤ a
+weight-le a b small = elim (cases_lt b 1) [
+  | inl none ↦ let is : b ≡ 0 = omega arith in omega (arith, ap (λ c. a * c) is)
+  | inr one ↦ let is : b ≡ 1 = omega arith in omega (arith, ap (λ c. a * c) is)
+]
+
+-- more slots have no fewer live ones
+pub live_bits-rise : (mask r more : ℕ) → live_bits mask r ≤ live_bits mask (r + more)
+live_bits-rise mask r zero = omega (arith, ap (live_bits mask) (let same : r + 0 ≡ r = omega arith in same))
+live_bits-rise mask r (suc more) =
+    omega (arith, live_bits-rise mask r more, live_bits-more mask (r + more), ap (live_bits mask) (let next : r + suc more ≡ r + more + 1 = omega arith in next))
+
 -- a live bit counts for one
 bit_counts : (b : ℕ) → b < 2 → cond (b == 1) 1 0 ≡ b
 bit_counts b small = grind (arith, nat_tests)
+
+bit_weighs : (a b : ℕ) → b < 2 → cond (b == 1) a 0 ≡ a * b
+bit_weighs a b small = elim (cases_lt b 1) [
+  | inl none ↦
+      let is : b ≡ 0 = omega arith in
+      ap (λ c. cond (c == 1) a 0) is ∙ sym (let zero_times : a * b ≡ 0 = omega (arith, ap (λ c. a * c) is) in zero_times)
+  | inr one ↦
+      let is : b ≡ 1 = omega arith in
+      ap (λ c. cond (c == 1) a 0) is ∙ sym (let one_times : a * b ≡ a = omega (arith, ap (λ c. a * c) is) in one_times)
+]
 
 module _ (weights : List (List ℕ)) (masks : List ℕ) (n : ℕ) where
   slot_at : (f : Place → ℕ) (e r : ℕ) → r < 16 → 16 * e + r < n
@@ -109,6 +140,68 @@ module _ (weights : List (List ℕ)) (masks : List ℕ) (n : ℕ) where
         count_by-slots e r (omega arith) (omega arith),
         bit_counts (bit_at (get_or masks e 0) r) (bit_at-lt (get_or masks e 0) r),
       )
+
+  pub sum_by-slots : (e r : ℕ) → r ≤ 16 → 16 * e + r ≤ n
+      → sum_by live_amount (take (16 * e + r) (packed weights masks n)) ≡ sum_by live_amount (take (16 * e) (packed weights masks n)) + live_weights (get_or weights e []) (get_or masks e 0) r
+  unfolding live_weights
+  sum_by-slots e zero small within = omega (arith, none_at live_amount e)
+  sum_by-slots e (suc r) small within =
+      omega (
+        arith,
+        slot_at live_amount e r (omega arith) (omega arith),
+        sum_by-slots e r (omega arith) (omega arith),
+        bit_weighs (get_or (get_or weights e []) r 0) (bit_at (get_or masks e 0) r) (bit_at-lt (get_or masks e 0) r),
+      )
+
+  -- an entry has no more live places than live slots
+  pub count_by-entry-le : (e : ℕ) → 16 * e ≤ n
+      → count_by is_live (take (16 * (e + 1)) (packed weights masks n)) ≤ count_by is_live (take (16 * e) (packed weights masks n)) + live_bits (get_or masks e 0) 16
+  count_by-entry-le e within = elim (cases_lt n (16 * (e + 1))) [
+    | inl cut ↦
+        let rest = n - 16 * e in
+        let is : 16 * e + rest ≡ n = omega arith in
+        let whole : take (16 * (e + 1)) (packed weights masks n) ≡ take (16 * e + rest) (packed weights masks n) =
+        take_all (16 * (e + 1)) (packed weights masks n) (omega (arith, length-packed weights masks n))
+        ∙ sym (take_all (16 * e + rest) (packed weights masks n) (omega (arith, length-packed weights masks n))) in
+        let up : rest + (16 - rest) ≡ 16 = omega arith in
+        omega (
+          arith,
+          ap (count_by is_live) whole,
+          count_by-slots e rest (omega arith) (omega arith),
+          live_bits-rise (get_or masks e 0) rest (16 - rest),
+          ap (live_bits (get_or masks e 0)) up,
+        )
+    | inr full ↦
+        let next : 16 * (e + 1) ≡ 16 * e + 16 = omega arith in
+        omega (arith, ap (λ i. count_by is_live (take i (packed weights masks n))) next, count_by-slots e 16 (omega arith) (omega arith))
+  ]
+
+  -- the live slot with so many before it is a place, where more places are live
+  pub slot_within : (e slot : ℕ) → 16 * e ≤ n → slot < 16
+      → count_by is_live (take (16 * e) (packed weights masks n)) + live_bits (get_or masks e 0) slot < count_by is_live (packed weights masks n) → 16 * e + slot < n
+  slot_within e slot within small more = elim (cases_lt (16 * e + slot) n) [
+    | inl inside ↦ inside
+    | inr past ↦
+        let rest = n - 16 * e in
+        let is : 16 * e + rest ≡ n = omega arith in
+        let up : rest + (slot - rest) ≡ slot = omega arith in
+        let whole : take (16 * e + rest) (packed weights masks n) ≡ packed weights masks n = take_all (16 * e + rest) (packed weights masks n) (omega (arith, length-packed weights masks n)) in
+        let no : ⊥ = omega (
+          arith,
+          ap (count_by is_live) whole,
+          count_by-slots e rest (omega arith) (omega arith),
+          live_bits-rise (get_or masks e 0) rest (slot - rest),
+          ap (live_bits (get_or masks e 0)) up,
+        ) in absurd no
+  ]
+
+  -- and it is live
+  pub slot_live : (e slot : ℕ) → slot < 16 → 16 * e + slot < n → bit_at (get_or masks e 0) slot ≡ 1 → is_live (get_or (packed weights masks n) (16 * e + slot) no_place) ≡ true
+  slot_live e slot small within bit =
+      let entry : (16 * e + slot) / 16 ≡ e = omega arith in
+      let at : (16 * e + slot) % 16 ≡ slot = omega arith in
+      ap is_live (get_or-packed weights masks n (16 * e + slot) no_place within)
+      ∙ ap₂ (λ i j. bit_at (get_or masks i 0) j == 1) entry at ∙ ap (λ b. b == 1) bit
 
 -- a bit that is taken out of a mask takes its place out
 pub packed-cleared : (weights : List (List ℕ)) (masks : List ℕ) (n k mask : ℕ) → k < n → k / 16 < length masks → bit_at mask (k % 16) ≡ 0

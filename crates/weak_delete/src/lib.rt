@@ -7,7 +7,8 @@
 //! | call | touches at most |
 //! |---|---|
 //! | a put, a turn | 4, 8 |
-//! | `prefix` | `h + 1` |
+//! | `prefix`, `kth_live` | `h + 1` |
+//! | `sum_prefix` | `h + 2` |
 //! | `next_at_least` | `6 * (h + 2)` |
 //! | `clear` | `4 * (h + 2)` |
 //!

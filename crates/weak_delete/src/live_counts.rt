@@ -1,16 +1,17 @@
 //! The number and the weight of live places, by a Fenwick tree.
-ghost use Rattle.std.specs.Prelude.{◌≡◌, ℕ, ◌+◌, ◌-◌, ◌*◌, ◌/◌, ◌%◌, ◌≢◌, ◌^◌, ◌<◌, ◌≤◌, ◌∷◌, ◌++◌, [], true, false, IfOk, length, take, count_by};
+ghost use Rattle.std.specs.Prelude.{◌≡◌, ℕ, ◌+◌, ◌-◌, ◌*◌, ◌/◌, ◌%◌, ◌≢◌, ◌^◌, ◌<◌, ◌≤◌, ◌∷◌, ◌++◌, ◌↔◌, [], true, false, IfOk, IfSome, IsNone, length, take, count_by, sum_by};
 ghost use Rattle.query_laws.specs.StepLedger.{Spends};
-ghost use Rattle.weak_delete.specs.Places.{IsLive, is_live, live_place, cleared, nothing_put, IsBuilt};
+ghost use Rattle.weak_delete.specs.Places.{IsLive, is_live, live_amount, live_place, cleared, nothing_put, IsBuilt};
 ghost use Rattle.row_blocks.specs.Blocks.{height_at};
 ghost use Rattle.weak_delete.specs.Fenwick.{IsOver};
 
-use crate::packed::{WIDTH, live_below, without};
+use crate::packed::{WIDTH, live_below, nth_live, weight_below, without};
 use query_laws::NoMemory;
 use query_laws::step_ledger::{Row, Steps};
 use row_blocks::{block_len, height_above, height_at};
 use std::alloc::Global;
 use std::marker::Model;
+use std::mem::size_of;
 use std::sync::ledger::Ledger;
 
 /// How many live places a range has, and what they weigh together.
@@ -20,7 +21,26 @@ struct Node {
     weight: u64,
 }
 
+/// The node over no entry.
+const NOTHING: Node = Node {
+    count: 0,
+    weight: 0,
+};
+
 impl Node {
+    /// The node over the places of both.
+    #[inline]
+    fn plus(self, other: Node) -> Node
+        requires count { self.count + other.count < 2 ^ 32 }
+        requires weight { self.weight + other.weight < 2 ^ 64 }
+        ensures { result ≡ record { count = self.count + other.count; weight = self.weight + other.weight } }
+    {
+        Node {
+            count: self.count + other.count,
+            weight: self.weight + other.weight,
+        }
+    }
+
     /// The node over the places that another doesn't have, which has none but these.
     #[inline]
     fn minus(self, other: Node) -> Node
@@ -54,6 +74,11 @@ pub struct LiveCounts {
     sealed: bool,
 }
 
+// A touch reads or writes one entry, of at most 64 bytes.
+const _: () = prove!(size_of::<[u32; WIDTH]>() <= 64);
+
+const _: () = prove!(size_of::<Node>() <= 64);
+
 impl Model for LiveCounts {
     ghost use Rattle.weak_delete.specs.Places.{LivePlaces};
     ghost use Rattle.weak_delete.specs.Packed.{packed};
@@ -84,10 +109,7 @@ impl LiveCounts {
             weights: Row::room(alloc, entries)?,
             masks: Row::room(alloc, entries)?,
             nodes: Row::room(alloc, entries)?,
-            total: Node {
-                count: 0,
-                weight: 0,
-            },
+            total: NOTHING,
             cap,
             len: 0,
             unturned: 0,
@@ -103,10 +125,7 @@ impl LiveCounts {
         self.weights.clear();
         self.masks.clear();
         self.nodes.clear();
-        self.total = Node {
-            count: 0,
-            weight: 0,
-        };
+        self.total = NOTHING;
         self.len = 0;
         self.unturned = 0;
         self.sealed = false;
@@ -239,10 +258,7 @@ impl LiveCounts {
         ensures cost { Spends steps.old steps.new 0 0 1 }
     {
         if end == 0 {
-            return Node {
-                count: 0,
-                weight: 0,
-            };
+            return NOTHING;
         }
         self.nodes.at(end - 1, steps)
     }
@@ -294,8 +310,22 @@ impl LiveCounts {
         if k == self.len {
             return self.total.count as u64;
         }
-        let before = self.below(k / WIDTH, steps);
+        let before = self.below(k / WIDTH, steps).count;
         before as u64 + self.live_before(k, steps) as u64
+    }
+
+    /// What the live places below `k` weigh: at most `h + 2` touches, where there are at most `2^h` places.
+    pub fn sum_prefix<L: Ledger>(&self, k: usize, steps: &mut Steps<L>) -> u64
+        requires built { IsBuilt self.now }
+        requires within { k ≤ length self.now.places }
+        ensures sum { result ≡ sum_by live_amount (take k self.now.places) }
+        ensures cost { (h : ℕ) → length self.now.places ≤ 2 ^ h → Spends steps.old steps.new 0 0 (h + 2) }
+    {
+        if k == self.len {
+            return self.total.weight;
+        }
+        let before = self.below(k / WIDTH, steps).weight;
+        before + self.weight_before(k, steps)
     }
 
     /// How many live places of its own entry stand before a place.
@@ -312,21 +342,37 @@ impl LiveCounts {
         live_below(mask, k % WIDTH)
     }
 
-    /// How many live places the entries before this one have: it goes down, from node to node, until none stands before.
-    fn below<L: Ledger>(&self, entry: usize, steps: &mut Steps<L>) -> u32
+    /// What the live places of its own entry that stand before a place weigh.
+    fn weight_before<L: Ledger>(&self, k: usize, steps: &mut Steps<L>) -> u64
+        requires { k ≤ length self.now.places }
+        ensures sum { result + sum_by live_amount (take (16 * (k / 16)) self.now.places) ≡ sum_by live_amount (take k self.now.places) }
+        ensures few { result ≤ 16 * (2 ^ 32 - 1) }
+        ensures cost { Spends steps.old steps.new 0 0 2 }
+    {
+        if k % WIDTH == 0 {
+            return 0;
+        }
+        let weights = self.weights.at(k / WIDTH, steps);
+        let mask = self.masks.at(k / WIDTH, steps);
+        weight_below(&weights, mask, k % WIDTH)
+    }
+
+    /// The node over the entries before this one: it goes down, from node to node, until none stands before.
+    fn below<L: Ledger>(&self, entry: usize, steps: &mut Steps<L>) -> Node
         requires built { IsBuilt self.now }
         requires within { 16 * entry < length self.now.places + 16 }
-        ensures count { result ≡ count_by is_live (take (16 * entry) self.now.places) }
+        ensures over { IsOver self.now.places 0 (16 * entry) result }
         ensures cost { (h : ℕ) → entry < 2 ^ h → Spends steps.old steps.new 0 0 h }
     {
         let mut end = entry;
-        let mut count = 0;
+        let mut sum = NOTHING;
         while end > 0 {
             let start = end - block_len(height_at(end));
-            count += self.half(start, end, steps).count;
+            let node = self.half(start, end, steps);
+            sum = sum.plus(node);
             end = start;
         }
-        count
+        sum
     }
 
     /// The node over the first half of a block of entries.
@@ -338,10 +384,42 @@ impl LiveCounts {
         requires half { start + 2 ^ height_at end ≡ end }
         ensures over { IsOver self.now.places (16 * start) (16 * end) result }
 
-        // The number of any places fits.
+        // The sums of any places fit.
         ensures few { length self.now.places ≤ 2 ^ 31 }
+        ensures light { sum_by live_amount self.now.places ≤ length self.now.places * (2 ^ 32 - 1) }
         ensures cost { Spends steps.old steps.new 0 0 1 }
     {
         self.nodes.at(end - 1, steps)
+    }
+
+    /// The live place with exactly `j` live places below it, or None where at most `j` are live: at most `h + 1` touches, where
+    /// there are at most `2^h` places.
+    pub fn kth_live<L: Ledger>(&self, j: usize, steps: &mut Steps<L>) -> Option<usize>
+        requires built { IsBuilt self.now }
+        ensures found { IfSome result (λ k. IsLive self.now.places k) }
+        ensures rank { IfSome result (λ k. count_by is_live (take k self.now.places) ≡ j) }
+        ensures none { IsNone result ↔ (count_by is_live self.now.places ≤ j) }
+        ensures cost { (h : ℕ) → length self.now.places ≤ 2 ^ h → Spends steps.old steps.new 0 0 (h + 1) }
+    {
+        if j >= self.total.count as usize {
+            return None;
+        }
+        let last = (self.len - 1) / WIDTH;
+        let mut height = height_above(last);
+        let mut start = 0;
+        let mut rest = j;
+        while height > 0 {
+            height -= 1;
+            let end = start + block_len(height);
+            if end <= last {
+                let count = self.half(start, end, steps).count as usize;
+                if count <= rest {
+                    rest -= count;
+                    start = end;
+                }
+            }
+        }
+        let mask = self.masks.at(start, steps);
+        Some(WIDTH * start + nth_live(mask, rest))
     }
 }

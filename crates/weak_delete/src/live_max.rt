@@ -12,6 +12,7 @@ use query_laws::step_ledger::{Row, Steps};
 use row_blocks::{block_len, height_above};
 use std::alloc::Global;
 use std::marker::Model;
+use std::mem::size_of;
 use std::sync::ledger::Ledger;
 
 /// Places with a value each, which are live until they are cleared: a tournament tree in one row.
@@ -27,6 +28,11 @@ pub struct LiveMax {
     left: usize,
     sealed: bool,
 }
+
+// A touch reads or writes one entry, of at most 64 bytes.
+const _: () = prove!(size_of::<Place>() <= 64);
+
+const _: () = prove!(size_of::<Option<u32>>() <= 64);
 
 impl Model for LiveMax {
     ghost use Rattle.weak_delete.specs.Places.{LivePlaces};

@@ -1,5 +1,7 @@
-use Rattle.std.proofs.Common.{◌≡◌, length, ap, ◌∙◌, arith}
-use Rattle.weak_delete.specs.Places.{LivePlaces}
+use Rattle.std.proofs.Common.{◌≡◌, ◌-◌, ◌*◌, ◌^◌, ◌≤◌, List, length, ap, subst, ◌∙◌, arith}
+use Rattle.std.specs.List.{sum_by}
+use Rattle.weak_delete.specs.declared.place.Place.{Place}
+use Rattle.weak_delete.specs.Places.{LivePlaces, live_amount}
 use Rattle.weak_delete.specs.Fenwick.{entries_for}
 use Rattle.weak_delete.proofs.Nodes.{node_of_half, built_nodes, unturned-none}
 use Rattle.weak_delete.proofs.Packing.{length-packed}
@@ -24,3 +26,10 @@ pub returns-clause-few : goal.returns-clause-few
 returns-clause-few g c =
     let places = ap (λ (s : LivePlaces). length s.places) c.self.view_is in
     omega (arith, places, length-packed c.self.inside.weights.items c.self.inside.masks.items c.self.inside.len, c.self.invariant.within, c.self.invariant.few)
+
+pub returns-clause-light : goal.returns-clause-light
+returns-clause-light g c =
+    let places = ap (λ (s : LivePlaces). s.places) c.self.view_is in
+    let count = length-packed c.self.inside.weights.items c.self.inside.masks.items c.self.inside.len in
+    subst (λ (ps : List Place). sum_by live_amount ps ≤ length ps * (2 ^ 32 - 1)) places
+    (omega (arith, count, c.self.invariant.small, ap (λ n. n * (2 ^ 32 - 1)) count))
