@@ -85,6 +85,7 @@ impl Trees {
         ensures joined { OnOk result (sorted_ids tally.new
             ≡ sorted_union (sorted_ids tally.old) (stab x (live_of segments.now))) }
         ensures cost { Spends steps.old steps.new 0 0 (stab_touches x segments.now) }
+        ensures read { 0 < length segments.now.items → steps.old.touches < steps.new.touches }
     {
         let to = begun(segments, x, steps);
         let mut from = 0;
@@ -100,6 +101,7 @@ impl Trees {
         requires over { AreOver segments.now self.now }
         ensures value { result ≡ length (hits x segments.now) }
         ensures cost { Spends steps.old steps.new 0 0 (count_touches segments.now.items) }
+        ensures read { 0 < length segments.now.items → steps.old.touches < steps.new.touches }
     {
         let lower = begun(segments, x, steps);
         let begun = self.by_lower.prefix(lower, steps);

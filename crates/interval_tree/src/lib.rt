@@ -10,7 +10,6 @@
 #![tactic(auto)]
 
 mod answers;
-mod boxed;
 mod growing;
 mod questions;
 mod rows;

@@ -1,7 +1,6 @@
 //! The rows of the structure: the three trees, and how far they have grown.
 ghost use Rattle.std.specs.Prelude.{◌≡◌};
 
-use crate::boxed::Boxed;
 use crate::search::index_of;
 use crate::trees::Trees;
 use builder_trait::flat::{FlatBuilder, FlatPart};
@@ -9,6 +8,7 @@ use builder_trait::{Rows, RowsBuilder, RowsPart};
 use map_shapes::Segment;
 use query_laws::NoMemory;
 use query_laws::step_ledger::Steps;
+use row_blocks::Boxed;
 use std::alloc::Global;
 use std::mem::size_of;
 use std::sync::ledger::Ledger;

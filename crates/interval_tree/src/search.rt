@@ -82,6 +82,7 @@ fn partition_reordered<P: EntryTest<Segment>, L: Ledger>(
 /// How many of the first order begin at x or before it.
 pub(crate) fn begun<L: Ledger>(segments: &FlatPart<Segment>, x: u32, steps: &mut Steps<L>) -> usize
     ensures cut { IsCut (has_begun x) segments.now.items result }
+    ensures read { 0 < length segments.now.items → steps.old.touches < steps.new.touches }
     ensures cost { (h : ℕ) → length segments.now.items ≤ 2 ^ h → Spends steps.old steps.new 0 0 (h + 1) }
 {
     let row = segments.items();

@@ -9,3 +9,6 @@ partition_point-requires-clause-up_to_some g c =
 
 pub returns-clause-cost : goal.returns-clause-cost
 returns-clause-cost g c h few = Spends-searched h (c.len.result - 0) (omega (arith, ap length c.items-row.ensures.value)) c.partition_point.ensures.cost
+
+pub returns-clause-read : goal.returns-clause-read
+returns-clause-read g c some = c.partition_point.ensures.read (omega (arith, some, ap length c.items-row.ensures.value))

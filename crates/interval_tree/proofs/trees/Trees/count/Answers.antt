@@ -58,3 +58,17 @@ returns-clause-cost g c =
     (Spends-then (Spends-then (Spends-then (c.begun-lower.ensures.cost h few) (c.prefix-begun.ensures.cost h lower)) (c.ended-upper.ensures.cost h few))
     (c.prefix-ended.ensures.cost h upper))
     (omega arith) (omega arith) (omega arith)
+
+pub returns-clause-read : goal.returns-clause-read
+returns-clause-read g c some =
+    let part = c.args.segments.now in
+    let over = c.requires.over in
+    let h = height_of (length part.items) in
+    let few : length part.items ≤ 2 ^ h = (IsLeastHeight-height_of (length part.items) (omega (arith, over.few))).above in
+    let lower : length c.args.self.now.by_lower.places ≤ 2 ^ h = omega (arith, ap length over.by_lower, length-lives_of part over.flagged) in
+    let upper : length c.args.self.now.by_upper.places ≤ 2 ^ h =
+    omega (arith, ap length over.by_upper, length-lives_reordered part (length-places c.requires.valid)) in
+    let one = c.prefix-begun.ensures.cost h lower in
+    let two = c.ended-upper.ensures.cost h few in
+    let three = c.prefix-ended.ensures.cost h upper in
+    omega (arith, c.begun-lower.ensures.read some, one.touches_kept, two.touches_kept, three.touches_kept)

@@ -1,4 +1,4 @@
-use Rattle.std.proofs.Common.{◌≡◌, ℕ, ◌+◌, ◌*◌, ◌^◌, ◌≤◌, ◌++◌, List, [], ◌∷◌, length, map, filter, refl, ap, ◌∙◌, arith}
+use Rattle.std.proofs.Common.{rules, ◌≡◌, ℕ, ◌+◌, ◌*◌, ◌^◌, ◌<◌, ◌≤◌, ◌++◌, List, [], ◌∷◌, length, map, filter, refl, ap, ◌∙◌, arith}
 use Rattle.std.specs.Prelude.{nat_le}
 use Rattle.std.proofs.lemmas.Grind.{common_steps}
 use Rattle.map_model.specs.Found.{sorted_by}
@@ -47,6 +47,27 @@ paid x part from to flagged small cut ordered before last =
     searched h (length (hits_before x part from)) (length (hits x part))
     (omega (arith, length-hits_before-le x part flagged from to ordered cut.within, ap length (hits_before-all x part to flagged cut)))
     (before h few) (last h few)
+
+-- what was read before a search is read after it
+still_read : {old : ℕ} {mid new : Counts} (part : Contents Segment) → length part.items ≤ 2 ^ 31 → old < mid.touches
+    → ((h : ℕ) → length part.items ≤ 2 ^ h → Spends mid new 0 0 (6 * (h + 2) + 1)) → old < new.touches
+still_read part small read last = omega (arith, read, (last 31 small).touches_kept)
+
+pub returns-in_err-next-clause-read : goal.returns-in_err-next-clause-read
+returns-in_err-next-clause-read g c some =
+    still_read c.args.segments.now c.requires.over.few (c.loop-next.invariant.read some) c.list_next.ensures.cost
+
+pub loop-next-preserved : goal.loop-next-preserved
+loop-next-preserved g c = record {
+  ordered = search rules;
+  listed = search rules;
+  read = λ some. still_read c.args.segments.now c.requires.over.few (c.loop-next.invariant.read some) c.list_next.ensures.cost;
+  cost = search rules;
+}
+
+pub returns-clause-read : goal.returns-clause-read
+returns-clause-read g c some =
+    still_read c.args.segments.now c.requires.over.few (c.loop-next.invariant.read some) c.list_next.ensures.cost
 
 pub returns-in_err-next-clause-cost : goal.returns-in_err-next-clause-cost
 returns-in_err-next-clause-cost g c =

@@ -10,7 +10,7 @@ use std::ops::{Deref, DerefMut};
 ///
 /// Contracts see it as the value.
 #[derive(Drop)]
-pub(crate) struct Boxed<T> {
+pub struct Boxed<T> {
     inside: Box<T>,
 }
 
@@ -24,7 +24,7 @@ impl<T> Model for Boxed<T> {
 
 impl<T: Drop> Boxed<T> {
     /// `NoMemory` where memory for the box isn't given.
-    pub(crate) fn new(alloc: Global, value: T) -> Result<Boxed<T>, NoMemory>
+    pub fn new(alloc: Global, value: T) -> Result<Boxed<T>, NoMemory>
         ensures { IfOk result (λ b. b ≡ value) }
     {
         Ok(Boxed {
@@ -46,7 +46,7 @@ impl<T> Deref for Boxed<T> {
 
 impl<T> DerefMut for Boxed<T> {
     ghost use Rattle.std.specs.Borrow.{Lends, sem};
-    ghost use Rattle.interval_tree.specs.contracts.boxed.Boxed.{the_row};
+    ghost use Rattle.row_blocks.specs.contracts.boxed.Boxed.{the_row};
 
     ghost deref_mut_gives = { λ b value. value ≡ b };
 
