@@ -10,8 +10,8 @@
 //! did, and their turns count with one for each item.
 //!
 //! A put takes a turn and at most 8 touches, a turn at most 16 touches; at level i the turns after the seal are at most half of
-//! `2^i * (SLOPE * i + BASE)`. The touches of a mark and of a question are each structure's own. A mark of an item that is older than
-//! all items of a part, or younger, touches nothing, whatever the structure.
+//! `2^i * (SLOPE * i + BASE)`. The touches of a mark and of a question are each structure's own; a question to a part that has items takes one
+//! at least. A mark of an item that is older than all items of a part, or younger, touches nothing, whatever the structure.
 //!
 //! [`Builder::seal`] asks only that as many items were put in the second order as in the first: different items of a list, as many as
 //! it has, are all of them. A part keeps the least and the greatest stamp of its items, since a drop asks part after part until one has

@@ -46,10 +46,11 @@ pub trait Part: Drop {
         ensures value { result ≡ place_of order (contents self.now) k }
         ensures cost { Spends steps.old steps.new 0 0 2 };
 
-    /// Whether the item at a place of the first order is live: two touches at most.
+    /// Whether the item at a place of the first order is live: one touch or two.
     fn alive<L: Ledger>(&self, k: usize, steps: &mut Steps<L>) -> bool
         requires { k < length (contents self.now).items }
         ensures value { slice_get (contents self.now).flags k ≡ Some result }
+        ensures read { steps.old.touches < steps.new.touches }
         ensures cost { Spends steps.old steps.new 0 0 2 };
 
     /// Marks an item as dead, where it is there and live, and says whether it was. One mark either way, and no touch for an item
@@ -89,5 +90,8 @@ pub trait Answers<Q: Question<Item = Self::Item>>: Part {
             ≡ Q.join question.now (Q.Tally.so_far tally.old) (Q.value question.now (live_of (Self.contents self.now)))) }
         ensures refused { IsErr result → IsTrue (Q.Tally.can_refuse tally.old) }
         ensures same_refusal { Q.Tally.can_refuse tally.new ≡ Q.Tally.can_refuse tally.old }
-        ensures cost { Spends steps.old steps.new 0 0 (ask_touches question.now self.now) };
+        ensures cost { Spends steps.old steps.new 0 0 (ask_touches question.now self.now) }
+
+        // No answer comes without a counted read.
+        ensures read { 0 < length (Self.contents self.now).items → steps.old.touches < steps.new.touches };
 }

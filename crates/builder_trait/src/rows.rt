@@ -163,7 +163,8 @@ pub trait AnsweringRows<Q: Question<Item = Self::Item>>: Rows {
             ≡ Q.join question.now (Q.Tally.so_far tally.old) (Q.value question.now (live_of items.now))) }
         ensures refused { IsErr result → IsTrue (Q.Tally.can_refuse tally.old) }
         ensures same_refusal { Q.Tally.can_refuse tally.new ≡ Q.Tally.can_refuse tally.old }
-        ensures cost { Spends steps.old steps.new 0 0 (ask_touches question.now items.now) };
+        ensures cost { Spends steps.old steps.new 0 0 (ask_touches question.now items.now) }
+        ensures read { 0 < length items.now.items → steps.old.touches < steps.new.touches };
 }
 
 /// Items, and the rows of a structure over them. Only a [`RowsBuilder`] makes one.

@@ -30,6 +30,7 @@ pub fn partition_point<T: Copy, P: EntryTest<T>, L: Ledger>(
     ensures to_high { result ≤ high }
     ensures before { (k : ℕ) (d : T) → low ≤ k → k < result → IsTrue (P.passes test.now (slice_index_or row.now.items k d)) }
     ensures after { (k : ℕ) (d : T) → result ≤ k → k < high → P.passes test.now (slice_index_or row.now.items k d) ≡ false }
+    ensures read { low < high → steps.old.touches < steps.new.touches }
     ensures cost { (h : ℕ) → high - low < 2 ^ h → Spends steps.old steps.new 0 0 h }
 {
     if low == high {

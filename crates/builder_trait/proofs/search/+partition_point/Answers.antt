@@ -1,5 +1,6 @@
-use Rattle.std.proofs.Common.{◌+◌, ◌-◌, ◌/◌, arith, sym, ⊎_elim}
+use Rattle.std.proofs.Common.{◌+◌, ◌-◌, ◌/◌, arith, ap, sym, ⊎_elim}
 use Rattle.std.proofs.lemmas.Bool.{cases_lt}
+use Rattle.query_laws.specs.StepLedger.{Counts}
 use Rattle.builder_trait.proofs.SearchLemmas.{passes_up_to, fails_from, Spends-halved}
 use Rattle.builder_trait.proofs.search.+partition_point.Goals as goal
 
@@ -10,6 +11,11 @@ returns-then-passes-clause-before g t c k d above below =
     c.requires.up_to_some (omega arith) (omega arith) c.at-entry.result c.at-entry.ensures.read (sym c.if-passes.ensures) k d above up_to)
     (λ past. c.partition_point.ensures.before k d past below)
     (cases_lt k (c.args.low + (c.args.high - c.args.low) / 2 + 1))
+
+pub returns-then-passes-clause-read : goal.returns-then-passes-clause-read
+returns-then-passes-clause-read g t c some =
+    let rest = c.partition_point.ensures.cost 64 (omega arith) in
+    omega (arith, ap (λ (s : Counts). s.touches) c.at-entry.ensures.touched, rest.touches_kept)
 
 pub returns-then-passes-clause-cost : goal.returns-then-passes-clause-cost
 returns-then-passes-clause-cost g t c h small =
@@ -23,6 +29,11 @@ returns-else-passes-clause-after g t c k d above below =
     (λ from. fails_from (g.P.EntryTest.passes c.args.test.now) c.args.row.now.items c.args.low c.args.high (c.args.low + (c.args.high - c.args.low) / 2)
     c.requires.up_to_some (omega arith) (omega arith) c.at-entry.result c.at-entry.ensures.read (sym c.if-passes.ensures) k d from below)
     (cases_lt k (c.args.low + (c.args.high - c.args.low) / 2))
+
+pub returns-else-passes-clause-read : goal.returns-else-passes-clause-read
+returns-else-passes-clause-read g t c some =
+    let rest = c.partition_point-else-passes.ensures.cost 64 (omega arith) in
+    omega (arith, ap (λ (s : Counts). s.touches) c.at-entry.ensures.touched, rest.touches_kept)
 
 pub returns-else-passes-clause-cost : goal.returns-else-passes-clause-cost
 returns-else-passes-clause-cost g t c h small =
