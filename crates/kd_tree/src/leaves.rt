@@ -16,6 +16,7 @@ use crate::spot::Spot;
 use query_laws::NoMemory;
 use query_laws::step_ledger::{Row, Steps};
 use std::alloc::Global;
+use std::mem::size_of;
 use std::sync::ledger::Ledger;
 
 /// The leaves over some positions: one entry for the spots of eight of them, and one for which are live.
@@ -24,6 +25,11 @@ pub(crate) struct Leaves {
     pub(crate) spots: Row<[Spot; 8]>,
     pub(crate) live: Row<[bool; 8]>,
 }
+
+// A touch reads or writes one entry, of at most 64 bytes.
+const _: () = prove!(size_of::<[Spot; 8]>() <= 64);
+
+const _: () = prove!(size_of::<[bool; 8]>() <= 64);
 
 /// The least box with another and a spot, if it is live.
 #[inline]

@@ -12,6 +12,7 @@ use map_shapes::Point;
 use query_laws::NoMemory;
 use query_laws::step_ledger::{Row, Steps};
 use std::alloc::Global;
+use std::mem::size_of;
 use std::sync::ledger::Ledger;
 
 /// Points of which the nearest to any place can be found: a k-d tree (Bentley 1975), in which points are marked as dead (weak
@@ -50,6 +51,11 @@ pub struct KdRows {
     pub(crate) place: usize,
     pub(crate) left: u64,
 }
+
+// A touch reads or writes one entry, of at most 64 bytes.
+const _: () = prove!(size_of::<Point>() <= 64);
+
+const _: () = prove!(size_of::<[Area; 4]>() <= 64);
 
 impl Rows for KdRows {
     ghost use Rattle.std.specs.Prelude.{◌≡◌, ◌*◌, ◌+◌, refl};

@@ -174,6 +174,7 @@ impl KdRows {
         ensures children { All (IsChild points.now self.now.places.items near.now self.now.depth (length points.now.items) (block.now.level - 1)) result }
         ensures live { let live = live_in_block points.now self.now.places.items in Permuted (flat_map live result) (live block.now) }
         ensures work { work_of_all (length points.now.items) result + 1 ≡ work_of (length points.now.items) block.now }
+        ensures read { steps.old.touches < steps.new.touches }
         ensures cost { Spends steps.old steps.new 0 0 1 }
     {
         let from = spot_asked(near);
@@ -263,6 +264,7 @@ impl KdRows {
         requires few { IsFirstFew nearer_le (T.most tally.old) (T.kept tally.old) }
         ensures taken { Takes (T.most tally.old) (T.kept tally.old) (founds near.now (live_of points.now)) (T.kept tally.new) }
         ensures most { T.most tally.new ≡ T.most tally.old }
+        ensures read { 0 < length points.now.items → steps.old.touches < steps.new.touches }
         ensures cost { Spends steps.old steps.new 0 0 (16 * (length points.now.items + 1)) }
     {
         // By their contracts each place stands once, and each point has a flag.

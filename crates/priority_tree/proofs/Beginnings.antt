@@ -127,6 +127,7 @@ module _ (b : Progress Point) (heap : Heap) (filling : IsFilling b.at_level b.it
 
   pub shape_begun : IsShape (length b.items) heap height
   shape_begun = record {
+    leaves = filling.leaves_enough;
     low = omega (arith, height_low, filling.small);
     places = λ some. let most : 2 ^ height ≤ 2 ^ (b.at_level - 4) = pow_mono height_low in
         omega (arith, filling.places, places_enough height (length heap.leaves.items) least some, most);

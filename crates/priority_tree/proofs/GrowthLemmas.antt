@@ -132,6 +132,7 @@ module _ (part : Contents Point) (rows : TopRows) (grown : IsGrown part rows) wh
         few = grown.few;
         room = record { leaves = same.leaf_room ∙ grown.room.leaves; nodes = same.node_room ∙ grown.room.nodes };
         shape = record {
+          leaves = omega (arith, grown.shape.leaves, same.as_many_leaves);
           low = grown.shape.low;
           places = λ some. omega (arith, grown.shape.places some, same.as_many_nodes);
           least = grown.shape.least;

@@ -44,6 +44,7 @@ IsTree-marked part before old new height place p tree same_part died live heap t
     nodes = same.node_room ∙ (subst (λ (c : Contents Point). HasRoom c.at_level old) same_part tree.room).nodes;
   };
   shape = record {
+    leaves = omega (arith, tree.shape.leaves, same.as_many_leaves, ap (λ (c : Contents Point). length c.items) same_part);
     low = tree.shape.low;
     places = λ some. omega (arith, tree.shape.places some, same.as_many_nodes);
     least = λ h few. tree.shape.least h (subst (λ (c : Contents Point). length c.items ≤ 2 ^ h) (sym same_part) few);

@@ -1,5 +1,5 @@
 -- What binary searches among points of the first order need, and what they find.
-use Rattle.std.proofs.Common.{◌≡◌, ℕ, ◌==◌, ◌<◌, ◌≤◌, ◌&&◌, ◌||◌, Bool, false, true, nat_lt, IsTrue, List, length, get_or, Some, slice_get, arith, subst, inl, inr}
+use Rattle.std.proofs.Common.{◌≡◌, ℕ, ◌<◌, ◌≤◌, ◌&&◌, Bool, nat_lt, List, length, get_or, Some, slice_get, arith, subst, inl, inr}
 use Rattle.std.specs.Prelude.{nat_le}
 use Rattle.std.proofs.lemmas.Bool.{cases_lt}
 use Rattle.std.proofs.lemmas.Bool.Decides.{nat_tests}
@@ -10,36 +10,12 @@ use Rattle.query_laws.specs.Orders.{before_in}
 use Rattle.query_laws.specs.declared.item.Order.{Order}
 use Rattle.query_laws.specs.declared.item.Order.TheVariants.{First}
 use Rattle.map_shapes.specs.declared.point.Point.{Point}
-use Rattle.priority_tree.specs.declared.strip.Reach.{Reach}
-use Rattle.priority_tree.specs.declared.strip.Reach.TheVariants.{Below, UpTo}
-use Rattle.priority_tree.specs.Strips.{reaches}
+use Rattle.map_structures.specs.declared.reach.Reach.{Reach}
+use Rattle.map_structures.specs.Reach.{reaches}
+use Rattle.map_structures.proofs.Reaching.{reaches-down, abscissa-from_before}
 
 abbrev before : Order → Point → Point → Bool
 before order a b = before_in (λ (p : Point). p.x) (λ (p : Point). p.y) (λ (p : Point). p.stamp) order a b
-
-reaches-down : (reach : Reach) (a b : ℕ) → a ≤ b → IsTrue (reaches reach b) → IsTrue (reaches reach a)
-reaches-down (Below bound) a b le passed = grind (arith, nat_tests)
-reaches-down (UpTo bound) a b le passed = grind (arith, nat_tests)
-
--- what lies before the first x that isn't reached, and what doesn't
-pub below-from_reaches : (bound x : ℕ) → IsTrue (reaches (Below bound) x) → x < bound
-below-from_reaches bound x passed = grind (arith, nat_tests)
-
-pub from-from_reaches : (bound x : ℕ) → reaches (Below bound) x ≡ false → bound ≤ x
-from-from_reaches bound x failed = grind (arith, nat_tests)
-
-pub up_to-from_reaches : (bound x : ℕ) → IsTrue (reaches (UpTo bound) x) → x ≤ bound
-up_to-from_reaches bound x passed = grind (arith, nat_tests)
-
-pub above-from_reaches : (bound x : ℕ) → reaches (UpTo bound) x ≡ false → bound < x
-above-from_reaches bound x failed = grind (arith, nat_tests)
-
--- points in the first order have x that don't fall
-abscissa-from_before : (a b : Point) → IsTrue (before First a b) → a.x ≤ b.x
-abscissa-from_before a b ahead = by a.x b.x a.y b.y a.stamp b.stamp ahead
-  where
-    by : (x y p q s t : ℕ) → (nat_lt x y || ((x == y) && (nat_lt p q || ((p == q) && nat_lt s t)))) ≡ true → x ≤ y
-    by x y p q s t ahead = grind (arith, nat_tests)
 
 pub PassesUpTo-xs : (reach : Reach) (points : List Point) (low high : ℕ) → Parts.IsRising (before First) points → high ≤ length points
     → PassesUpTo (λ p. reaches reach p.x) points low high

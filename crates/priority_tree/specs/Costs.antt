@@ -1,5 +1,5 @@
 -- The most touches of one question.
-use Rattle.std.specs.Prelude.{◌≡◌, ℕ, ◌+◌, ◌-◌, ◌*◌, ◌≤◌, List, length, filter}
+use Rattle.std.specs.Prelude.{ℕ, ◌+◌, ◌*◌, ◌≤◌, List, length, filter}
 use Rattle.std.proofs.Common.{arith}
 use Rattle.builder_trait.specs.Parts.{Contents, live_of}
 use Rattle.map_structures.specs.Touches.{PartTouches, AreFew}

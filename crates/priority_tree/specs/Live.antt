@@ -1,5 +1,5 @@
 -- What the tree holds of a part.
-use Rattle.std.specs.Prelude.{◌≡◌, ℕ, suc, ◌-◌, ◌^◌, ◌≤◌, ◌<◌, Bool, true, false, List, [], ◌∷◌, length}
+use Rattle.std.specs.Prelude.{◌≡◌, ℕ, suc, ◌-◌, ◌*◌, ◌^◌, ◌≤◌, ◌<◌, Bool, true, false, List, [], ◌∷◌, length}
 use Rattle.query_laws.specs.Permuted.{Permuted}
 use Rattle.builder_trait.specs.Parts.{Contents}
 use Rattle.map_shapes.specs.declared.point.Point.{Point}
@@ -23,8 +23,9 @@ pub record HasRoom (level : ℕ) (heap : Heap) : Type 0 where
   pub leaves : heap.leaves.capacity ≡ 2 ^ (level - 4)
   pub nodes : heap.nodes.capacity ≡ 2 ^ (level - 4)
 
--- The places above the leaves of so many points are there, and the tree is no higher than wanted.
+-- The leaves of so many points and the places above them are there, and the tree is no higher than wanted.
 pub record IsShape (points : ℕ) (heap : Heap) (height : ℕ) : Type 0 where
+  pub leaves : points ≤ 16 * length heap.leaves.items
   pub low : height ≤ 27
   pub places : 0 < height → 2 ^ height ≤ length heap.nodes.items
   pub least : (h : ℕ) → points ≤ 2 ^ h → height ≤ h

@@ -5,13 +5,6 @@ use Rattle.map_shapes.specs.declared.point.Point.{Point}
 use Rattle.map_shapes.specs.Point.{shape_of}
 use Rattle.priority_tree.specs.declared.entry.Entry.{Entry}
 use Rattle.priority_tree.specs.declared.strip.Strip.{Strip}
-use Rattle.priority_tree.specs.declared.strip.Reach.{Reach}
-use Rattle.priority_tree.specs.declared.strip.Reach.TheVariants.{Below, UpTo}
-
--- the x is one of those below the bound, or up to it
-abbrev pub reaches : Reach → ℕ → Bool
-reaches (Below bound) x = nat_lt x bound
-reaches (UpTo bound) x = nat_le x bound
 
 -- the strip has a place, and a point by its place
 abbrev pub is_at : Strip → ℕ → Bool

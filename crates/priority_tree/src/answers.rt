@@ -1,5 +1,5 @@
 //! Answers to questions, from the points of a strip.
-ghost use Rattle.std.specs.Prelude.{◌≡◌, OnOk};
+ghost use Rattle.std.specs.Prelude.{◌≡◌, ◌<◌, OnOk, length};
 ghost use Rattle.query_laws.specs.StepLedger.{Spends};
 ghost use Rattle.builder_trait.specs.Parts.{live_of};
 ghost use Rattle.map_shapes.specs.Found.{higher_le};
@@ -32,6 +32,7 @@ impl TopRows {
         requires tree { IsTree points.now self.now.heap self.now.height }
         ensures joined { tally.new ≡ first_of_both higher_le tally.old (top question.now.x1 question.now.x2 (live_of points.now)) }
         ensures cost { Spends steps.old steps.new 0 0 (top_touches points.now.items) }
+        ensures read { 0 < length points.now.items → steps.old.touches < steps.new.touches }
     {
         let Some(entry) = self.heap.front(self.height, 0, steps) else {
             return;
@@ -56,6 +57,7 @@ impl TopRows {
         ensures joined { OnOk result (sorted_ids tally.new
             ≡ sorted_union (sorted_ids tally.old) (above question.now.x1 question.now.x2 question.now.y (live_of points.now))) }
         ensures cost { Spends steps.old steps.new 0 0 (above_touches question.now.x1 question.now.x2 question.now.y points.now) }
+        ensures read { 0 < length points.now.items → steps.old.touches < steps.new.touches }
     {
         let strip = strip_of(points, question.x1, question.x2, steps);
         self.heap

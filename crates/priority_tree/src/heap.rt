@@ -49,6 +49,7 @@ impl Heap {
     /// A leaf, empty where there is none.
     pub(crate) fn leaf<L: Ledger>(&self, l: usize, steps: &mut Steps<L>) -> Leaf
         ensures value { result ≡ leaf_at self.now l }
+        ensures read { l < length self.now.leaves.items → steps.old.touches < steps.new.touches }
         ensures cost { Spends steps.old steps.new 0 0 1 }
     {
         if l < self.leaves.len() {
@@ -63,6 +64,7 @@ impl Heap {
     pub(crate) fn held<L: Ledger>(&self, k: usize, steps: &mut Steps<L>) -> Option<Entry>
         requires { k < length self.now.nodes.items }
         ensures value { result ≡ node_at self.now k }
+        ensures read { steps.old.touches < steps.new.touches }
         ensures cost { Spends steps.old steps.new 0 0 1 }
     {
         self.nodes.at(k, steps)
@@ -79,6 +81,7 @@ impl Heap {
         requires heap { IsHeap self.now height start }
         ensures front { IsFront result (entries_in self.now height start) }
         ensures head { IfSome result (λ e. IsHead self.now height start e) }
+        ensures read { start < length self.now.leaves.items → steps.old.touches < steps.new.touches }
         ensures cost { Spends steps.old steps.new 0 0 1 }
     {
         if height == 0 {

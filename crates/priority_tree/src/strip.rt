@@ -1,33 +1,16 @@
 //! Strips: the places whose points have x between two.
 ghost use Rattle.std.specs.Prelude.{◌≡◌, ◌+◌, ◌*◌, ◌^◌, ◌≤◌, ◌<◌, ℕ, length};
 ghost use Rattle.query_laws.specs.StepLedger.{Spends};
-ghost use Rattle.priority_tree.specs.Strips.{reaches, is_at, is_missed, IsStrip};
+ghost use Rattle.priority_tree.specs.Strips.{is_at, is_missed, IsStrip};
 
 use crate::leaf::LEAF_LEN;
 use builder_trait::flat::FlatPart;
-use builder_trait::{EntryTest, partition_point};
+use builder_trait::partition_point;
 use map_shapes::Point;
+use map_structures::Reach;
 use query_laws::step_ledger::Steps;
 use row_blocks::block_len;
 use std::sync::ledger::Ledger;
-
-/// The x below a bound, or up to it.
-#[derive(Clone, Copy)]
-pub(crate) enum Reach {
-    Below(u32),
-    UpTo(u32),
-}
-
-impl EntryTest<Point> for Reach {
-    ghost passes = { λ reach point. reaches reach point.x };
-
-    fn passes(&self, point: &Point) -> bool {
-        match *self {
-            Reach::Below(bound) => point.x < bound,
-            Reach::UpTo(bound) => point.x <= bound,
-        }
-    }
-}
 
 /// Neighbouring places of the first order: those from `from` on and below `to`.
 #[derive(Clone, Copy)]
@@ -64,6 +47,7 @@ pub(crate) fn strip_of<L: Ledger>(
     steps: &mut Steps<L>,
 ) -> Strip
     ensures strip { IsStrip points.now.items x1 x2 result }
+    ensures read { 0 < length points.now.items → steps.old.touches < steps.new.touches }
     ensures cost { (h : ℕ) → length points.now.items ≤ 2 ^ h → Spends steps.old steps.new 0 0 (2 * (h + 1)) }
 {
     let row = points.items();

@@ -2,8 +2,9 @@ use Rattle.std.proofs.Common.{◌-◌, ◌<◌, ◌≤◌, ◌^◌, List, length
 use Rattle.map_shapes.specs.declared.point.Point.{Point}
 use Rattle.query_laws.proofs.Counting.{Spends-then, Spends-within}
 use Rattle.builder_trait.proofs.SearchLemmas.{Spends-searched}
-use Rattle.priority_tree.specs.declared.strip.Reach.TheVariants.{Below, UpTo}
-use Rattle.priority_tree.proofs.Searching.{PassesUpTo-xs, below-from_reaches, from-from_reaches, up_to-from_reaches, above-from_reaches, at_place, is_between_places}
+use Rattle.map_structures.specs.declared.reach.Reach.TheVariants.{Below, UpTo}
+use Rattle.map_structures.proofs.Reaching.{below-from_reaches, from-from_reaches, up_to-from_reaches, above-from_reaches}
+use Rattle.priority_tree.proofs.Searching.{PassesUpTo-xs, at_place, is_between_places}
 use Rattle.priority_tree.proofs.strip.strip_of.Goals as goal
 
 pub partition_point-from-requires-clause-up_to_some : goal.partition_point-from-requires-clause-up_to_some
@@ -43,3 +44,10 @@ returns-clause-cost g c h few =
     (Spends-then (Spends-searched h (c.len.result - 0) first c.partition_point-from.ensures.cost)
     (Spends-searched h (c.len-2.result - c.partition_point-from.result) second c.partition_point-to.ensures.cost))
     refl refl (omega arith)
+
+pub returns-clause-read : goal.returns-clause-read
+returns-clause-read g c some =
+    let long = ap (λ (l : List Point). length l) c.items-row.ensures.value in
+    let first = c.partition_point-from.ensures.read (omega (arith, some, long, c.len.ensures.value)) in
+    let rest = c.partition_point-to.ensures.cost 64 (omega arith) in
+    omega (arith, first, rest.touches_kept)

@@ -125,3 +125,9 @@ returns-clause-cost g c =
     work-all n rows.depth (omega (arith, c.if-len-eq0.false, c.len.ensures.value)) (omega (arith, shallow part rows c.requires.tree)) in
     Spends-within (Spends-then c.blocks_of-blocks.ensures.cost c.loop-block.invariant.spent) refl refl
     (omega (arith, ap (work_of_all n) begun, opened, sum_by-cons (work_of n) (root rows.depth) [], root_work n rows.depth, all))
+
+pub returns-then-are_left_out-clause-read : goal.returns-then-are_left_out-clause-read
+returns-then-are_left_out-clause-read g c some = c.blocks_of-blocks.ensures.read
+
+pub returns-clause-read : goal.returns-clause-read
+returns-clause-read g c some = omega (arith, c.blocks_of-blocks.ensures.read, c.loop-block.invariant.spent.touches_kept)

@@ -23,3 +23,6 @@ returns-clause-cost g c =
     let hits = many_hits c.args.points.now c.args.self.now.heap c.args.self.now.height c.requires.tree c.args.question.now.x1 c.args.question.now.x2 c.args.question.now.y
     c.strip_of-strip.result c.strip_of-strip.ensures.strip in
     Spends-within (Spends-then (c.strip_of-strip.ensures.cost (height_of n) h.0) c.list.ensures.cost) refl refl (omega (arith, walk, hits))
+
+pub returns-clause-read : goal.returns-clause-read
+returns-clause-read g c some = omega (arith, c.strip_of-strip.ensures.read some, c.list.ensures.cost.touches_kept)

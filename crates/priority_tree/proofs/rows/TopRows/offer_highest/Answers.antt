@@ -34,3 +34,16 @@ pub returns-else-beats-clause-joined : goal.returns-else-beats-clause-joined
 returns-else-beats-clause-joined g c =
     joined_beaten c.args.points.now c.args.self.now.heap c.args.self.now.height c.requires.tree c.args.question.now.x1 c.args.question.now.x2 c.args.tally.now c.beats.result
     c.in-Some.entry (subst (λ o. IsFront o (entries_in c.args.self.now.heap c.args.self.now.height 0)) c.in-Some.is c.front.ensures.front).1 c.beats.ensures c.if-beats.false
+
+pub returns-in_default-clause-read : goal.returns-in_default-clause-read
+returns-in_default-clause-read g c some = c.front.ensures.read (omega (arith, c.requires.tree.shape.leaves, some))
+
+pub returns-then-beats-clause-read : goal.returns-then-beats-clause-read
+returns-then-beats-clause-read g c some =
+    let h = height_is_least c.args.points.now c.args.self.now.heap c.args.self.now.height c.requires.tree in
+    let strip = c.strip_of-strip.ensures.cost (height_of (length c.args.points.now.items)) h.0 in
+    let first = c.front.ensures.read (omega (arith, c.requires.tree.shape.leaves, some)) in
+    omega (arith, first, strip.touches_kept, c.offer.ensures.cost.touches_kept)
+
+pub returns-else-beats-clause-read : goal.returns-else-beats-clause-read
+returns-else-beats-clause-read g c some = c.front.ensures.read (omega (arith, c.requires.tree.shape.leaves, some))
