@@ -1,17 +1,17 @@
--- Bits that tell which y of a leaf are in a rectangle.
-use Rattle.std.proofs.Common.{◌≡◌, ℕ, ◌+◌, ◌-◌, ◌*◌, ◌/◌, ◌%◌, ◌^◌, ◌<◌, ◌≤◌, ◌&&◌, ◌⊎◌, inl, inr, Bool, true, false, cond, leb, List, map, length, get_or, min, replicate, slice_index_or, w32, w64, refl, sym, ap, ap₂, ◌∙◌, arith, bit_and}
+-- Bits that tell which live points of a leaf have y in a rectangle.
+use Rattle.std.proofs.Common.{◌≡◌, ℕ, ◌+◌, ◌-◌, ◌*◌, ◌/◌, ◌%◌, ◌^◌, ◌<◌, ◌≤◌, ◌==◌, ◌&&◌, ◌⊎◌, inl, inr, Bool, true, false, cond, leb, List, map, length, get_or, min, replicate, slice_index, w32, w64, refl, sym, ap, ap₂, ◌∙◌, arith, bit_and}
 use Rattle.std.specs.Int.{bit_at, trailing_zeros}
 use Rattle.std.proofs.lemmas.Bool.{cases_lt}
+use Rattle.std.proofs.lemmas.Bool.Decides.{nat_tests}
 use Rattle.std.proofs.lemmas.List.{length-map, get_or-map}
 use Rattle.std.proofs.lemmas.Nat.{pow_pos, shr-shr, shr_split, shr_below, mod_below, and_mask, one_shl}
-use Rattle.std.proofs.lemmas.Nat.Bits.{bit_at_and, bit_at_cat_low, bit_at_above, bit_at-zero, bit_at-trailing_zeros}
+use Rattle.std.proofs.lemmas.Nat.Bits.{bit_at_and, bit_at_cat_low, bit_at_above, bit_at-zero, bit_at-lt, bit_at-trailing_zeros}
 use Rattle.std.proofs.lemmas.Simd.{tops_compared, zip2_splat_left, mask_l-mod, bit_mask_l}
 use lib.Lanes.{zip2, mask_l, top}
 use mir.Val.{bits, hbits}
 use Rattle.map_shapes.specs.declared.rect.Rect.{Rect}
 use Rattle.range_tree.specs.declared.leaves.Leaf.{Leaf}
-use Rattle.range_tree.specs.Tree.{nowhere}
-use Rattle.range_tree.specs.LeafHits.{AreHits}
+use Rattle.range_tree.specs.LeafHits.{AreHits, is_hit}
 use Rattle.range_tree.specs.Queries.{has_y}
 
 -- all lanes compared with one number, from its side
@@ -27,8 +27,12 @@ both true false = refl
 both false true = refl
 both false false = refl
 
-mask_bit : (test : ℕ → Bool) (ys : List ℕ) (j : ℕ) → j < length ys → bit_at (mask_l (map test ys)) j ≡ cond (test (get_or ys j nowhere)) 1 0
-mask_bit test ys j inside = bit_mask_l (map test ys) j ∙ ap (λ b. cond b 1 0) (get_or-map test ys j nowhere false inside)
+mask_bit : (test : ℕ → Bool) (ys : List ℕ) (j : ℕ) → j < length ys → bit_at (mask_l (map test ys)) j ≡ cond (test (get_or ys j 0)) 1 0
+mask_bit test ys j inside = bit_mask_l (map test ys) j ∙ ap (λ b. cond b 1 0) (get_or-map test ys j 0 false inside)
+
+-- a bit of a mask, as a test
+live_test : (bit : ℕ) → bit < 2 → bit ≡ cond (bit == 1) 1 0
+live_test bit low = grind (arith, nat_tests)
 
 -- further up, and no further than some bits
 shifted : (n s j : ℕ) → bit_at (n / 2 ^ s) j ≡ bit_at n (s + j)
@@ -37,29 +41,37 @@ shifted n s j = ap (λ m. m % 2) (shr-shr n s j)
 cut : (n k j : ℕ) → j < k → bit_at (n % 2 ^ k) j ≡ bit_at n j
 cut n k j inside = sym (bit_at_cat_low (n / 2 ^ k) k (n % 2 ^ k) j inside) ∙ ap (λ m. bit_at m j) (shr_split n k)
 
--- both comparisons, those of some places alone
+-- both comparisons and the bits of the live ones, those of some places alone
 pub hits_are : (rect : Rect) (leaf : Leaf) (place to : ℕ) → length leaf.ys ≡ 16 → place % 16 + (to - place) ≤ 16
     → (above below own : ℕ) → above ≡ mask_l (map (leb rect.y1) leaf.ys) → below ≡ mask_l (map (λ y. leb y rect.y2) leaf.ys)
     → own ≡ 1 * 2 ^ (to - place) % 2 ^ 64 - 1
-    → AreHits rect leaf place to (bit_and (bit_and above below / 2 ^ (place % 16)) own)
+    → AreHits rect leaf place to (bit_and (bit_and (bit_and above below) leaf.live / 2 ^ (place % 16)) own)
 hits_are rect leaf place to long inside above below own low high mask = record {
   each = λ j less.
       let at : place % 16 + j ≡ (place + j) % 16 = omega arith in
       let within : place % 16 + j < length leaf.ys = omega arith in
-      ap (λ n. bit_at n j) is ∙ cut (bit_and above below / 2 ^ (place % 16)) (to - place) j less
-      ∙ shifted (bit_and above below) (place % 16) j
-      ∙ bit_at_and above below (place % 16 + j)
-      ∙ ap₂ min (ap (λ n. bit_at n (place % 16 + j)) low ∙ mask_bit (leb rect.y1) leaf.ys (place % 16 + j) within)
-      (ap (λ n. bit_at n (place % 16 + j)) high ∙ mask_bit (λ y. leb y rect.y2) leaf.ys (place % 16 + j) within)
-      ∙ both (leb rect.y1 (get_or leaf.ys (place % 16 + j) nowhere)) (leb (get_or leaf.ys (place % 16 + j) nowhere) rect.y2)
-      ∙ ap (λ k. cond (has_y rect (slice_index_or leaf.ys k nowhere)) 1 0) at;
-  no_more = omega (arith, is, mod_below (bit_and above below / 2 ^ (place % 16)) (2 ^ (to - place)) (pow_pos (to - place)));
+      ap (λ n. bit_at n j) is ∙ cut (all / 2 ^ (place % 16)) (to - place) j less ∙ shifted all (place % 16) j ∙ one (place % 16 + j) within
+      ∙ ap (λ k. cond (has_y rect (slice_index leaf.ys k) && (bit_at leaf.live k == 1)) 1 0) at;
+  no_more = omega (arith, is, mod_below (all / 2 ^ (place % 16)) (2 ^ (to - place)) (pow_pos (to - place)));
 }
   where
-    is : bit_and (bit_and above below / 2 ^ (place % 16)) own ≡ bit_and above below / 2 ^ (place % 16) % 2 ^ (to - place)
+    all : ℕ
+    all = bit_and (bit_and above below) leaf.live
+
+    is : bit_and (all / 2 ^ (place % 16)) own ≡ all / 2 ^ (place % 16) % 2 ^ (to - place)
     is =
-        ap (bit_and (bit_and above below / 2 ^ (place % 16))) (mask ∙ ap (λ n. n - 1) (one_shl (to - place) 64 (omega arith)))
-        ∙ and_mask (bit_and above below / 2 ^ (place % 16)) (to - place)
+        ap (bit_and (all / 2 ^ (place % 16))) (mask ∙ ap (λ n. n - 1) (one_shl (to - place) 64 (omega arith)))
+        ∙ and_mask (all / 2 ^ (place % 16)) (to - place)
+
+    one : (i : ℕ) → i < length leaf.ys → bit_at all i ≡ cond (has_y rect (slice_index leaf.ys i) && (bit_at leaf.live i == 1)) 1 0
+    one i within =
+        bit_at_and (bit_and above below) leaf.live i
+        ∙ ap₂ min
+        (bit_at_and above below i
+        ∙ ap₂ min (ap (λ n. bit_at n i) low ∙ mask_bit (leb rect.y1) leaf.ys i within) (ap (λ n. bit_at n i) high ∙ mask_bit (λ y. leb y rect.y2) leaf.ys i within)
+        ∙ both (leb rect.y1 (slice_index leaf.ys i)) (leb (slice_index leaf.ys i) rect.y2))
+        (live_test (bit_at leaf.live i) (bit_at-lt leaf.live i))
+        ∙ both (has_y rect (slice_index leaf.ys i)) (bit_at leaf.live i == 1)
 
 -- a bit is the test
 on : (b : Bool) (n : ℕ) → n ≡ cond b 1 0 → n ≡ 1 → b ≡ true
@@ -72,10 +84,10 @@ off false n is none = refl
 
 module _ (rect : Rect) (leaf : Leaf) (place to left : ℕ) (are : AreHits rect leaf place to left) where
   -- where no bit is set, none is hit
-  pub none_hit : left ≡ 0 → (k : ℕ) → place ≤ k → k < to → has_y rect (slice_index_or leaf.ys (k % 16) nowhere) ≡ false
+  pub none_hit : left ≡ 0 → (k : ℕ) → place ≤ k → k < to → is_hit rect leaf k ≡ false
   none_hit none k low high =
       let back : place + (k - place) ≡ k = omega arith in
-      ap (λ i. has_y rect (slice_index_or leaf.ys (i % 16) nowhere)) (sym back)
+      ap (λ i. is_hit rect leaf i) (sym back)
       ∙ off _ (bit_at left (k - place)) (are.each (k - place) (omega arith)) (ap (λ n. bit_at n (k - place)) none ∙ bit_at-zero (k - place))
 
   module _ (some : 0 < left) (small : left < 2 ^ 64) where
@@ -97,13 +109,13 @@ module _ (rect : Rect) (leaf : Leaf) (place to left : ℕ) (are : AreHits rect l
 
     -- none before the lowest bit, and that one
     pub none_before_hit : (k : ℕ) → place ≤ k → k < place + trailing_zeros w64 left
-        → has_y rect (slice_index_or leaf.ys (k % 16) nowhere) ≡ false
+        → is_hit rect leaf k ≡ false
     none_before_hit k low high =
         let back : place + (k - place) ≡ k = omega arith in
-        ap (λ i. has_y rect (slice_index_or leaf.ys (i % 16) nowhere)) (sym back)
+        ap (λ i. is_hit rect leaf i) (sym back)
         ∙ off _ (bit_at left (k - place)) (are.each (k - place) (omega (arith, gap_inside))) (lowest.2 (k - place) (omega arith))
 
-    pub first_hit : has_y rect (slice_index_or leaf.ys ((place + trailing_zeros w64 left) % 16) nowhere) ≡ true
+    pub first_hit : is_hit rect leaf (place + trailing_zeros w64 left) ≡ true
     first_hit = on _ (bit_at left gap) (are.each gap gap_inside) lowest.1
 
     -- behind it
@@ -112,7 +124,7 @@ module _ (rect : Rect) (leaf : Leaf) (place to left : ℕ) (are : AreHits rect l
       each = λ j less.
           let moved : place + (gap + 1 + j) ≡ place + gap + 1 + j = omega arith in
           ap (λ n. bit_at n j) (shr-shr left gap 1) ∙ shifted left (gap + 1) j ∙ are.each (gap + 1 + j) (omega (arith, less))
-          ∙ ap (λ k. cond (has_y rect (slice_index_or leaf.ys (k % 16) nowhere)) 1 0) moved;
+          ∙ ap (λ k. cond (is_hit rect leaf k) 1 0) moved;
       no_more =
           let parted : to - place ≡ to - (place + gap + 1) + (gap + 1) = omega (arith, gap_inside) in
           let fits : left < 2 ^ (to - (place + gap + 1) + (gap + 1)) = subst_lt parted are.no_more in

@@ -1,5 +1,5 @@
 -- The points of a leaf that are hit, place by place.
-use Rattle.std.proofs.Common.{◌≡◌, ℕ, zero, suc, ◌+◌, ◌-◌, ◌%◌, ◌^◌, ◌<◌, ◌≤◌, false, cond, [], ◌++◌, length, slice_index_or, w64, refl, sym, ap, ap₂, ◌∙◌, arith, append-nil}
+use Rattle.std.proofs.Common.{◌≡◌, ℕ, zero, suc, ◌+◌, ◌-◌, ◌^◌, ◌<◌, ◌≤◌, false, cond, [], ◌++◌, length, w64, refl, sym, ap, ap₂, ◌∙◌, arith, append-nil}
 use Rattle.std.specs.Int.{trailing_zeros}
 use Rattle.std.specs.List.{filter, flat_map, range_with_len}
 use Rattle.std.specs.Option.{option_to_list}
@@ -10,9 +10,8 @@ use Rattle.map_shapes.specs.declared.rect.Rect.{Rect}
 use Rattle.map_shapes.specs.Questions.{is_in}
 use Rattle.range_tree.specs.declared.leaves.Leaf.{Leaf}
 use Rattle.range_tree.specs.declared.scanning.Places.{Places}
-use Rattle.range_tree.specs.Tree.{nowhere}
-use Rattle.range_tree.specs.LeafHits.{AreHits, points_at}
-use Rattle.range_tree.specs.Queries.{live_at, live_between, has_y, IsLeafOf}
+use Rattle.range_tree.specs.LeafHits.{AreHits, is_hit, points_at}
+use Rattle.range_tree.specs.Queries.{live_at, live_between, IsLeafOf}
 use Rattle.range_tree.proofs.Between.{live_in-split, live_in-more}
 use Rattle.range_tree.proofs.Hits.{leaf_hit, point_at}
 use Rattle.range_tree.proofs.HitBits.{none_hit, gap_inside, none_before_hit, first_hit}
@@ -30,21 +29,21 @@ pub points_one : (part : Contents Point) (k : ℕ) → k < length part.items →
 points_one part k inside = let found = point_at part.items k inside in ap (λ o. length (option_to_list o)) found.1
 
 module _ (part : Contents Point) (rect : Rect) (places : Places) (leaf : Leaf) (is : IsLeafOf part rect places leaf) where
-  -- what a place has, by its y
-  by_y : (k : ℕ) → places.from ≤ k → k < places.to
-      → filter (is_in rect) (live_at part k) ≡ cond (has_y rect (slice_index_or leaf.ys (k % 16) nowhere)) (points_at part k) []
-  by_y k low high =
+  -- what a place has, by its y and its bit
+  by_hit : (k : ℕ) → places.from ≤ k → k < places.to
+      → filter (is_in rect) (live_at part k) ≡ cond (is_hit rect leaf k) (points_at part k) []
+  by_hit k low high =
       let found = point_at part.items k (omega (arith, is.within)) in
       leaf_hit part rect places leaf is k found.0 low high found.1
-      ∙ ap (λ o. cond (has_y rect (slice_index_or leaf.ys (k % 16) nowhere)) (option_to_list o) []) (sym found.1)
+      ∙ ap (λ o. cond (is_hit rect leaf k) (option_to_list o) []) (sym found.1)
 
   passed_over : (a b : ℕ) → places.from ≤ a → a ≤ b → b ≤ places.to
-      → ((k : ℕ) → a ≤ k → k < b → has_y rect (slice_index_or leaf.ys (k % 16) nowhere) ≡ false)
+      → ((k : ℕ) → a ≤ k → k < b → is_hit rect leaf k ≡ false)
       → filter (is_in rect) (live_between part a b) ≡ []
   passed_over a b low ordered high none =
       none_between_places part rect a (b - a)
       (λ k from to.
-      by_y k (omega arith) (omega arith) ∙ ap (λ t. cond t (points_at part k) []) (none k from (omega arith)))
+      by_hit k (omega arith) (omega arith) ∙ ap (λ t. cond t (points_at part k) []) (none k from (omega arith)))
 
   module _ (place left : ℕ) (low : places.from ≤ place) (high : place ≤ places.to) (are : AreHits rect leaf place places.to left) where
     -- no bit is left
@@ -69,5 +68,5 @@ module _ (part : Contents Point) (rect : Rect) (places : Places) (leaf : Leaf) (
         ∙ ap (λ l. filter (is_in rect) (live_between part places.from place) ++ l)
         (passed_over place hit low (omega arith) (omega (arith, inside)) (none_before_hit rect leaf place places.to left are some small))
         ∙ append-nil (filter (is_in rect) (live_between part places.from place)))
-        (by_y hit (omega arith) (omega (arith, inside))
+        (by_hit hit (omega arith) (omega (arith, inside))
         ∙ ap (λ t. cond t (points_at part hit) []) (first_hit rect leaf place places.to left are some small))

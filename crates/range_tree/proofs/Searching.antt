@@ -1,34 +1,16 @@
 -- What binary searches in x, and in the entries of the first row, need and find.
-use Rattle.std.proofs.Common.{◌≡◌, ℕ, ◌==◌, ◌<◌, ◌≤◌, ◌&&◌, ◌||◌, false, true, nat_lt, IsTrue, List, [], ◌∷◌, length, map, get_or, Some, slice_get, arith, subst, sym, ap, ◌∙◌}
+use Rattle.std.proofs.Common.{◌≡◌, ℕ, ◌<◌, ◌≤◌, List, [], ◌∷◌, length, map, get_or, Some, slice_get, arith, subst, sym, ap, ◌∙◌}
 use Rattle.std.specs.Option.{option_map}
-use Rattle.std.proofs.lemmas.Bool.Decides.{nat_tests}
 use Rattle.std.proofs.lemmas.List.{get_or-map, length-map}
 use Rattle.std.proofs.lemmas.Option.{get_or_from_slice_get, slice_get_within, slice_get-map}
 use Rattle.query_laws.specs.declared.item.Order.TheVariants.{First}
 use Rattle.builder_trait.specs.Parts
 use Rattle.builder_trait.specs.Search.{PassesUpTo}
 use Rattle.map_shapes.specs.declared.point.Point.{Point}
-use Rattle.range_tree.specs.declared.search.Reach.{Reach}
-use Rattle.range_tree.specs.declared.search.Reach.TheVariants.{Below, UpTo}
+use Rattle.map_structures.specs.declared.reach.Reach.{Reach}
 use Rattle.range_tree.specs.Tree.{before}
-use Rattle.range_tree.specs.Queries.{reaches}
-
-pub reaches-down : (reach : Reach) (a b : ℕ) → a ≤ b → IsTrue (reaches reach b) → IsTrue (reaches reach a)
-reaches-down (Below bound) a b le passed = grind (arith, nat_tests)
-reaches-down (UpTo bound) a b le passed = grind (arith, nat_tests)
-
--- what lies before the first coordinate that isn't reached, and what doesn't
-pub below-from_reaches : (bound c : ℕ) → IsTrue (reaches (Below bound) c) → c < bound
-below-from_reaches bound c passed = grind (arith, nat_tests)
-
-pub from-from_reaches : (bound c : ℕ) → reaches (Below bound) c ≡ false → bound ≤ c
-from-from_reaches bound c failed = grind (arith, nat_tests)
-
-pub up_to-from_reaches : (bound c : ℕ) → IsTrue (reaches (UpTo bound) c) → c ≤ bound
-up_to-from_reaches bound c passed = grind (arith, nat_tests)
-
-pub above-from_reaches : (bound c : ℕ) → reaches (UpTo bound) c ≡ false → bound < c
-above-from_reaches bound c failed = grind (arith, nat_tests)
+use Rattle.map_structures.specs.Reach.{reaches}
+use Rattle.map_structures.proofs.Reaching.{reaches-down, abscissa-from_before}
 
 -- numbers that don't fall are reached up to some of them
 pub PassesUpTo-numbers : {A : Type 0} (number : A → ℕ) (reach : Reach) (xs : List A) (low high : ℕ) → high ≤ length xs
@@ -38,12 +20,6 @@ PassesUpTo-numbers number reach xs low high within rising k l d above less below
     reaches-down reach (number (get_or xs k d)) (number (get_or xs l d)) (rising k l d less (omega arith)) passed
 
 -- x of points in the first order don't fall
-abscissa-from_before : (a b : Point) → IsTrue (before First a b) → a.x ≤ b.x
-abscissa-from_before a b ahead = by a.x b.x a.y b.y a.stamp b.stamp ahead
-  where
-    by : (x y p q s t : ℕ) → (nat_lt x y || ((x == y) && (nat_lt p q || ((p == q) && nat_lt s t)))) ≡ true → x ≤ y
-    by x y p q s t ahead = grind (arith, nat_tests)
-
 rising_x : (points : List Point) → Parts.IsRising (before First) points → (k l d : ℕ) → k < l → l < length (map (λ (p : Point). p.x) points)
     → get_or (map (λ (p : Point). p.x) points) k d ≤ get_or (map (λ (p : Point). p.x) points) l d
 rising_x [] rising k l d less inside = absurd (omega arith)

@@ -1,4 +1,4 @@
--- The y of a dead place is struck out, and the part's rows are kept.
+-- The bit of a dead place is cleared, and the part's rows are kept.
 use Rattle.std.proofs.Common.{◌≡◌, ◌≢◌, ℕ, ◌<◌, ◌⊎◌, inl, inr, Bool, true, false, cond, List, length, set, get_or, Some, slice_get, sym, ap, ◌∙◌, subst, arith}
 use Rattle.std.proofs.lemmas.Bool.{cases_eq}
 use Rattle.std.proofs.lemmas.List.{length-set, get_or-set_same, get_or-set_other}
@@ -9,25 +9,25 @@ use Rattle.map_shapes.specs.declared.point.Point.{Point}
 use Rattle.range_tree.specs.declared.leaves.Leaf.{Leaf}
 use Rattle.range_tree.specs.declared.rows.RangeTree.{RangeTree}
 use Rattle.range_tree.specs.Heights.{rows_to}
-use Rattle.range_tree.specs.Tree.{before, AreLeaves, AreRows, y_at, nowhere, IsTree}
+use Rattle.range_tree.specs.Tree.{before, AreLeaves, AreRows, y_at, live_bit, IsTree}
 use Rattle.range_tree.specs.Growing.{IsKept}
 use Rattle.range_tree.specs.Marks.{IsDying}
 use Rattle.range_tree.proofs.SpanLemmas.{height-small, height-above}
 
 pub struck_leaves : (points : List Point) (flags : List Bool) (place : ℕ) (old new : List Leaf) → AreLeaves points flags old → place < length flags
-    → y_at new place ≡ nowhere → ((k : ℕ) → k ≢ place → y_at new k ≡ y_at old k) → length new ≡ length old
+    → live_bit new place ≡ 0 → ((k : ℕ) → y_at new k ≡ y_at old k) → ((k : ℕ) → k ≢ place → live_bit new k ≡ live_bit old k) → length new ≡ length old
     → AreLeaves points (set flags place false) new
-struck_leaves points flags place old new kept inside own others many = record {
+struck_leaves points flags place old new kept inside own ys others many = record {
   many = many ∙ kept.many;
-  ys = λ k p at. by k p at (cases_eq k place);
+  ys = λ k p at. ys k ∙ kept.ys k p at;
+  live = λ k. by k (cases_eq k place);
 }
   where
-    by : (k : ℕ) (p : Point) → slice_get points k ≡ Some p → (k ≡ place) ⊎ (k ≢ place)
-        → y_at new k ≡ cond (get_or (set flags place false) k false) p.y nowhere
-    by k p at (inl same) =
-        ap (y_at new) same ∙ own
-        ∙ sym (ap (λ b. cond b p.y nowhere) (ap (λ i. get_or (set flags place false) i false) same ∙ get_or-set_same flags place false false inside))
-    by k p at (inr other) = others k other ∙ kept.ys k p at ∙ ap (λ b. cond b p.y nowhere) (sym (get_or-set_other flags place k false false other))
+    by : (k : ℕ) → (k ≡ place) ⊎ (k ≢ place) → live_bit new k ≡ cond (get_or (set flags place false) k false) 1 0
+    by k (inl same) =
+        ap (live_bit new) same ∙ own
+        ∙ sym (ap (λ b. cond b 1 0) (ap (λ i. get_or (set flags place false) i false) same ∙ get_or-set_same flags place false false inside))
+    by k (inr other) = others k other ∙ kept.live k ∙ ap (λ b. cond b 1 0) (sym (get_or-set_other flags place k false false other))
 
 -- the part before a place died
 pub IsDying-before : (part : Contents Point) (flags : List Bool) (place : ℕ) (item : Point) (rows : RangeTree) → IsPart before part
@@ -68,12 +68,12 @@ IsDying-leaves part place item rows leaves dying = record {
 -- with the place taken out of leaves and ranks the rows are those of the part
 pub IsKept-struck : (part : Contents Point) (flags : List Bool) (place : ℕ) (old : RangeTree) (leaves : Entries Leaf) (ranks : Ranked)
     → part.flags ≡ set flags place false → place < length flags → IsKept (record part { flags = flags }) old
-    → leaves.capacity ≡ old.leaves.capacity → y_at leaves.items place ≡ nowhere
-    → ((k : ℕ) → k ≢ place → y_at leaves.items k ≡ y_at old.leaves.items k) → length leaves.items ≡ length old.leaves.items
+    → leaves.capacity ≡ old.leaves.capacity → live_bit leaves.items place ≡ 0 → ((k : ℕ) → y_at leaves.items k ≡ y_at old.leaves.items k)
+    → ((k : ℕ) → k ≢ place → live_bit leaves.items k ≡ live_bit old.leaves.items k) → length leaves.items ≡ length old.leaves.items
     → ranks.room ≡ old.ranks.room
     → (0 < rows_to old.height → AreRows (record part { flags = set flags place false }) old.height (rows_to old.height) ranks old.source.items)
     → IsKept part (record old { leaves = leaves; ranks = ranks })
-IsKept-struck part flags place old leaves ranks died inside kept capacity own others many room marked = record {
+IsKept-struck part flags place old leaves ranks died inside kept capacity own ys others many room marked = record {
   room = record {
     small = kept.room.small;
     xs = kept.room.xs;
@@ -89,7 +89,7 @@ IsKept-struck part flags place old leaves ranks died inside kept capacity own ot
     height = kept.tree.height;
     xs = kept.tree.xs;
     leaves = subst (λ (fs : List Bool). AreLeaves part.items fs leaves.items) (sym died)
-        (struck_leaves part.items flags place old.leaves.items leaves.items kept.tree.leaves inside own others many);
+        (struck_leaves part.items flags place old.leaves.items leaves.items kept.tree.leaves inside own ys others many);
     top = kept.tree.top;
     ranks = λ some. subst (λ (fs : List Bool). AreRows (record part { flags = fs }) old.height (rows_to old.height) ranks old.source.items) (sym died) (marked some);
   };

@@ -15,10 +15,10 @@ use Rattle.builder_trait.proofs.Places.{slice_get-placed, length-placed}
 use Rattle.query_laws.proofs.Permutations.{Permuted-length}
 use Rattle.map_shapes.specs.declared.point.Point.{Point}
 use Rattle.range_tree.specs.declared.entry.Entry.{Entry}
-use Rattle.range_tree.specs.declared.search.Reach.{Reach}
+use Rattle.map_structures.specs.declared.reach.Reach.{Reach}
 use Rattle.range_tree.specs.Tree.{before, precedes, IsEntryOf, IsTop}
-use Rattle.range_tree.specs.Queries.{reaches}
-use Rattle.range_tree.proofs.Searching.{reaches-down}
+use Rattle.map_structures.specs.Reach.{reaches}
+use Rattle.map_structures.proofs.Reaching.{reaches-down}
 
 -- what stands beyond the last entry
 abbrev pub no_entry : Entry

@@ -1,28 +1,21 @@
 -- What a question takes of the rows.
+use Rattle.std.specs.Int.{bit_at}
 use Rattle.std.specs.List.{flat_map, range_with_len}
 use Rattle.std.specs.Option.{option_to_list}
-use Rattle.std.specs.Prelude.{◌≡◌, ℕ, ◌+◌, ◌-◌, ◌%◌, ◌^◌, ◌<◌, ◌≤◌, ◌&&◌, Bool, false, nat_lt, nat_le, if◌then◌else◌, List, [], Some, length, take, filter, slice_get, slice_range, slice_index_or}
+use Rattle.std.specs.Prelude.{◌≡◌, ℕ, ◌+◌, ◌-◌, ◌%◌, ◌^◌, ◌<◌, ◌≤◌, ◌&&◌, Bool, false, nat_lt, nat_le, if◌then◌else◌, List, [], Some, length, take, filter, slice_get, slice_range, slice_index, slice_index_or}
 use Rattle.builder_trait.specs.Parts.{Contents}
 use Rattle.map_shapes.specs.declared.point.Point.{Point}
 use Rattle.map_shapes.specs.declared.rect.Rect.{Rect}
 use Rattle.map_shapes.specs.Questions.{is_in}
 use Rattle.row_blocks.specs.Blocks.{IsMultiple}
 use Rattle.row_blocks.specs.Partitions.{block_of}
-use Rattle.range_tree.specs.declared.search.Reach.{Reach}
 use Rattle.range_tree.specs.declared.leaves.Leaf.{Leaf}
-use Rattle.range_tree.specs.declared.search.Reach.TheVariants.{Below, UpTo}
 use Rattle.range_tree.specs.declared.scanning.Places.{Places}
 use Rattle.range_tree.specs.declared.descending.Span.{Span}
 use Rattle.range_tree.specs.declared.descending.Cut.{Cut}
 use Rattle.range_tree.specs.declared.descending.Cut.TheVariants.{Outside, Whole, Halves}
 use Rattle.range_tree.specs.declared.rows.RangeTree.{RangeTree}
 use Rattle.range_tree.specs.Heights.{lowest, rows_to}
-use Rattle.range_tree.specs.Tree.{nowhere}
-
--- the coordinate is one of those below the bound, or up to it
-abbrev pub reaches : Reach → ℕ → Bool
-reaches (Below bound) coordinate = nat_lt coordinate bound
-reaches (UpTo bound) coordinate = nat_le coordinate bound
 
 -- the live point at a place, if it is one
 abbrev pub live_at : Contents Point → ℕ → List Point
@@ -56,15 +49,15 @@ pub record AreWithinY (part : Contents Point) (low high : ℕ) (rect : Rect) : T
 abbrev pub has_y : Rect → ℕ → Bool
 has_y rect y = nat_le rect.y1 y && nat_le y rect.y2
 
--- The x of the points at these places are in the rectangle, and the leaf has the y of those that are live: the places are some of
--- its own.
+-- The x of the points at these places are in the rectangle, and the leaf has their y, and the bits of those that are live: the places
+-- are some of its own.
 pub record IsLeafOf (part : Contents Point) (rect : Rect) (places : Places) (leaf : Leaf) : Type 0 where
   pub ordered : places.from ≤ places.to
   pub within : places.to ≤ length part.items
   pub own : places.from % 16 + (places.to - places.from) ≤ 16
   pub inside : (k : ℕ) (p : Point) → places.from ≤ k → k < places.to → slice_get part.items k ≡ Some p → (rect.x1 ≤ p.x) × (p.x ≤ rect.x2)
-  pub ys : (k : ℕ) (p : Point) → places.from ≤ k → k < places.to → slice_get part.items k ≡ Some p
-      → slice_index_or leaf.ys (k % 16) nowhere ≡ (if slice_index_or part.flags k false then p.y else nowhere)
+  pub ys : (k : ℕ) (p : Point) → places.from ≤ k → k < places.to → slice_get part.items k ≡ Some p → slice_index leaf.ys (k % 16) ≡ p.y
+  pub live : (k : ℕ) → places.from ≤ k → k < places.to → bit_at leaf.live (k % 16) ≡ (if slice_index_or part.flags k false then 1 else 0)
 
 -- behind the first n entries of a list, in the block of a row that begins here
 abbrev pub image_of : List ℕ → (height start n : ℕ) → ℕ

@@ -1,5 +1,6 @@
 -- A range tree over points in the first order (Bentley 1979) whose rows are bits with ranks, a wavelet tree (Chazelle 1988).
-use Rattle.std.specs.Prelude.{◌≡◌, ℕ, ◌==◌, ◌+◌, ◌-◌, ◌/◌, ◌%◌, ◌^◌, ◌<◌, ◌≤◌, ◌&&◌, ◌||◌, Bool, false, nat_lt, nat_le, if◌then◌else◌, List, Some, [], length, map, All, slice_get, slice_index_or}
+use Rattle.std.specs.Prelude.{◌≡◌, ℕ, ◌==◌, ◌+◌, ◌-◌, ◌/◌, ◌%◌, ◌^◌, ◌<◌, ◌≤◌, ◌&&◌, ◌||◌, Bool, false, nat_lt, nat_le, if◌then◌else◌, List, Some, [], length, map, All, slice_get, slice_index, slice_index_or}
+use Rattle.std.specs.Int.{bit_at}
 use Rattle.std.specs.Option.{option_map, unwrap_or}
 use Rattle.query_laws.specs.Orders.{before_in}
 use Rattle.query_laws.specs.declared.item.Order.{Order}
@@ -32,18 +33,23 @@ pub record IsTop (points : List Point) (places : List ℕ) (top : List Entry) : 
   pub places_are : map (λ e. e.place) top ≡ places
   pub known : All (IsEntryOf points) top
 
--- above each y of a point
-abbrev pub nowhere : ℕ
-nowhere = 2 ^ 32 - 1
+-- the leaf of sixteen places that has a place
+abbrev pub leaf_at : List Leaf → ℕ → Leaf
+leaf_at leaves k = slice_index_or leaves (k / 16) (record { ys = []; live = 0 })
 
--- the y that leaves of sixteen places have of a place
+-- the y that leaves have of a place
 abbrev pub y_at : List Leaf → ℕ → ℕ
-y_at leaves k = slice_index_or (slice_index_or leaves (k / 16) (record { ys = [] })).ys (k % 16) nowhere
+y_at leaves k = slice_index (leaf_at leaves k).ys (k % 16)
 
--- the y of the live points, each at its place, and of no others
+-- the bit that leaves have of a place
+abbrev pub live_bit : List Leaf → ℕ → ℕ
+live_bit leaves k = bit_at (leaf_at leaves k).live (k % 16)
+
+-- the y of the points, each at its place, and the bits of the live ones
 pub record AreLeaves (points : List Point) (flags : List Bool) (leaves : List Leaf) : Type 0 where
   pub many : length leaves ≡ (length points + 15) / 16
-  pub ys : (k : ℕ) (p : Point) → slice_get points k ≡ Some p → y_at leaves k ≡ (if slice_index_or flags k false then p.y else nowhere)
+  pub ys : (k : ℕ) (p : Point) → slice_get points k ≡ Some p → y_at leaves k ≡ p.y
+  pub live : (k : ℕ) → live_bit leaves k ≡ (if slice_index_or flags k false then 1 else 0)
 
 -- the place goes into the second half of its block
 abbrev pub is_second : ℕ → ℕ → Bool

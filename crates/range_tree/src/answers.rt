@@ -1,5 +1,5 @@
 //! Answers to questions.
-ghost use Rattle.std.specs.Prelude.{◌≡◌, ◌≢◌, ◌+◌, ◌-◌, ◌≤◌, true, false, OnOk};
+ghost use Rattle.std.specs.Prelude.{◌≡◌, ◌≢◌, ◌+◌, ◌-◌, ◌<◌, ◌≤◌, true, false, OnOk, length};
 ghost use Rattle.query_laws.specs.StepLedger.{Spends};
 ghost use Rattle.query_laws.specs.Sums.{capped_add};
 ghost use Rattle.builder_trait.specs.Parts.{IsPart, live_of};
@@ -54,6 +54,7 @@ impl RangeTree {
         requires over { IsTree points.now self.now }
         ensures added { tally.new ≡ capped_add tally.old (measure_in measure rect.now (live_of points.now)) }
         ensures cost { Spends steps.old steps.new 0 0 (measure_touches measure points.now.items) }
+        ensures read { 0 < length points.now.items → steps.old.touches < steps.new.touches }
     {
         let places = self.places_in(points, rect, steps);
         let whole = places.whole_blocks(LOWEST);
@@ -94,6 +95,7 @@ impl RangeTree {
         ensures joined { OnOk result (sorted_ids tally.new
             ≡ sorted_union (sorted_ids tally.old) (ids_in rect.now (live_of points.now))) }
         ensures cost { Spends steps.old steps.new 0 0 (list_touches rect.now points.now) }
+        ensures read { 0 < length points.now.items → steps.old.touches < steps.new.touches }
     {
         let places = self.places_in(points, rect, steps);
         let whole = places.whole_blocks(LOWEST);

@@ -8,6 +8,7 @@ use builder_trait::{AnsweringRows, Rows, RowsBuilder, RowsPart};
 use map_shapes::{CountIn, IdTally, ListIn, Point, SumIn};
 use query_laws::step_ledger::Steps;
 use query_laws::{NoMemory, Total};
+use row_blocks::Boxed;
 use std::alloc::Global;
 use std::sync::ledger::Ledger;
 
@@ -26,11 +27,11 @@ pub type RangeBuilder = RowsBuilder<RangeRows>;
 
 /// A tree over points that stand beside it.
 ///
-/// The tree, 240 bytes of it, lies in a box, since parts and builders are moved often. Each call is the tree's own, and counts what
-/// that counts.
+/// The tree, 240 bytes of it, lies in a box that lends no allocator, since parts and builders are moved often. Each call is the tree's
+/// own, and counts what that counts.
 #[derive(Drop)]
 pub struct RangeRows {
-    tree: Box<RangeTree>,
+    tree: Boxed<RangeTree>,
 }
 
 impl Rows for RangeRows {
@@ -52,21 +53,21 @@ impl Rows for RangeRows {
 
     ghost mark_touches = { λ h. 16 * ((h + 2) * (h + 2)) };
 
-    ghost left = { λ rows. rows.tree.value.left };
+    ghost left = { λ rows. rows.tree.left };
 
     ghost turns_for = { λ n. rows_for n * (64 * words_for n) };
 
-    ghost IsPutting = { λ b rows. IsPutting b rows.tree.value };
+    ghost IsPutting = { λ b rows. IsPutting b rows.tree };
 
-    ghost IsGrowing = { λ part rows. IsGrowing part rows.tree.value };
+    ghost IsGrowing = { λ part rows. IsGrowing part rows.tree };
 
-    ghost IsDone = { λ part rows. IsKept part rows.tree.value };
+    ghost IsDone = { λ part rows. IsKept part rows.tree };
 
     /// The box is taken last.
     fn room(alloc: Global, level: u32) -> Result<RangeRows, NoMemory> {
         let tree = RangeTree::room(alloc, level)?;
         Ok(RangeRows {
-            tree: Box::new(alloc, tree)?,
+            tree: Boxed::new(alloc, tree)?,
         })
     }
 
@@ -119,7 +120,7 @@ impl Rows for RangeRows {
 
     ghost none_left = { λ b rows putting. putting.none_left };
 
-    ghost done = { λ b rows. IsKept-grown b rows.tree.value };
+    ghost done = { λ b rows. IsKept-grown b rows.tree };
 
     ghost mark_touches_enough = { λ h. Prim.omega arith };
 

@@ -1,7 +1,8 @@
-//! y in the first order, sixteen an entry.
+//! y in the first order, sixteen an entry, with a mask of the live ones.
 ghost use Rattle.std.specs.Prelude.{◌≡◌, ◌≢◌, ◌+◌, ◌/◌, ◌%◌, ◌<◌, ℕ, length, slice_set};
+ghost use Rattle.std.specs.Int.{bit_at};
 ghost use Rattle.query_laws.specs.StepLedger.{Spends};
-ghost use Rattle.range_tree.specs.Tree.{y_at, nowhere};
+ghost use Rattle.range_tree.specs.Tree.{y_at, live_bit};
 
 use crate::rows::RangeTree;
 use query_laws::step_ledger::Steps;
@@ -10,67 +11,76 @@ use std::sync::ledger::Ledger;
 /// How many places a leaf has.
 pub(crate) const LEAF_LEN: usize = 16;
 
-/// Sixteen neighbouring places.
+/// Sixteen neighbouring places: their y, and a set bit for each at which there is a live point, from the lowest on. A dead point's y stays.
 #[derive(Clone, Copy)]
 pub(crate) struct Leaf {
     pub(crate) ys: [u32; LEAF_LEN],
+    pub(crate) live: u16,
 }
 
-/// Above each y of a point: that of a place that is dead, or at which there is no point.
-pub(crate) const NOWHERE: u32 = u32::MAX;
+/// The leaf without points.
+const NO_POINTS: Leaf = Leaf {
+    ys: [0; LEAF_LEN],
+    live: 0,
+};
 
 impl Leaf {
-    /// The leaf with a y at a place.
+    /// The leaf with a live point at a place.
     fn with(self, slot: usize, y: u32) -> Leaf
-        requires { slot < length self.ys }
-        ensures { result ≡ record { ys = slice_set self.ys slot y } }
+        requires { slot < 16 }
+        ensures ys { result.ys ≡ slice_set self.ys slot y }
+        ensures set { bit_at result.live slot ≡ 1 }
+        ensures others { (k : ℕ) → k ≢ slot → bit_at result.live k ≡ bit_at self.live k }
     {
         let mut leaf = self;
         leaf.ys[slot] = y;
+        leaf.live |= 1 << slot;
         leaf
+    }
+
+    /// The leaf in which the point at a place is dead.
+    fn without(self, slot: usize) -> Leaf
+        requires { slot < 16 }
+        ensures ys { result.ys ≡ self.ys }
+        ensures cleared { bit_at result.live slot ≡ 0 }
+        ensures others { (k : ℕ) → k < 16 → k ≢ slot → bit_at result.live k ≡ bit_at self.live k }
+    {
+        Leaf {
+            live: self.live & !(1 << slot),
+            ..self
+        }
     }
 }
 
 impl RangeTree {
-    /// Puts the y of the next point.
+    /// Puts the y of the next point, which is live.
     pub(crate) fn put_leaf<L: Ledger>(&mut self, place: usize, y: u32, steps: &mut Steps<L>)
         requires next { length self.old.leaves.items ≡ (place + 15) / 16 }
         requires room { place % 16 ≡ 0 → length self.old.leaves.items < self.old.leaves.capacity }
         ensures own { y_at self.new.leaves.items place ≡ y }
+        ensures live { live_bit self.new.leaves.items place ≡ 1 }
         ensures others { (k : ℕ) → k ≢ place → y_at self.new.leaves.items k ≡ y_at self.old.leaves.items k }
+        ensures bits { (k : ℕ) → k ≢ place → live_bit self.new.leaves.items k ≡ live_bit self.old.leaves.items k }
         ensures many { length self.new.leaves.items ≡ (place + 16) / 16 }
         ensures kept { self.new ≡ record self.old { leaves = self.new.leaves } }
         ensures room { self.new.leaves.capacity ≡ self.old.leaves.capacity }
         ensures cost { Spends steps.old steps.new 0 0 2 }
     {
         if place % LEAF_LEN == 0 {
-            let leaf = Leaf {
-                ys: [NOWHERE; LEAF_LEN],
-            };
-            self.leaves.push(leaf.with(0, y), steps);
+            self.leaves.push(NO_POINTS.with(0, y), steps);
         } else {
-            self.set_leaf(place, y, steps);
+            let leaf = self.leaves.at(place / LEAF_LEN, steps);
+            self.leaves
+                .set(place / LEAF_LEN, leaf.with(place % LEAF_LEN, y), steps);
         }
     }
 
-    /// Puts the y of a dead place where no rectangle reaches it.
+    /// Clears the bit of a dead place.
     pub(crate) fn strike_leaf<L: Ledger>(&mut self, place: usize, steps: &mut Steps<L>)
         requires { place / 16 < length self.old.leaves.items }
-        ensures own { y_at self.new.leaves.items place ≡ nowhere }
-        ensures others { (k : ℕ) → k ≢ place → y_at self.new.leaves.items k ≡ y_at self.old.leaves.items k }
-        ensures many { length self.new.leaves.items ≡ length self.old.leaves.items }
-        ensures kept { self.new ≡ record self.old { leaves = self.new.leaves } }
-        ensures room { self.new.leaves.capacity ≡ self.old.leaves.capacity }
-        ensures cost { Spends steps.old steps.new 0 0 2 }
-    {
-        self.set_leaf(place, NOWHERE, steps);
-    }
-
-    /// Puts a y at a place of a leaf that is there.
-    fn set_leaf<L: Ledger>(&mut self, place: usize, y: u32, steps: &mut Steps<L>)
-        requires { place / 16 < length self.old.leaves.items }
-        ensures own { y_at self.new.leaves.items place ≡ y }
-        ensures others { (k : ℕ) → k ≢ place → y_at self.new.leaves.items k ≡ y_at self.old.leaves.items k }
+        ensures own { live_bit self.new.leaves.items place ≡ 0 }
+        ensures ys { (k : ℕ) → y_at self.new.leaves.items k ≡ y_at self.old.leaves.items k }
+        ensures bits { (k : ℕ) → k ≢ place → live_bit self.new.leaves.items k ≡ live_bit self.old.leaves.items k }
         ensures many { length self.new.leaves.items ≡ length self.old.leaves.items }
         ensures kept { self.new ≡ record self.old { leaves = self.new.leaves } }
         ensures room { self.new.leaves.capacity ≡ self.old.leaves.capacity }
@@ -78,6 +88,6 @@ impl RangeTree {
     {
         let leaf = self.leaves.at(place / LEAF_LEN, steps);
         self.leaves
-            .set(place / LEAF_LEN, leaf.with(place % LEAF_LEN, y), steps);
+            .set(place / LEAF_LEN, leaf.without(place % LEAF_LEN), steps);
     }
 }

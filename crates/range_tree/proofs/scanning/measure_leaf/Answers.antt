@@ -1,36 +1,27 @@
-use Rattle.std.proofs.Common.{◌≡◌, ◌+◌, ◌-◌, ◌%◌, ◌≤◌, List, length, slice_range, arith, refl, subst, sym, ◌∙◌, rules}
+use Rattle.std.proofs.Common.{◌≡◌, ◌-◌, ◌≤◌, List, arith, refl, subst, sym, ◌∙◌, count_ones}
 use Rattle.std.specs.List.{sum_by}
-use Rattle.std.proofs.lemmas.List.Sums.{length-filter, count_by-le-length}
+use Rattle.std.proofs.lemmas.Nat.{ones-le}
 use Rattle.query_laws.proofs.Counting.{Spends-nothing, Spends-within}
-use Rattle.row_blocks.proofs.Lists.{length-slice_range}
 use Rattle.map_shapes.specs.declared.point.Point.{Point}
 use Rattle.range_tree.specs.Measures.{leaf_touches, measure_of}
-use Rattle.range_tree.specs.Queries.{live_in_places, has_y}
+use Rattle.range_tree.specs.Queries.{live_in_places}
 use Rattle.range_tree.proofs.Hits.{leaf_hits}
 use Rattle.range_tree.proofs.SpanSums.{sum_by-one}
 use Rattle.range_tree.proofs.scanning.measure_leaf.Goals as goal
 
+pub hit_bits-requires : goal.hit_bits-requires
+hit_bits-requires g c = record { ordered = c.requires.leaf.ordered; own = c.requires.leaf.own }
+
 pub returns-in-Count-clause-sum : goal.returns-in-Count-clause-sum
 returns-in-Count-clause-sum g c =
-    let whole : length c.args.leaf.now.ys ≡ 16 = search rules in
     let live : List Point = live_in_places c.args.points.now c.args.rect.now c.args.places in
-    subst (λ m. c.hits.result ≡ sum_by (measure_of m) live) (sym c.in-Count.is)
-    (c.hits.ensures ∙ leaf_hits c.args.points.now c.args.rect.now c.args.places c.args.leaf.now c.requires.leaf _ _ refl refl whole ∙ sym (sum_by-one live))
+    subst (λ m. count_ones c.hit_bits.result ≡ sum_by (measure_of m) live) (sym c.in-Count.is)
+    (leaf_hits c.args.points.now c.args.rect.now c.args.places c.args.leaf.now c.requires.leaf c.hit_bits.result c.hit_bits.ensures ∙ sym (sum_by-one live))
 
 pub returns-in-Count-clause-small : goal.returns-in-Count-clause-small
 returns-in-Count-clause-small g c =
-    let whole : length c.args.leaf.now.ys ≡ 16 = search rules in
-    let first = c.args.places.from % 16 in
-    let end = first + (c.args.places.to - c.args.places.from) in
-    let slice = slice_range c.args.leaf.now.ys first end in
-    omega (
-      arith,
-      c.hits.ensures,
-      c.requires.leaf.own,
-      length-filter (has_y c.args.rect.now) slice,
-      count_by-le-length (has_y c.args.rect.now) slice,
-      length-slice_range c.args.leaf.now.ys first end (omega (arith, c.requires.leaf.own)) (omega (arith, whole, c.requires.leaf.own)),
-    )
+    let n = c.args.places.to - c.args.places.from in
+    omega (arith, ones-le n c.hit_bits.result c.hit_bits.ensures.no_more)
 
 pub returns-in-Count-clause-cost : goal.returns-in-Count-clause-cost
 returns-in-Count-clause-cost g c = Spends-within (Spends-nothing c.args.steps.now) refl refl (omega arith)

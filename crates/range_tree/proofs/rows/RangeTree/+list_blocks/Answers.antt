@@ -1,4 +1,4 @@
-use Rattle.std.proofs.Common.{◌++◌, map, refl, sym, subst, arith, append-nil}
+use Rattle.std.proofs.Common.{◌++◌, map, refl, sym, subst, append-nil}
 use Rattle.std.proofs.lemmas.Result.{on_ok_weaker}
 use Rattle.query_laws.specs.Permuted.{Permuted}
 use Rattle.query_laws.proofs.Counting.{Spends-then, Spends-within}

@@ -170,3 +170,19 @@ returns-clause-cost g c =
     refl refl
     (subst (λ n. 2 * (h + 1) + 2 * (h + 1) + (front / 16 + 2 + leaf_touches measure front) + (back / 16 + 2 + leaf_touches measure back)
     + blocks_touches (word_touches measure) rest ends ≤ touches_to_measure measure n) c.requires.over.height bound)
+
+pub returns-then-scan-clause-read : goal.returns-then-scan-clause-read
+returns-then-scan-clause-read g c some =
+    omega (arith, c.places_in-places.ensures.read some, c.measure_places-sum.ensures.cost.touches_kept)
+
+pub returns-clause-read : goal.returns-clause-read
+returns-clause-read g c some =
+    let span = c.span_in-span.ensures.cost 64 (omega (arith, c.requires.over.few)) in
+    omega (
+      arith,
+      c.places_in-places.ensures.read some,
+      span.touches_kept,
+      c.measure_places-first.ensures.cost.touches_kept,
+      c.measure_places-last.ensures.cost.touches_kept,
+      c.measure_blocks-inner.ensures.cost.touches_kept,
+    )

@@ -6,8 +6,19 @@ use Rattle.map_shapes.specs.declared.point.Point.{Point}
 use Rattle.map_shapes.specs.Questions.{is_in}
 use Rattle.range_tree.specs.Queries.{live_between}
 use Rattle.range_tree.proofs.Between.{live_in-split}
-use Rattle.range_tree.proofs.ScanLemmas.{reached, live_in-few, listed_next}
+use Rattle.range_tree.proofs.ScanLemmas.{leaf_of, reached, live_in-few, listed_next}
 use Rattle.range_tree.proofs.rows.RangeTree.list_places.Goals as goal
+
+pub list_leaf-requires : goal.list_leaf-requires
+list_leaf-requires g c =
+    let all = c.requires.inside in
+    let ends = c.div_ceil-l-end.ensures in
+    record {
+      leaf = leaf_of c.args.points.now c.args.rect.now c.args.self.now.leaves.items all.0 (record { from = c.max-from.result; to = c.min-to.result }) c.loop-l.l
+          c.at-leaf.result c.requires.over.leaves all.1 (omega (arith, all.2, c.max-from.ensures))
+          (omega (arith, c.max-from.ensures, c.min-to.ensures, ends)) (omega (arith, all.3, c.min-to.ensures)) (omega (arith, c.max-from.ensures))
+          (omega (arith, c.min-to.ensures)) c.at-leaf.ensures.read;
+    }
 
 pub loop-l-preserved : goal.loop-l-preserved
 loop-l-preserved g c =

@@ -196,3 +196,35 @@ returns-in_err-list_places-2-clause-cost g c =
     let bound = at_height h _ front back _ _ _ _ (blocks_touches 0 (rows_to h - span.row) ends) c.requires.over.height most few
     (length_three part rect places valid.flagged inside whole.from whole.to blocks.first blocks.ordered blocks.last (live_in_span part rows span.from span.to whole span) mid) in
     Spends-within (Spends-then (Spends-then (Spends-then (c.places_in-places.ensures.cost h above) (c.span_in-span.ensures.cost h above)) c.list_places-2.ensures.cost) c.list_places-3.ensures.cost) refl refl (less_one _ _ _ bound)
+
+pub returns-then-scan-clause-read : goal.returns-then-scan-clause-read
+returns-then-scan-clause-read g c some = omega (arith, c.places_in-places.ensures.read some, c.list_places.ensures.cost.touches_kept)
+
+pub returns-clause-read : goal.returns-clause-read
+returns-clause-read g c some =
+    let span = c.span_in-span.ensures.cost 64 (omega (arith, c.requires.over.few)) in
+    let blocks = c.list_blocks.ensures.cost c.span_in-span.result.from c.span_in-span.result.to c.span_in-span.ensures.span in
+    omega (
+      arith,
+      c.places_in-places.ensures.read some,
+      span.touches_kept,
+      c.list_places-2.ensures.cost.touches_kept,
+      c.list_places-3.ensures.cost.touches_kept,
+      blocks.touches_kept,
+    )
+
+pub returns-in_err-list_places-clause-read : goal.returns-in_err-list_places-clause-read
+returns-in_err-list_places-clause-read g c some =
+    let span = c.span_in-span.ensures.cost 64 (omega (arith, c.requires.over.few)) in
+    omega (arith, c.places_in-places.ensures.read some, span.touches_kept, c.list_places-2.ensures.cost.touches_kept)
+
+pub returns-in_err-list_places-2-clause-read : goal.returns-in_err-list_places-2-clause-read
+returns-in_err-list_places-2-clause-read g c some =
+    let span = c.span_in-span.ensures.cost 64 (omega (arith, c.requires.over.few)) in
+    omega (
+      arith,
+      c.places_in-places.ensures.read some,
+      span.touches_kept,
+      c.list_places-2.ensures.cost.touches_kept,
+      c.list_places-3.ensures.cost.touches_kept,
+    )

@@ -5,11 +5,11 @@ use Rattle.query_laws.specs.StepLedger.{Spends}
 use Rattle.query_laws.proofs.Counting.{Spends-then, Spends-within, Spends-one_touch}
 use Rattle.map_shapes.specs.declared.point.Point.{Point}
 use Rattle.map_shapes.specs.Questions.{is_in}
-use Rattle.range_tree.specs.Measures.{leaf_touches, measure_of}
+use Rattle.range_tree.specs.Measures.{measure_of}
 use Rattle.range_tree.specs.Queries.{live_between}
 use Rattle.range_tree.proofs.Between.{live_in-split}
 use Rattle.range_tree.proofs.Budgets.{leaf_touches-both, leaf_touches-few}
-use Rattle.range_tree.proofs.ScanLemmas.{reached}
+use Rattle.range_tree.proofs.ScanLemmas.{leaf_of, reached}
 use Rattle.range_tree.proofs.rows.RangeTree.measure_places.Goals as goal
 
 -- a leaf more
@@ -19,6 +19,17 @@ one_leaf leaves more before here all next few = omega (arith, next, few)
 -- all leaves
 all_leaves : (from to l before all : ℕ) → from ≤ to → l ≤ (to + 15) / 16 → before ≤ all → l - from / 16 + before ≤ (to - from) / 16 + 2 + all
 all_leaves from to l before all ordered last few = omega (arith, ordered, last, few)
+
+pub measure_leaf-sum-requires : goal.measure_leaf-sum-requires
+measure_leaf-sum-requires g c =
+    let all = c.requires.inside in
+    let ends = c.div_ceil-l-end.ensures in
+    record {
+      leaf = leaf_of c.args.points.now c.args.rect.now c.args.self.now.leaves.items all.0 (record { from = c.max-from.result; to = c.min-to.result }) c.loop-l.l
+          c.at-leaf.result c.requires.over.leaves all.1 (omega (arith, all.2, c.max-from.ensures))
+          (omega (arith, c.max-from.ensures, c.min-to.ensures, ends)) (omega (arith, all.3, c.min-to.ensures)) (omega (arith, c.max-from.ensures))
+          (omega (arith, c.min-to.ensures)) c.at-leaf.ensures.read;
+    }
 
 pub loop-l-preserved : goal.loop-l-preserved
 loop-l-preserved g c =

@@ -3,8 +3,9 @@ use Rattle.std.proofs.lemmas.List.{length-map}
 use Rattle.query_laws.proofs.Counting.{Spends-then, Spends-within}
 use Rattle.builder_trait.proofs.SearchLemmas.{Spends-searched}
 use Rattle.map_shapes.specs.declared.point.Point.{Point}
-use Rattle.range_tree.specs.declared.search.Reach.TheVariants.{Below, UpTo}
-use Rattle.range_tree.proofs.Searching.{PassesUpTo-xs, below-from_reaches, from-from_reaches, up_to-from_reaches, above-from_reaches, mapped_at, mapped_holds}
+use Rattle.map_structures.specs.declared.reach.Reach.TheVariants.{Below, UpTo}
+use Rattle.map_structures.proofs.Reaching.{below-from_reaches, from-from_reaches, up_to-from_reaches, above-from_reaches}
+use Rattle.range_tree.proofs.Searching.{PassesUpTo-xs, mapped_at, mapped_holds}
 use Rattle.range_tree.proofs.rows.RangeTree.places_in.Goals as goal
 
 pub partition_point-from-requires-clause-up_to_some : goal.partition_point-from-requires-clause-up_to_some
@@ -51,3 +52,11 @@ returns-clause-cost g c h few =
     (Spends-then (Spends-searched h (c.len.result - 0) first c.partition_point-from.ensures.cost)
     (Spends-searched h (c.len-2.result - c.partition_point-from.result) second c.partition_point-to.ensures.cost))
     refl refl (omega arith)
+
+pub returns-clause-read : goal.returns-clause-read
+returns-clause-read g c some =
+    let long = ap (λ (l : List ℕ). length l) c.requires.over.xs in
+    let same = length-map c.args.points.now.items (λ (p : Point). p.x) in
+    let first = c.partition_point-from.ensures.read (omega (arith, some, long, same, c.len.ensures.value)) in
+    let rest = c.partition_point-to.ensures.cost 64 (omega arith) in
+    omega (arith, first, rest.touches_kept)

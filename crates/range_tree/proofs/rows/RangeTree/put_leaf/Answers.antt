@@ -1,5 +1,4 @@
 use Rattle.std.proofs.Common.{ap, ◌∙◌}
-use Rattle.range_tree.specs.declared.leaves.Leaf.{Leaf}
 use Rattle.range_tree.specs.Tree.{y_at}
 use Rattle.range_tree.proofs.LeafLemmas.{y_at-opened}
 use Rattle.range_tree.proofs.rows.RangeTree.put_leaf.Goals as goal
@@ -8,4 +7,4 @@ pub returns-then-place-eq0-clause-others : goal.returns-then-place-eq0-clause-ot
 returns-then-place-eq0-clause-others g c k other =
     ap (λ (row : _). y_at row.items k) c.push.ensures.appended
     ∙ y_at-opened c.args.self.now.leaves.items c.with.result c.args.y c.args.place c.requires.next c.if-place-eq0.true
-    (ap (λ (leaf : Leaf). leaf.ys) c.with.ensures) k other
+    c.with.ensures.ys k other

@@ -2,8 +2,8 @@ use Rattle.std.proofs.Common.{◌-◌, ◌≤◌, ◌^◌, arith, refl}
 use Rattle.query_laws.proofs.Permutations.{Permuted-length}
 use Rattle.query_laws.proofs.Counting.{Spends-then, Spends-within}
 use Rattle.builder_trait.proofs.SearchLemmas.{Spends-searched}
-use Rattle.range_tree.specs.declared.search.Reach.TheVariants.{Below, UpTo}
-use Rattle.range_tree.proofs.Searching.{below-from_reaches, from-from_reaches, up_to-from_reaches, above-from_reaches}
+use Rattle.map_structures.specs.declared.reach.Reach.TheVariants.{Below, UpTo}
+use Rattle.map_structures.proofs.Reaching.{below-from_reaches, from-from_reaches, up_to-from_reaches, above-from_reaches}
 use Rattle.range_tree.proofs.TopOrder.{no_entry, entry_each, rises, y_is, PassesUpTo-ys}
 use Rattle.range_tree.proofs.SpanLemmas.{many_places, whole_image}
 use Rattle.range_tree.proofs.rows.RangeTree.span_in.Goals as goal

@@ -27,8 +27,8 @@ returns-then-rows-eq0-clause-done g c =
     let height = ap (λ (r : RangeTree). r.height) c.strike_leaf.ensures.kept in
     subst (λ (r : RangeTree). IsKept c.args.points.now r) (sym c.strike_leaf.ensures.kept)
     (IsKept-struck c.args.points.now behind.flags c.args.place old c.strike_leaf.new.self.leaves old.ranks behind.died
-    (slice_get_within behind.flags c.args.place _ behind.was_live) behind.done c.strike_leaf.ensures.room c.strike_leaf.ensures.own c.strike_leaf.ensures.others
-    c.strike_leaf.ensures.many refl (λ some. absurd (omega (arith, some, height, c.rows_for-rows.ensures, c.if-rows-eq0.true))))
+    (slice_get_within behind.flags c.args.place _ behind.was_live) behind.done c.strike_leaf.ensures.room c.strike_leaf.ensures.own c.strike_leaf.ensures.ys
+    c.strike_leaf.ensures.bits c.strike_leaf.ensures.many refl (λ some. absurd (omega (arith, some, height, c.rows_for-rows.ensures, c.if-rows-eq0.true))))
 
 pub mark_rows-requires-clause-there : goal.mark_rows-requires-clause-there
 mark_rows-requires-clause-there g c =
@@ -60,8 +60,8 @@ returns-clause-done g c =
     subst (λ (r : RangeTree). AreRows marked r.height (rows_to r.height) c.mark_rows.new.self.ranks r.source.items) all (c.mark_rows.ensures.marked part here) in
     subst (λ (r : RangeTree). IsKept c.args.points.now r) (sym all)
     (IsKept-struck c.args.points.now behind.flags c.args.place old c.strike_leaf.new.self.leaves c.mark_rows.new.self.ranks behind.died
-    (slice_get_within behind.flags c.args.place _ behind.was_live) behind.done c.strike_leaf.ensures.room c.strike_leaf.ensures.own c.strike_leaf.ensures.others
-    c.strike_leaf.ensures.many (c.mark_rows.ensures.room ∙ ap (λ (r : RangeTree). r.ranks.room) c.strike_leaf.ensures.kept) (λ some. rows))
+    (slice_get_within behind.flags c.args.place _ behind.was_live) behind.done c.strike_leaf.ensures.room c.strike_leaf.ensures.own c.strike_leaf.ensures.ys
+    c.strike_leaf.ensures.bits c.strike_leaf.ensures.many (c.mark_rows.ensures.room ∙ ap (λ (r : RangeTree). r.ranks.room) c.strike_leaf.ensures.kept) (λ some. rows))
 
 pub returns-clause-cost : goal.returns-clause-cost
 returns-clause-cost g c h few =

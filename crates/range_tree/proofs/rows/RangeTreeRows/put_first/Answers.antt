@@ -11,4 +11,5 @@ returns-clause-putting g c =
     let b = c.args.points.now in
     subst (λ (r : RangeTree). IsPutting (with_put First c.args.item.now c.args.place b) r) (sym c.put_leaf.ensures.kept)
     (IsPutting-first b c.args.self.now c.args.item.now c.args.place c.requires.putting c.requires.valid c.requires.fits c.push.new.self c.put_leaf.new.self.leaves
-    c.push.ensures.appended c.put_leaf.ensures.own c.put_leaf.ensures.others c.put_leaf.ensures.many c.put_leaf.ensures.room)
+    c.push.ensures.appended c.put_leaf.ensures.own c.put_leaf.ensures.live c.put_leaf.ensures.others c.put_leaf.ensures.bits c.put_leaf.ensures.many
+    c.put_leaf.ensures.room)
