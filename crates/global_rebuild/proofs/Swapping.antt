@@ -28,14 +28,6 @@ module _ {P Item : Type 0} {contents : P → Contents Item} {most : ℕ} {old i 
           let n = p.going x is in
           let one : n.0 ≡ r = let both : Some n.0 ≡ Some r = sym n.1 ∙ there in cc in (x, is, subst (HandsOver contents most x) one n.2)
 
-  -- no more items are handed over
-  pub handed_few : to_walk contents old - to_walk contents i ≤ most
-  handed_few = cases old.shadow refl
-    where
-      cases : (o : Option (Shadow P Item)) → old.shadow ≡ o → to_walk contents old - to_walk contents i ≤ most
-      cases None is = rw is (omega arith)
-      cases (Some x) is = let n = p.going x is in rw (is, n.1, p.main) (omega (arith, n.2.at_most))
-
   -- it frees nothing
   pub walked_parts : (k : ℕ) → parts_in k old ≤ parts_in k i
   walked_parts k = cases old.shadow refl

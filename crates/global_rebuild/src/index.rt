@@ -300,7 +300,7 @@ impl<B: Builder> Index<B> {
         ensures some_turns { let ticks = to_walk B.Part.Part.contents self.old - to_walk B.Part.Part.contents self.new in
             steps.old.turns + 3 * ticks ≤ steps.new.turns }
         ensures cost { (g : ℕ) → 2 * live_in B.Part.Part.contents self.old.main + 10 < 2 ^ (g + 1)
-            → let ticks = to_walk B.Part.Part.contents self.old - to_walk B.Part.Part.contents self.new in
+            → let ticks = min most (to_walk B.Part.Part.contents self.old - to_walk B.Part.Part.contents self.new) in
             IsWithin (ticks * quotas B.SLOPE B.BASE 0 g) (ticks * (2 * g)) (B.Part.Part.mark_touches g) steps.old steps.new }
     {
         let Some(shadow) = &mut self.shadow else {

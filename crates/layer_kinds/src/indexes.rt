@@ -154,9 +154,10 @@ where
     }
 
     fn delete<L: Ledger>(&mut self, chain: &Chain<B::Item>, handle: Handle, steps: &mut Steps<L>) {
-        if let Some(index) = &mut self.index {
-            index.commit_delete(chain, handle, steps);
-        }
+        let Some(index) = &mut self.index else {
+            return;
+        };
+        index.commit_delete(chain, handle, steps);
     }
 
     ghost low = { λ s. AreLow-one (record { slope = B.SLOPE; base = B.BASE }) s B.few };

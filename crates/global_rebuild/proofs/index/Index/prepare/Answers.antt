@@ -1,13 +1,12 @@
-use Rattle.std.proofs.Common.{rules, ◌≡◌, ℕ, ◌-◌, ◌*◌, ◌≤◌, min, None, ◌∙◌, Some, inl, refl, sym, ap, arith}
+use Rattle.std.proofs.Common.{rules, ◌≡◌, ℕ, ◌-◌, ◌*◌, min, None, ◌∙◌, Some, inl, refl, sym, ap, subst, arith}
 use Rattle.query_laws.specs.StepLedger.{Counts}
 use Rattle.log_levels.specs.Cost.{IsWithin, quotas}
-use Rattle.log_levels.proofs.Spending.{IsWithin-times}
 use Rattle.log_method.proofs.Forecasting.{when_ok, anyway_ok, anyway_err, both_ok}
 use Rattle.global_rebuild.specs.Index.{Shadow, to_walk}
 use Rattle.global_rebuild.specs.Retiring.{with_retired}
 use Rattle.global_rebuild.proofs.Retiring.{one_less}
 use Rattle.global_rebuild.proofs.Freeing.{frees}
-use Rattle.global_rebuild.proofs.Swapping.{IsSwapped, ended, not_swapped, handed_few, as_far, IsMade, made}
+use Rattle.global_rebuild.proofs.Swapping.{IsSwapped, ended, not_swapped, as_far, IsMade, made}
 use Rattle.global_rebuild.proofs.index.Index.prepare.Given.{Over}
 use Rattle.global_rebuild.proofs.index.Index.prepare.Goals.{then-has_walked+in_ok-reserve, else-has_walked}
 use Rattle.global_rebuild.proofs.index.Index.prepare.Goals as goal
@@ -62,18 +61,15 @@ returns-clause-frees g c =
     (record { main = c.take_memory.new.main; shadow = c.take_memory.new.shadow; retired = c.give_up.new.retired.items }) (is_swapped g c)
     c.walk.ensures.paused c.give_up.ensures.given refl c.take_memory.ensures.no_less c.take_memory.ensures.none
 
--- so many are handed over, four at most
-ticked : (walked handed turns marks : ℕ) {touches : ℕ} {old new : Counts} → walked ≡ handed → walked ≤ 4
-    → IsWithin (walked * turns) (walked * marks) touches old new → IsWithin (min 4 handed * turns) (min 4 handed * marks) touches old new
-ticked walked handed turns marks same few h = IsWithin-times walked (min 4 handed) turns marks (omega (arith, same, few)) h
-
-pub returns-in_err-walk-clause-cost : goal.returns-in_err-walk-clause-cost
-returns-in_err-walk-clause-cost g c g' light = ticked _ _ (quotas g.B.Builder.SLOPE g.B.Builder.BASE 0 g') (2 * g') refl (handed_few c.walk.ensures.paused) (c.walk.ensures.cost g' light)
+-- as many are handed over
+ticked : (walked handed turns marks : ℕ) {touches : ℕ} {old new : Counts} → walked ≡ handed
+    → IsWithin (min 4 walked * turns) (min 4 walked * marks) touches old new → IsWithin (min 4 handed * turns) (min 4 handed * marks) touches old new
+ticked walked handed turns marks {touches} {old} {new} same h = subst (λ n. IsWithin (min 4 n * turns) (min 4 n * marks) touches old new) same h
 
 pub returns-in_err-reserve-clause-cost : goal.returns-in_err-reserve-clause-cost
 returns-in_err-reserve-clause-cost g c g' light =
     let left = to_walk g.B.Part.Part.contents in
-    ticked _ _ (quotas g.B.Builder.SLOPE g.B.Builder.BASE 0 g') (2 * g') (ap (λ i. left c.args.self.now - left i) (sym c.self.view_is)) (handed_few c.walk.ensures.paused) (c.walk.ensures.cost g' light)
+    ticked _ _ (quotas g.B.Builder.SLOPE g.B.Builder.BASE 0 g') (2 * g') (ap (λ i. left c.args.self.now - left i) (sym c.self.view_is)) (c.walk.ensures.cost g' light)
 
 -- as much is left to walk as after the walk
 far : (g : Over) (c : goal.After-take_memory g) → to_walk g.B.Part.Part.contents c.walk.new.self
@@ -85,7 +81,7 @@ far g c =
 
 pub returns-clause-cost : goal.returns-clause-cost
 returns-clause-cost g c g' light =
-    ticked _ _ (quotas g.B.Builder.SLOPE g.B.Builder.BASE 0 g') (2 * g') (ap (λ n. to_walk g.B.Part.Part.contents c.args.self.now - n) (far g c)) (handed_few c.walk.ensures.paused) (c.walk.ensures.cost g' light)
+    ticked _ _ (quotas g.B.Builder.SLOPE g.B.Builder.BASE 0 g') (2 * g') (ap (λ n. to_walk g.B.Part.Part.contents c.args.self.now - n) (far g c)) (c.walk.ensures.cost g' light)
 
 pub returns-in_err-reserve-clause-some_turns : goal.returns-in_err-reserve-clause-some_turns
 returns-in_err-reserve-clause-some_turns g c = omega (arith, c.walk.ensures.some_turns, ap (to_walk g.B.Part.Part.contents) c.self.view_is)

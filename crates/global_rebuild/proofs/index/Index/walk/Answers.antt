@@ -1,4 +1,4 @@
-use Rattle.std.proofs.Common.{◌≡◌, ◌≢◌, ◌-◌, ◌*◌, None, ◌∙◌, ⊎_elim, ap, sym, subst, arith}
+use Rattle.std.proofs.Common.{◌≡◌, ◌≢◌, ℕ, ◌-◌, ◌*◌, min, None, ◌∙◌, ⊎_elim, ap, sym, subst, arith}
 use Rattle.log_levels.specs.Cost.{IsWithin, quotas}
 use Rattle.log_method.proofs.Forecasting.{when_ok}
 use Rattle.global_rebuild.specs.Index.{IsInTime, live_in, to_walk}
@@ -31,7 +31,10 @@ pub returns-clause-cost : goal.returns-clause-cost
 returns-clause-cost g c g' light =
     let turns = quotas g.B.Builder.SLOPE g.B.Builder.BASE 0 g' in
     let t = c.self.invariant.in_time c.in-Some.shadow c.in-Some.is in
-    subst (λ n. IsWithin (n * turns) (n * (2 * g')) (g.B.Part.Part.mark_touches g') c.args.steps.now c.walk.new.steps) (walked g c)
+    let left : ℕ = live_in g.B.Part.Part.contents c.self.inside.main - live_in g.B.Part.Part.contents c.walk.new.self.stack in
+    let few : live_in g.B.Part.Part.contents c.walk.new.self.stack - live_in g.B.Part.Part.contents c.in-Some.shadow.stack
+    ≡ min c.args.most (to_walk g.B.Part.Part.contents c.args.self.now - left) = omega (arith, walked g c, c.walk.ensures.handed.at_most) in
+    subst (λ n. IsWithin (n * turns) (n * (2 * g')) (g.B.Part.Part.mark_touches g') c.args.steps.now c.walk.new.steps) few
     (c.walk.ensures.cost g' (shadow_within t c.walk.ensures.handed g' c.requires.few
     (omega (arith, light, ap (λ i. live_in g.B.Part.Part.contents i.main) c.self.view_is))))
 
