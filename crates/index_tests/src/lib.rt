@@ -1,4 +1,4 @@
-//! Tests of what an index is made of: parts, merges, constructions, stacks, chains and directories.
+//! Tests of what an index is made of: live places, parts, merges, constructions, stacks, chains and directories.
 //!
 //! They call these crates as any user would, all over one kind of part. A crate with tests of its own is proved twice, so they stand here together.
 #![tactic(auto)]
@@ -11,6 +11,8 @@ mod constructions;
 mod directories;
 #[cfg(test)]
 mod item;
+#[cfg(test)]
+mod live_places;
 #[cfg(test)]
 mod merges;
 #[cfg(test)]

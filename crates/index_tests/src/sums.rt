@@ -51,6 +51,7 @@ fn live_x<L: Ledger>(part: &FlatPart<Pair>, k: usize, steps: &mut Steps<L>) -> u
     requires { k < length part.now.items }
     ensures added { sum_by (λ pair. pair.x) (live_before (k + 1) part.now)
         ≡ sum_by (λ pair. pair.x) (live_before k part.now) + result }
+    ensures read { steps.old.touches < steps.new.touches }
     ensures cost { Spends steps.old steps.new 0 0 4 }
 {
     if !part.alive(k, steps) {

@@ -1,36 +1,121 @@
-//! Sources and sinks that fail, and how much is left of the source then.
-use crate::over_memory::{Plan, WHOLE, run_words};
-use crate::scripts::{CORNERS, CORNERS_ANSWERED};
-use program_run::Status;
+//! Sources and sinks that fail, and what was read, written and executed then.
+ghost use Rattle.std.specs.Prelude.{◌≡◌, ◌+◌, ◌≤◌};
+
+use crate::over_memory::{Plan, WHOLE, failing_calls, run_words};
+use crate::town::{town, town_answered};
+use map_io::MemSink;
+use map_session::{OverPoints, OverSegments, Session};
+use program_run::{MapSession, Status};
+use query_laws::step_ledger::{SHARES, Steps, blank};
 use std::alloc::{AllocError, Global};
+use std::marker::Brand;
+use std::sync::ledger::{Blank, Ledger};
 use std::test::Fail;
 
-/// Each number of bytes that a sink takes before it fails; and a source that fails in the fourth line: 90 bytes are taken, and the line is
-/// bytes 86 to 119.
-#[test]
-fn faults_leave_a_front(rt: HostRuntime) -> Result<(), Fail> {
-    let reads = Plan {
-        piece: 30,
-        failing: 4,
-    };
-    let ran = run_words(rt.alloc(), &[], CORNERS, reads, WHOLE, 64)?;
-    assert_eq!(rt; (ran.status, ran.status.code()), (Status::ReadFault, 3));
-    assert_eq!(rt; ran.written.as_slice(), b"ok\nok\nok\n".as_slice());
+/// How many lines a line feed ends.
+fn whole_lines(text: &[u8]) -> usize {
+    text.iter().filter(|byte| **byte == b'\n').count()
+}
 
-    // The answers have 32 bytes.
-    for failing in 1..=32u64 {
-        let ran = run_words(
-            rt.alloc(),
-            &[],
-            CORNERS,
-            WHOLE,
-            Plan { piece: 1, failing },
-            64,
-        )?;
-        let front = CORNERS_ANSWERED.as_bytes().get(..failing as usize - 1);
-        assert_eq!(rt; ran.status, Status::WriteFault, "call {failing}");
-        assert_eq!(rt; Some(ran.written.as_slice()), front, "call {failing}");
+/// Whether these are the answers to the whole lines of a front of the town.
+fn are_whole_answers(written: &[u8], taken: &[u8]) -> bool {
+    town_answered().starts_with(written)
+        && whole_lines(written) == whole_lines(taken)
+        && (written.is_empty() || written.ends_with(b"\n"))
+}
+
+/// In pieces of seven bytes the town takes so many reads, the last of which gives nothing.
+const READS: u16 = 244;
+
+/// Whether the lines that ended in so many reads are answered, where the next one fails.
+fn is_answered_after(alloc: Global, reads: u16) -> Result<bool, Fail> {
+    let plan = Plan {
+        piece: 7,
+        failing: u64::from(reads) + 1,
+    };
+    let ran = run_words(alloc, &[], town(), plan, WHOLE, 512)?;
+    let taken = town().get(..7 * usize::from(reads)).unwrap_or(town());
+    let status = if reads < READS { 3 } else { 0 };
+    Ok(ran.status.code() == status && are_whole_answers(&ran.written, taken))
+}
+
+#[test]
+fn each_read_fails(rt: HostRuntime) -> Result<(), Fail> {
+    for reads in 0..=READS {
+        assert!(rt; is_answered_after(rt.alloc(), reads)?, "after {reads}");
     }
+    Ok(())
+}
+
+/// In pieces of five bytes the answers take so many writes.
+const WRITES: u16 = 105;
+
+/// Whether a front of the answers is written, where the write after so many fails: a byte at least for each, and five at most.
+fn is_cut_off_after(alloc: Global, writes: u16) -> Result<bool, Fail> {
+    let plan = Plan {
+        piece: 5,
+        failing: u64::from(writes) + 1,
+    };
+    let ran = run_words(alloc, &[], town(), WHOLE, plan, 512)?;
+    let status = if writes < WRITES { 4 } else { 0 };
+    let len = ran.written.len();
+    Ok(
+        ran.status.code() == status
+            && town_answered().starts_with(&ran.written)
+            && usize::from(writes) <= len
+            && len <= 5 * usize::from(writes),
+    )
+}
+
+#[test]
+fn each_write_fails(rt: HostRuntime) -> Result<(), Fail> {
+    for writes in 0..=WRITES {
+        assert!(rt; is_cut_off_after(rt.alloc(), writes)?, "after {writes}");
+    }
+    Ok(())
+}
+
+/// What a session writes for a line into a sink whose call of a number fails, 0 for none; `None` for a `WriteFault`.
+fn answer_of<P: OverPoints, S: OverSegments, L: Ledger>(
+    alloc: Global,
+    session: &mut Session<P, S>,
+    line: &[u8],
+    failing: u64,
+    steps: &mut Steps<L>,
+) -> Result<Option<Vec<u8>>, Fail>
+    requires few { session.old.lines ≤ 1 }
+    ensures counted { session.new.lines ≤ session.old.lines + 1 }
+{
+    let space = vec![in alloc; 0u8; 16]?;
+    let mut sink = MemSink::new(space, 16, failing_calls(alloc, failing)?);
+    if session.line(line, &mut sink, steps).is_err() {
+        return Ok(None);
+    }
+    Ok(Some(Vec::from_slice(alloc, sink.written())?))
+}
+
+/// What is written for a layer into a sink that fails, and for the layer's size into one that doesn't.
+fn answers_around_a_fault<L: Ledger>(
+    alloc: Global,
+    blank: Blank,
+) -> Result<(Option<Vec<u8>>, Option<Vec<u8>>), Fail>
+    requires name { blank.name ≡ L.name }
+    requires parts { blank.parts ≡ L.parts }
+    requires shares { blank.parts ≡ SHARES }
+{
+    let mut session = MapSession::new(alloc, false);
+    let mut steps = Steps::<L>::new(blank);
+    let made = answer_of(alloc, &mut session, b"layer a points range", 1, &mut steps)?;
+    let size = answer_of(alloc, &mut session, b"size a", 0, &mut steps)?;
+    Ok((made, size))
+}
+
+/// The command is executed whose answer can't be written, and the session goes on.
+#[test]
+fn a_lost_answer_was_executed(rt: HostRuntime) -> Result<(), Fail> {
+    let (made, size) = answers_around_a_fault::<Brand>(rt.alloc(), blank())?;
+    assert!(rt; made.is_none());
+    assert_eq!(rt; size.as_deref(), Some(b"size 0\n".as_slice()));
     Ok(())
 }
 

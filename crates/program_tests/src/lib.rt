@@ -18,4 +18,6 @@ mod patterns;
 #[cfg(test)]
 mod scripts;
 #[cfg(test)]
+mod town;
+#[cfg(test)]
 mod words;

@@ -23,7 +23,8 @@ pub const WHOLE: Plan = Plan {
     failing: 0,
 };
 
-fn failing_calls(alloc: Global, call: u64) -> Result<Vec<u64>, AllocError>
+/// The number of the call that fails, if there is one.
+pub fn failing_calls(alloc: Global, call: u64) -> Result<Vec<u64>, AllocError>
     ensures rising { IfOk result (λ calls. IsStrictlyIncreasing calls.items) }
     ensures numbered { IfOk result (λ calls. All (λ n. 0 < n) calls.items) }
 {

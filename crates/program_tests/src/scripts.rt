@@ -6,10 +6,10 @@ use std::alloc::{AllocError, Global};
 use std::test::Fail;
 
 /// Two points at opposite corners, counted and weighed.
-pub const CORNERS: &[u8] =
+const CORNERS: &[u8] =
     b"layer a points range\nadd a 1 0 0 2147483647\nadd a 2 2147483647 2147483647 2147483647\ncount a 0 0 2147483647 2147483647\nsum a 0 0 2147483647 2147483647\n";
 
-pub const CORNERS_ANSWERED: &str = "ok\nok\nok\ncount 2\nsum 4294967294\n";
+const CORNERS_ANSWERED: &str = "ok\nok\nok\ncount 2\nsum 4294967294\n";
 
 /// An identifier twice, one that isn't there, and three updates.
 const IDENTIFIERS: &[u8] =
@@ -48,11 +48,11 @@ const ROWS: [Row; 25] = [
         "ok\nok\nok\nok\nok\nok\nok\nok\nok\nok\nlist 2 3 4 5 6 7 8\n",
         false,
     ),
-    // The first fault of a line is told.
+    // Lines that say nothing, and the first fault of each other one, over one empty layer. The long ones have 250 and 251 spaces.
     (
         &[],
-        b"layer a points range\ncount a 5 0 4 9\nadd a 1 2147483648 0 0\nadd a x 0 0 0\ncount zz 5 0 4 9\ncount a 1 2 3\nfly a\nsize a!\nnearest a 65 0 0\nlayer q lines range\nlayer q points stab\nlayer q points range range\nlayer q points\nsize q\n",
-        "ok\nno order\nno range\nno number\nno order\nno fields\nno command\nno name\nno range\nno kind\nno index\nno index\nno fields\nno layer\n",
+        b"layer a points range\n \n#\xff\n\0\n\tsize a\t\r\nsize a\r\r\nsize a\x7f\nsize a                                                                                                                                                                                                                                                          \r\nsize a                                                                                                                                                                                                                                                           \nSize a\nsize\nsize a a\nsize abcdefghijklmnopq\nget a +1\nget a -1\nget a 18446744073709551616\nget a 0000000000018446744073709551615\nadd a 1 99999999999999999999999999 x 0\ncount a 5 9 4 4294967296\ncount a 5 9 4 8\nlayer b segments range\ncount zz 5 0 4 9\nadd a 1 2147483648 0 0\nlayer q lines range\nlayer q points stab\nlayer q points range range\nlayer q points\ncount a 1 2 3\nfly a\nsize a!\nsize q\nsize a\n",
+        "ok\nno line\nsize 0\nno line\nno line\nsize 0\nno line\nno command\nno fields\nno fields\nno name\nno number\nno number\nno range\nno unknown 18446744073709551615\nno number\nno range\nno order\nno index\nno order\nno range\nno kind\nno index\nno index\nno fields\nno fields\nno command\nno name\nno layer\nsize 0\n",
         true,
     ),
     (&[], b"   \nlayer a points range", "ok\n", false),
