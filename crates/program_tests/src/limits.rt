@@ -69,12 +69,12 @@ fn longest_script(alloc: Global, lines: u32) -> Result<Vec<u8>, AllocError> {
     Ok(script)
 }
 
-/// A script of the greatest length, one with a byte more, and one whose last line no line feed ends, and is longer than a line can be.
+/// A script with a byte more than the greatest length, and one of that length, whose last line no line feed ends, and is longer than a line can
+/// be.
 #[test]
 fn scripts_have_64_mebibytes(rt: HostRuntime) -> Result<(), Fail> {
     for (lines, is_longer, wanted, status) in [
-        (262_144, false, b"".as_slice(), Status::Clean),
-        (262_144, true, b"", Status::TooLong),
+        (262_144, true, b"".as_slice(), Status::TooLong),
         (262_142, false, b"no line\n", Status::Refusals),
     ] {
         let mut script = longest_script(rt.alloc(), lines)?;
