@@ -18,6 +18,9 @@ const MOST: u64 = 1 << 39;
 /// The length of pieces that are whole texts.
 const WHOLE: usize = usize::MAX;
 
+/// The greatest length of pieces that aren't.
+const LONGEST: usize = 64;
+
 /// Gives a new session the lines that make the layers of a plain map, and so many seeded ones, and compares its answers with those of the
 /// map.
 ///
@@ -69,13 +72,15 @@ pub fn check_examples<L: Ledger>(bench: &mut Bench<L>, folder: &str) -> Outcome 
     Ok(writeln!(bench.report, "examples count {count}")?)
 }
 
-/// Compares the answers of new sessions to a text, in pieces of each length and at once, with those that are said with it.
+/// Compares the answers of new sessions to a text, in pieces of each length up to more than a line's and at once, with those that are said with
+/// it.
 fn check_pieces<L: Ledger>(said: &Exchange, bench: &mut Bench<L>) -> Outcome {
-    for length in 1..=said.text.len().saturating_add(1) {
+    for length in 1..=LONGEST {
         let mut session = MapSession::new(bench.alloc, false);
         check_answers(&mut session, said, length, bench)?;
     }
-    Ok(())
+    let mut session = MapSession::new(bench.alloc, false);
+    check_answers(&mut session, said, WHOLE, bench)
 }
 
 /// Compares the answers of a session to a text in pieces of so many bytes with those that are said with it.
