@@ -1,5 +1,5 @@
 //! y in the first order, sixteen an entry, with a mask of the live ones.
-ghost use Rattle.std.specs.Prelude.{◌≡◌, ◌≢◌, ◌+◌, ◌/◌, ◌%◌, ◌<◌, ℕ, length, slice_set};
+ghost use Rattle.std.specs.Prelude.{◌≡◌, ◌≢◌, ◌+◌, ◌/◌, ◌%◌, ◌<◌, ℕ, length, slice_index, slice_set};
 ghost use Rattle.std.specs.Int.{bit_at};
 ghost use Rattle.query_laws.specs.StepLedger.{Spends};
 ghost use Rattle.range_tree.specs.Tree.{y_at, live_bit};
@@ -25,30 +25,26 @@ const NO_POINTS: Leaf = Leaf {
 };
 
 impl Leaf {
-    /// The leaf with a live point at a place.
-    fn with(self, slot: usize, y: u32) -> Leaf
+    /// Puts a live point at a place.
+    fn put(&mut self, slot: usize, y: u32)
         requires { slot < 16 }
-        ensures ys { result.ys ≡ slice_set self.ys slot y }
-        ensures set { bit_at result.live slot ≡ 1 }
-        ensures others { (k : ℕ) → k ≢ slot → bit_at result.live k ≡ bit_at self.live k }
+        ensures own { slice_index self.new.ys slot ≡ y }
+        ensures ys { self.new.ys ≡ slice_set self.old.ys slot y }
+        ensures set { bit_at self.new.live slot ≡ 1 }
+        ensures others { (k : ℕ) → k ≢ slot → bit_at self.new.live k ≡ bit_at self.old.live k }
     {
-        let mut leaf = self;
-        leaf.ys[slot] = y;
-        leaf.live |= 1 << slot;
-        leaf
+        self.ys[slot] = y;
+        self.live |= 1 << slot;
     }
 
-    /// The leaf in which the point at a place is dead.
-    fn without(self, slot: usize) -> Leaf
+    /// Makes the point at a place a dead one.
+    fn strike(&mut self, slot: usize)
         requires { slot < 16 }
-        ensures ys { result.ys ≡ self.ys }
-        ensures cleared { bit_at result.live slot ≡ 0 }
-        ensures others { (k : ℕ) → k < 16 → k ≢ slot → bit_at result.live k ≡ bit_at self.live k }
+        ensures ys { self.new.ys ≡ self.old.ys }
+        ensures cleared { bit_at self.new.live slot ≡ 0 }
+        ensures others { (k : ℕ) → k < 16 → k ≢ slot → bit_at self.new.live k ≡ bit_at self.old.live k }
     {
-        Leaf {
-            live: self.live & !(1 << slot),
-            ..self
-        }
+        self.live &= !(1 << slot);
     }
 }
 
@@ -67,11 +63,13 @@ impl RangeTree {
         ensures cost { Spends steps.old steps.new 0 0 2 }
     {
         if place % LEAF_LEN == 0 {
-            self.leaves.push(NO_POINTS.with(0, y), steps);
+            let mut leaf = NO_POINTS;
+            leaf.put(0, y);
+            self.leaves.push(leaf, steps);
         } else {
-            let leaf = self.leaves.at(place / LEAF_LEN, steps);
             self.leaves
-                .set(place / LEAF_LEN, leaf.with(place % LEAF_LEN, y), steps);
+                .entry_mut(place / LEAF_LEN, steps)
+                .put(place % LEAF_LEN, y);
         }
     }
 
@@ -86,8 +84,8 @@ impl RangeTree {
         ensures room { self.new.leaves.capacity ≡ self.old.leaves.capacity }
         ensures cost { Spends steps.old steps.new 0 0 2 }
     {
-        let leaf = self.leaves.at(place / LEAF_LEN, steps);
         self.leaves
-            .set(place / LEAF_LEN, leaf.without(place % LEAF_LEN), steps);
+            .entry_mut(place / LEAF_LEN, steps)
+            .strike(place % LEAF_LEN);
     }
 }

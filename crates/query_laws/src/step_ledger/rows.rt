@@ -28,6 +28,9 @@ impl<T: Copy> Model for Row<T> {
 }
 
 impl<T: Copy> Row<T> {
+    ghost use Rattle.std.specs.Borrow.{Lends, sem};
+    ghost use Rattle.query_laws.specs.contracts.step_ledger.rows.Row.{the_row};
+
     /// An empty row that takes `cap` entries.
     pub fn room(alloc: Global, cap: usize) -> Result<Row<T>, NoMemory>
         ensures { IfOk result (λ row. row ≡ record { items = []; capacity = cap }) }
@@ -71,6 +74,22 @@ impl<T: Copy> Row<T> {
     {
         self.entries[index] = entry;
         steps.touch();
+    }
+
+    /// The entry at an index, to be changed in place: two touches, of one read and one write, also where neither follows.
+    #[inline]
+    pub fn entry_mut<L: Ledger>(&mut self, index: usize, steps: &mut Steps<L>) -> &mut T
+        requires { index < length self.old.items }
+        ensures* writes_back { sem 𝓛 (Lends (the_row T.row) T.row self.entry result (λ entry. record self.old { items = slice_set self.old.items index entry })) }
+        ensures read { slice_get self.old.items index ≡ Some result.now }
+
+        // The same, in the form of the library's lemmas on lists.
+        ensures read_or { result.now ≡ slice_index_or self.old.items index result.now }
+        ensures touched { steps.new ≡ one_touch (one_touch steps.old) }
+    {
+        steps.touch();
+        steps.touch();
+        &mut self.entries[index]
     }
 
     /// Takes all entries out, in one step, and keeps the memory. It counts nothing.
