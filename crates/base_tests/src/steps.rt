@@ -9,8 +9,8 @@ use std::marker::Brand;
 use std::sync::ledger::{Blank, Ledger};
 use std::test::Fail;
 
-/// What a row of two holds after a write, and how many fit; the lap; and how often one was begun and the most turns and marks of one, after laps
-/// of 2 turns and 1 mark and in a second one of 1 turn.
+/// What a row of two holds after a write and a change in place, and how many fit; the lap; and how often one was begun and the most turns and marks
+/// of one, after laps of 2 turns and 1 mark and in a second one of 1 turn.
 fn row_and_laps<L: Ledger>(alloc: Global, blank: Blank) -> Result<([u64; 4], [u64; 6]), NoMemory>
     requires name { blank.name ≡ L.name }
     requires parts { blank.parts ≡ L.parts }
@@ -21,6 +21,7 @@ fn row_and_laps<L: Ledger>(alloc: Global, blank: Blank) -> Result<([u64; 4], [u6
     row.push(5u64, &mut steps);
     row.push(6, &mut steps);
     row.set(1, 60, &mut steps);
+    *row.entry_mut(0, &mut steps) |= 2;
     let (first, second) = (row.at(0, &mut steps), row.at(1, &mut steps));
     steps.turn();
     steps.turn();
@@ -43,8 +44,8 @@ fn row_and_laps<L: Ledger>(alloc: Global, blank: Blank) -> Result<([u64; 4], [u6
 fn steps_are_counted(rt: HostRuntime) -> Result<(), Fail> {
     derived_laws::<CountIn>();
     let (row, laps) = row_and_laps::<Brand>(rt.alloc(), blank())?;
-    assert_eq!(rt; row, [5, 60, 2, 2]);
-    assert_eq!(rt; laps, [5, 1, 0, 1, 2, 1]);
+    assert_eq!(rt; row, [7, 60, 2, 2]);
+    assert_eq!(rt; laps, [7, 1, 0, 1, 2, 1]);
     let text = NoMemory.to_string(rt.alloc())?;
     assert_eq!(rt; text.as_str(), "no memory");
     Ok(())

@@ -25,7 +25,7 @@ const NO_POINTS: Leaf = Leaf {
 };
 
 impl Leaf {
-    /// Puts a live point at a place.
+    /// Puts a live point at a place, by its y.
     fn put(&mut self, slot: usize, y: u32)
         requires { slot < 16 }
         ensures own { slice_index self.new.ys slot ≡ y }
@@ -37,7 +37,7 @@ impl Leaf {
         self.live |= 1 << slot;
     }
 
-    /// Makes the point at a place a dead one.
+    /// Clears the bit of a place whose point died.
     fn strike(&mut self, slot: usize)
         requires { slot < 16 }
         ensures ys { self.new.ys ≡ self.old.ys }
@@ -73,7 +73,7 @@ impl RangeTree {
         }
     }
 
-    /// Clears the bit of a dead place.
+    /// The point at a place died: its bit is cleared.
     pub(crate) fn strike_leaf<L: Ledger>(&mut self, place: usize, steps: &mut Steps<L>)
         requires { place / 16 < length self.old.leaves.items }
         ensures own { live_bit self.new.leaves.items place ≡ 0 }

@@ -5,7 +5,7 @@
 //! places, h being its height, and is one row: block after block, and within a block the points by y. A row keeps one bit a point, which half
 //! of its block the point goes into, and their ranks; so what is found in the first row by two binary searches is followed down to the blocks
 //! that a rectangle takes whole, two of each row at most. Places at both ends that no block of `2^9` places has are scanned, by
-//! y that stand apart from the points.
+//! y that stand apart from the points, sixteen an entry, with a mask of the live ones.
 //!
 //! A part keeps its points by the flat structure, and these rows beside them, in a box.
 //!
@@ -14,8 +14,7 @@
 //! builders are moved often; the box has a struct of its own, so that no proof about the tree speaks of it.
 //!
 //! A rectangle over at most 1,024 places of the first order is scanned for a count, 2,048 for a sum, 8,192 for a list: a leaf costs
-//! less than one way down the rows. Tried and slower: searches with conditional moves, 1.6 to 2 times as long as with a branch; a count
-//! by a filter with a branch, 2.7 times as long as one that compares both bounds.
+//! less than one way down the rows. Tried and slower: searches with conditional moves, 1.6 to 2 times as long as with a branch.
 #![tactic(auto)]
 
 mod answers;
