@@ -34,7 +34,9 @@ impl Heap {
         ensures opened { IsOpened self.old self.new }
         ensures cost { Spends steps.old steps.new 0 0 3 }
     {
-        self.leaves.push(Leaf::empty().with(0, slot), steps);
+        let mut leaf = Leaf::empty();
+        leaf.put(0, slot);
+        self.leaves.push(leaf, steps);
         widen(&mut self.nodes, steps);
         widen(&mut self.nodes, steps);
     }
@@ -46,9 +48,9 @@ impl Heap {
         ensures same { IsSameShape self.old self.new }
         ensures cost { Spends steps.old steps.new 0 0 2 }
     {
-        let l = place / LEAF_LEN;
-        let leaf = self.leaves.at(l, steps);
-        self.leaves.set(l, leaf.with(place % LEAF_LEN, slot), steps);
+        self.leaves
+            .entry_mut(place / LEAF_LEN, steps)
+            .put(place % LEAF_LEN, slot);
     }
 
     /// Puts the next point into its leaf.

@@ -110,9 +110,9 @@ impl Heap {
         ensures same { IsSameOutside self.old self.new 0 l }
         ensures cost { Spends steps.old steps.new 0 0 2 }
     {
-        let leaf = self.leaves.at(l, steps);
-        let freed = leaf.without(entry.place as usize % LEAF_LEN);
-        self.leaves.set(l, freed, steps);
+        self.leaves
+            .entry_mut(l, steps)
+            .free(entry.place as usize % LEAF_LEN);
     }
 
     /// Takes the first point of a block out of its place, or out of the leaf.

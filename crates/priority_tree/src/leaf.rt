@@ -55,30 +55,21 @@ impl Leaf {
         }
     }
 
-    /// The leaf with a point at a place.
-    pub(crate) fn with(self, k: usize, slot: Slot) -> Leaf
-        requires { k < length self.slots }
-        ensures { result ≡ record { slots = slice_set self.slots k slot } }
+    /// Puts a point at a place.
+    pub(crate) fn put(&mut self, k: usize, slot: Slot)
+        requires { k < 16 }
+        ensures slots { self.new ≡ record { slots = slice_set self.old.slots k slot } }
+        ensures own { slice_index_or self.new.slots k no_slot ≡ slot }
     {
-        let mut leaf = self;
-        leaf.slots[k] = slot;
-        leaf
+        self.slots[k] = slot;
     }
 
-    /// The leaf in which the point at a place doesn't stand.
-    pub(crate) fn without(self, k: usize) -> Leaf
-        requires { k < length self.slots }
-        ensures { result ≡ record { slots = slice_set self.slots k (freed (slice_index_or self.slots k no_slot)) } }
+    /// The point at a place doesn't stand there any more.
+    pub(crate) fn free(&mut self, k: usize)
+        requires { k < 16 }
+        ensures { self.new ≡ record { slots = slice_set self.old.slots k (freed (slice_index_or self.old.slots k no_slot)) } }
     {
-        let slot = self.slots[k];
-        self.with(
-            k,
-            Slot {
-                y: slot.y,
-                stands: false,
-                id: slot.id,
-            },
-        )
+        self.slots[k].stands = false;
     }
 }
 

@@ -199,9 +199,7 @@ impl LiveCounts {
         self.total.count += 1;
         self.total.weight += weight as u64;
         let entry = self.len / WIDTH;
-        let mut weights = self.weights.at(entry, steps);
-        weights[self.len % WIDTH] = weight;
-        self.weights.set(entry, weights, steps);
+        self.weights.entry_mut(entry, steps)[self.len % WIDTH] = weight;
         self.nodes.set(entry, self.total, steps);
         self.len += 1;
         self.unturned += 1;

@@ -1,4 +1,4 @@
-use Rattle.std.proofs.Common.{rules, ◌≡◌, ℕ, ◌+◌, ◌-◌, ◌/◌, ◌%◌, ◌^◌, ◌<◌, List, [], ◌∷◌, ◌++◌, length, get_or, set, ap, sym, subst, ◌∙◌, arith, All, length-set, false}
+use Rattle.std.proofs.Common.{rules, ◌≡◌, ℕ, ◌+◌, ◌-◌, ◌/◌, ◌%◌, ◌^◌, ◌<◌, List, [], ◌∷◌, ◌++◌, length, get_or, set, ap, sym, subst, ◌∙◌, arith, All, length-set, false, refl}
 use Rattle.std.proofs.lemmas.List.{get_or_read}
 use Rattle.std.proofs.lemmas.List.Elements.{All-get_or}
 use Rattle.std.proofs.lemmas.List.Sums.{sum_by_push}
@@ -13,20 +13,14 @@ use Rattle.weak_delete.proofs.Packing.{length-packed, packed-put_behind}
 use Rattle.weak_delete.proofs.Opened.{value_put, opened, places_of}
 use Rattle.weak_delete.proofs.live_counts.LiveCounts.put_behind.Goals as goal
 
-pub at-weights-requires : goal.at-weights-requires
-at-weights-requires g c =
+pub entry_mut-requires : goal.entry_mut-requires
+entry_mut-requires g c =
     let o = opened c.self.inside c.args.self.now c.self.view_is in
     let kept = c.self.invariant in
     omega (arith, o.long, kept.node_each, kept.weights_each, c.requires.behind)
 
 pub set-requires : goal.set-requires
 set-requires g c =
-    let o = opened c.self.inside c.args.self.now c.self.view_is in
-    let kept = c.self.invariant in
-    omega (arith, o.long, kept.node_each, kept.weights_each, c.requires.behind)
-
-pub set-requires-2 : goal.set-requires-2
-set-requires-2 g c =
     let o = opened c.self.inside c.args.self.now c.self.view_is in
     let kept = c.self.invariant in
     omega (arith, o.long, kept.node_each, c.requires.behind)
@@ -50,26 +44,28 @@ invariant_of-self g c =
     let o = opened c.self.inside c.args.self.now c.self.view_is in
     let kept = c.self.invariant in
     let inside = c.self.inside in
+    let weights : Entries (List ℕ) =
+    record inside.weights { items = set inside.weights.items (inside.len / 16) (set c.entry_mut.result.now (inside.len % 16) c.args.weight) } in
     let old = places_of inside in
     let open_yet : inside.sealed ≡ false = o.sealed ∙ c.requires.open in
-    let after = placed c.args.self.now inside.weights c.set.new.self inside.masks 0 inside.len c.args.weight c.at-weights.result o.places (kept.weights_each ∙ kept.node_each) (kept.mask_each ∙ kept.node_each)
-    c.requires.behind (kept.all_live open_yet) c.at-weights.ensures.read_or (let sixteen : length c.at-weights.result ≡ 16 = search rules in sixteen) c.set.ensures.written in
+    let after = placed c.args.self.now inside.weights weights inside.masks 0 inside.len c.args.weight c.entry_mut.result.now o.places (kept.weights_each ∙ kept.node_each) (kept.mask_each ∙ kept.node_each)
+    c.requires.behind (kept.all_live open_yet) c.entry_mut.ensures.read_or (let sixteen : length c.entry_mut.result.now ≡ 16 = search rules in sixteen) refl in
     let total : Node = record { count = inside.total.count + 1; weight = inside.total.weight + c.args.weight } in
-    let nodes : c.set-2.new.self.items ≡ set inside.nodes.items (inside.len / 16) total = ap (λ (r : Entries Node). r.items) c.set-2.ensures.written in
-    let node_count : length c.set-2.new.self.items ≡ length inside.nodes.items = ap length nodes ∙ length-set inside.nodes.items (inside.len / 16) total in
-    let weight_count : length c.set.new.self.items ≡ length inside.weights.items = ap (λ (r : Entries (List ℕ)). length r.items) c.set.ensures.written ∙ length-set inside.weights.items _ _ in
+    let nodes : c.set.new.self.items ≡ set inside.nodes.items (inside.len / 16) total = ap (λ (r : Entries Node). r.items) c.set.ensures.written in
+    let node_count : length c.set.new.self.items ≡ length inside.nodes.items = ap length nodes ∙ length-set inside.nodes.items (inside.len / 16) total in
+    let weight_count : length weights.items ≡ length inside.weights.items = length-set inside.weights.items _ _ in
     let behind : inside.len % 16 ≡ 0 → ⊥ = λ e. c.requires.behind (omega (arith, o.long)) in
     let whole : entries_for inside.unturned ≡ entries_for inside.len = ap entries_for (kept.unsealed open_yet) in
     let built : AreNodes old inside.nodes.items (entries_for inside.len) = subst (AreNodes old inside.nodes.items) whole kept.nodes_over in
     let built_after = AreNodes-put_behind old inside.len c.args.weight o.count inside.nodes.items inside.total built kept.node_each kept.total_over behind in
-    let P : List Place → Type 0 = λ ps. IsFenwick ps c.set.new.self inside.masks c.set-2.new.self total inside.cap (inside.len + 1) (inside.unturned + 1) inside.sealed in
+    let P : List Place → Type 0 = λ ps. IsFenwick ps weights inside.masks c.set.new.self total inside.cap (inside.len + 1) (inside.unturned + 1) inside.sealed in
     subst P (sym after) (record {
       node_each = omega (arith, node_count, kept.node_each, behind);
       weights_each = omega (arith, weight_count, node_count, kept.weights_each);
       mask_each = omega (arith, node_count, kept.mask_each);
       within = omega (arith, o.long, o.capacity, c.requires.room);
-      room = omega (arith, kept.room, ap (λ (r : Entries Node). r.capacity) c.set-2.ensures.written);
-      room_weights = omega (arith, kept.room_weights, ap (λ (r : Entries (List ℕ)). r.capacity) c.set.ensures.written);
+      room = omega (arith, kept.room, ap (λ (r : Entries Node). r.capacity) c.set.ensures.written);
+      room_weights = kept.room_weights;
       room_masks = kept.room_masks;
       few = kept.few;
       small = omega (arith, kept.small, sum_by_push live_amount old (live_place c.args.weight), c.ranges.weight.fits);
@@ -86,7 +82,9 @@ returns-clause-put g c =
     let o = opened c.self.inside c.args.self.now c.self.view_is in
     let kept = c.self.invariant in
     let inside = c.self.inside in
+    let weights : Entries (List ℕ) =
+    record inside.weights { items = set inside.weights.items (inside.len / 16) (set c.entry_mut.result.now (inside.len % 16) c.args.weight) } in
     let open_yet : inside.sealed ≡ false = o.sealed ∙ c.requires.open in
-    let after = placed c.args.self.now inside.weights c.set.new.self inside.masks 0 inside.len c.args.weight c.at-weights.result o.places (kept.weights_each ∙ kept.node_each) (kept.mask_each ∙ kept.node_each)
-    c.requires.behind (kept.all_live open_yet) c.at-weights.ensures.read_or (let sixteen : length c.at-weights.result ≡ 16 = search rules in sixteen) c.set.ensures.written in
+    let after = placed c.args.self.now inside.weights weights inside.masks 0 inside.len c.args.weight c.entry_mut.result.now o.places (kept.weights_each ∙ kept.node_each) (kept.mask_each ∙ kept.node_each)
+    c.requires.behind (kept.all_live open_yet) c.entry_mut.ensures.read_or (let sixteen : length c.entry_mut.result.now ≡ 16 = search rules in sixteen) refl in
     value_put c.self.inside c.args.self.now c.args.weight _ o c.requires.open after
