@@ -42,6 +42,7 @@ module _ {I : Type 0} where
         others = λ other differs. updates.others other (λ same. differs (ap Some (sym same)));
         len = slab_len-with_value s place _ present;
         capacity = refl;
+        vacant_key = refl;
       }
 
   -- a call that writes the node at a place, if there is one, changes that node

@@ -104,3 +104,11 @@ module _ {I : Type 0} where
     pub front : before handle new ≡ without_handle gone (before handle old)
     pub rest : after handle new ≡ without_handle gone (after handle old)
     pub front_kept : is_linked gone (before handle old) ≡ false → before handle new ≡ before handle old
+
+  -- an entry is linked still, where another one is renewed; before it and after it there is what was there, but for the renewed one, which comes last
+  pub record StaysAhead (renewed : Entry I) (handle : ℕ) (old new : List (Entry I)) : Type 0 where
+    pub linked : IsTrue (is_linked handle new)
+    pub item : item_at handle new ≡ item_at handle old
+    pub front : before handle new ≡ without_handle renewed.handle (before handle old)
+    pub rest : after handle new ≡ without_handle renewed.handle (after handle old) ++ renewed ∷ []
+    pub front_kept : is_linked renewed.handle (before handle old) ≡ false → before handle new ≡ before handle old

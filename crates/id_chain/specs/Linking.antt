@@ -50,6 +50,7 @@ module _ {I : Type 0} where
     pub others : (other : ℕ) → ¬ (place ≡ Some other) → get new other ≡ get old other
     pub len : slab_len new ≡ slab_len old
     pub capacity : new.capacity ≡ old.capacity
+    pub vacant_key : new.vacant_key ≡ old.vacant_key
 
   -- the node at the place has this next
   abbrev pub SetsNext : Slab (Node I) → Slab (Node I) → Option ℕ → Option ℕ → Type 0

@@ -1,6 +1,6 @@
 //! The chain itself.
 ghost use Rattle.std.specs.Prelude.{◌≡◌, ◌≢◌, ◌↔◌, ℕ, ◌+◌, ◌≤◌, [], ◌∷◌, ◌++◌, length, Some, false, IsTrue, IsOk, OnOk};
-ghost use Rattle.id_chain.specs.Chain.{is_linked, HandlesDiffer, item_at, before, after, up_to, IsCursor, before_cursor, without_handle, first_handle, last_handle, StaysBefore, StaysBeside};
+ghost use Rattle.id_chain.specs.Chain.{is_linked, HandlesDiffer, item_at, before, after, up_to, IsCursor, before_cursor, without_handle, first_or, first_handle, last_handle, StaysBefore, StaysBeside, StaysAhead};
 
 use crate::handle::Handle;
 use crate::node::{Node, link_next, link_prev};
@@ -98,7 +98,7 @@ impl<I: Copy> Chain<I> {
         // Any other handle stays linked, and the new entry comes after it.
         ensures others { (other : ℕ) → IsTrue (is_linked other self.old.entries)
             → StaysBefore (record { handle = result; item = item } ∷ []) other self.old.entries self.new.entries }
-        ensures spare { self.old.spare ≤ self.new.spare + 1 }
+        ensures spare { self.new.spare + 1 ≡ self.old.spare }
     {
         let place = self.nodes.insert_reserved(Node {
             item,
@@ -123,12 +123,35 @@ impl<I: Copy> Chain<I> {
         ensures next { IsCursor (first_handle (after handle self.old.entries)) self.new.entries }
         ensures before_next { before_cursor (first_handle (after handle self.old.entries)) self.new.entries
             ≡ before handle self.old.entries }
-        ensures spare { self.old.spare ≤ self.new.spare }
+        ensures spare { self.new.spare ≡ self.old.spare + 1 }
+        ensures next_handle { self.new.next_handle ≡ handle }
     {
         let node = self.nodes.remove(handle.place);
         link_next(&mut self.nodes, &mut self.first, node.prev, node.next);
         link_prev(&mut self.nodes, &mut self.last, node.next, node.prev);
         node.item
+    }
+
+    /// Puts another item in an entry's place, and links it at the end: its handle stays, and no memory is taken. The result is the item
+    /// that it had.
+    pub fn renew(&mut self, handle: Handle, item: I) -> I
+        requires { IsTrue (is_linked handle self.old.entries) }
+        ensures item { item_at handle self.old.entries ≡ Some result }
+        ensures entries { self.new.entries ≡ without_handle handle self.old.entries ++ record { handle = handle; item = item } ∷ [] }
+        ensures linked { IsTrue (is_linked handle self.new.entries) }
+        ensures before_renewed { before handle self.new.entries ≡ without_handle handle self.old.entries }
+        ensures others { (other : ℕ) → other ≢ handle → IsTrue (is_linked other self.old.entries)
+            → StaysAhead (record { handle = handle; item = item }) other self.old.entries self.new.entries }
+
+        // A cursor at the entry can go on to the one that was next, or else to the renewed one, and has before it what it had.
+        ensures next { IsCursor (first_or (after handle self.old.entries) (Some handle)) self.new.entries }
+        ensures before_next { before_cursor (first_or (after handle self.old.entries) (Some handle)) self.new.entries
+            ≡ before handle self.old.entries }
+        ensures spare { self.new.spare ≡ self.old.spare }
+    {
+        let renewed = self.unlink(handle);
+        self.append(item);
+        renewed
     }
 
     /// Whether the handle is linked.

@@ -7,9 +7,10 @@ use Rattle.std.proofs.lemmas.Map.Lookups.{exact_unsigned}
 use Rattle.std.specs.Ordering.{nat_cmp, is_eq}
 use Rattle.std.specs.Option.{option_map_or}
 use Rattle.std.specs.BTreeMap.{BTreeMap, get, is_at, UpdatesBy}
-use Rattle.id_chain.specs.Chain.{Entry, is_linked, HandlesDiffer, before, after}
+use Rattle.id_chain.specs.Chain.{Entry, is_linked, HandlesDiffer, before, after, without_handle}
 use Rattle.id_chain.specs.StampsRise.{StampsRise}
 use Rattle.id_chain.proofs.Entries.{Apart-parts, Apart-without, HandlesDiffer-append, unlinked_more}
+use Rattle.id_chain.proofs.Cursors.{unlinked-without}
 use Rattle.id_chain.proofs.Stamps.{StampsRise-append, StampsRise-without}
 use Rattle.id_directory.specs.Directory.{DirectoryState, handle_of, without, IdsDiffer}
 use Rattle.id_directory.specs.Agreement.{is_pending, slot_of, Agrees}
@@ -43,35 +44,74 @@ module _ {I : Type 0} (id_of stamp : I → ℕ) where
   differ_without : (front : List (Entry I)) (e : Entry I) (back : List (Entry I)) → HandlesDiffer (front ++ e ∷ back) → HandlesDiffer (front ++ back)
   differ_without front e back differ = HandlesDiffer-append front back (Apart-without front e back (Apart-parts front (e ∷ back) differ))
 
+  -- what is left without the item of an identifier
+  record IsLeft (es rest : List (Entry I)) (adds id : ℕ) : Type 0 where
+    gone : handle_of id_of id rest ≡ None
+    others : (q : ℕ) → ¬ (id ≡ q) → handle_of id_of q es ≡ handle_of id_of q rest
+    ids_differ : IdsDiffer id_of rest
+    handles_differ : HandlesDiffer rest
+    rising : StampsRise stamp 0 rest adds
+
+  left_without : (handles : BTreeMap ℕ ℕ) (es : List (Entry I)) (spare next adds : ℕ) (pending : Option ℕ) (id handle : ℕ)
+      → Agrees id_of stamp handles es spare next adds pending → handle_of id_of id es ≡ Some handle → IsLeft es (without id_of id es) adds id
+  left_without handles es spare next adds pending id handle agrees found =
+      let at = find_id id_of id handle es found in
+      let ids_differ : IdsDiffer id_of (at.front ++ at.e ∷ at.back) = let P : List (Entry I) → Type 0 = IdsDiffer id_of in subst P at.is.whole agrees.ids_differ in
+      let handles_differ : HandlesDiffer (at.front ++ at.e ∷ at.back) = let P : List (Entry I) → Type 0 = HandlesDiffer in subst P at.is.whole agrees.handles_differ in
+      let rising : StampsRise stamp 0 (at.front ++ at.e ∷ at.back) adds = let P : List (Entry I) → Type 0 = λ xs. StampsRise stamp 0 xs adds in subst P at.is.whole agrees.rising in
+      let P : List (Entry I) → Type 0 = λ xs. IsLeft es xs adds id in
+      subst P (sym at.is.rest) (record {
+        gone = ap (λ i. handle_of id_of i (at.front ++ at.back)) (sym at.is.its_id) ∙ handle_of-removed id_of at.front at.e at.back ids_differ;
+        others = λ q apart. ap (handle_of id_of q) at.is.whole ∙ handle_of-other id_of q at.front at.e at.back (λ same. apart (sym at.is.its_id ∙ same));
+        ids_differ = IdsDiffer-without id_of at.front at.e at.back ids_differ;
+        handles_differ = differ_without at.front at.e at.back handles_differ;
+        rising = StampsRise-without stamp 0 at.front at.e at.back adds rising;
+      })
+
   pub Agrees-removed : (handles new : BTreeMap ℕ ℕ) (es : List (Entry I)) (spare spare' next next' adds : ℕ) (pending : Option ℕ) (id handle : ℕ)
       → Agrees id_of stamp handles es spare next adds pending → pending ≡ None → handle_of id_of id es ≡ Some handle
       → UpdatesBy nat_cmp (nat_cmp id) handles new None
       → Agrees id_of stamp new (without id_of id es) spare' next' adds pending
   Agrees-removed handles new es spare spare' next next' adds pending id handle agrees none found updates =
-      let at = find_id id_of id handle es found in
-      let ids_differ : IdsDiffer id_of (at.front ++ at.e ∷ at.back) = let P : List (Entry I) → Type 0 = IdsDiffer id_of in subst P at.is.whole agrees.ids_differ in
-      let handles_differ : HandlesDiffer (at.front ++ at.e ∷ at.back) = let P : List (Entry I) → Type 0 = HandlesDiffer in subst P at.is.whole agrees.handles_differ in
-      let rising : StampsRise stamp 0 (at.front ++ at.e ∷ at.back) adds = let P : List (Entry I) → Type 0 = λ xs. StampsRise stamp 0 xs adds in subst P at.is.whole agrees.rising in
-      let gone : handle_of id_of id (at.front ++ at.back) ≡ None =
-      ap (λ i. handle_of id_of i (at.front ++ at.back)) (sym at.is.its_id) ∙ handle_of-removed id_of at.front at.e at.back ids_differ in
-      let slots : (q : ℕ) → get nat_cmp new q ≡ slot_of id_of (at.front ++ at.back) next' pending q = λ q. elim (cases_eq id q) [
-        | inl same ↦
-            let here : handle_of id_of q (at.front ++ at.back) ≡ None = ap (λ i. handle_of id_of i (at.front ++ at.back)) (sym same) ∙ gone in
-            rw (here, none) (ap (get nat_cmp new) (sym same) ∙ updates.1)
-        | inr apart ↦
-            let other : handle_of id_of q es ≡ handle_of id_of q (at.front ++ at.back) =
-            ap (handle_of id_of q) at.is.whole ∙ handle_of-other id_of q at.front at.e at.back (λ same. apart (sym at.is.its_id ∙ same)) in
-            updates.2 q (is_at-other id q apart) ∙ agrees.found q ∙ ap (λ p. slot_of id_of es next p q) none ∙ ap (λ o. option_map_or (λ h. Some h) o None) other ∙ sym (ap (λ p. slot_of id_of (at.front ++ at.back) next' p q) none)
-      ] in
-      let P : List (Entry I) → Type 0 = λ xs. Agrees id_of stamp new xs spare' next' adds pending in
-      subst P (sym at.is.rest) (record {
-        found = slots;
-        ids_differ = IdsDiffer-without id_of at.front at.e at.back ids_differ;
-        handles_differ = differ_without at.front at.e at.back handles_differ;
-        rising = StampsRise-without stamp 0 at.front at.e at.back adds rising;
+      let rest = without id_of id es in
+      let left = left_without handles es spare next adds pending id handle agrees found in
+      record {
+        found = λ q. elim (cases_eq id q) [
+          | inl same ↦
+              let here : handle_of id_of q rest ≡ None = ap (λ i. handle_of id_of i rest) (sym same) ∙ left.gone in
+              rw (here, none) (ap (get nat_cmp new) (sym same) ∙ updates.1)
+          | inr apart ↦
+              updates.2 q (is_at-other id q apart) ∙ agrees.found q ∙ ap (λ p. slot_of id_of es next p q) none ∙ ap (λ o. option_map_or (λ h. Some h) o None) (left.others q apart) ∙ sym (ap (λ p. slot_of id_of rest next' p q) none)
+        ];
+        ids_differ = left.ids_differ;
+        handles_differ = left.handles_differ;
+        rising = left.rising;
         new_id = λ q is. let clash : None ≡ Some q = sym none ∙ is in absurd (cc);
         room = λ q is. let clash : None ≡ Some q = sym none ∙ is in absurd (cc);
-      })
+      }
+
+  -- an item that is unlinked, and whose handle the map keeps, is as one whose add is prepared
+  Agrees-unlinked : (handles : BTreeMap ℕ ℕ) (es : List (Entry I)) (spare next adds : ℕ) (pending : Option ℕ) (id handle : ℕ)
+      → Agrees id_of stamp handles es spare next adds pending → pending ≡ None → handle_of id_of id es ≡ Some handle
+      → Agrees id_of stamp handles (without id_of id es) 1 handle adds (Some id)
+  Agrees-unlinked handles es spare next adds pending id handle agrees none found =
+      let rest = without id_of id es in
+      let left = left_without handles es spare next adds pending id handle agrees found in
+      let was : (q : ℕ) → get nat_cmp handles q ≡ option_map_or (λ h. Some h) (handle_of id_of q es) None =
+      λ q. agrees.found q ∙ ap (λ p. slot_of id_of es next p q) none in
+      record {
+        found = λ q. elim (cases_eq id q) [
+          | inl same ↦
+              let here : handle_of id_of q rest ≡ None = ap (λ i. handle_of id_of i rest) (sym same) ∙ left.gone in
+              rw (here, same_test id q same) (was q ∙ ap (λ o. option_map_or (λ h. Some h) o None) (ap (λ i. handle_of id_of i es) (sym same) ∙ found))
+          | inr apart ↦ rw (other_test id q apart) (was q ∙ ap (λ o. option_map_or (λ h. Some h) o None) (left.others q apart))
+        ];
+        ids_differ = left.ids_differ;
+        handles_differ = left.handles_differ;
+        rising = left.rising;
+        new_id = λ q is. let same : id ≡ q = cc in ap (λ i. handle_of id_of i rest) (sym same) ∙ left.gone;
+        room = λ q is. omega arith;
+      }
 
   pub Agrees-added : (handles : BTreeMap ℕ ℕ) (es : List (Entry I)) (spare spare' next next' adds : ℕ) (pending : Option ℕ) (handle : ℕ) (item : I)
       → Agrees id_of stamp handles es spare next adds pending → pending ≡ Some (id_of item) → stamp item ≡ adds → is_linked handle es ≡ false → handle ≡ next
@@ -130,3 +170,18 @@ module _ {I : Type 0} (id_of stamp : I → ℕ) where
       → Agrees id_of stamp handles es' spare' next' adds' None
   Agrees-added_at handles es es' spare spare' next next' adds adds' pending handle item agrees is stamped unlinked given appended more =
       rw (appended, more) (Agrees-added handles es spare spare' next next' adds pending handle item agrees is stamped unlinked given)
+
+  -- all of a renewal, with the entries as the call gives them
+  pub Agrees-renewed_at : (handles : BTreeMap ℕ ℕ) (es es' : List (Entry I)) (spare spare' next next' adds adds' : ℕ) (pending : Option ℕ) (handle : ℕ) (item : I)
+      → Agrees id_of stamp handles es spare next adds pending → pending ≡ None → handle_of id_of (id_of item) es ≡ Some handle → stamp item ≡ adds
+      → es' ≡ without_handle handle es ++ record { handle = handle; item = item } ∷ []
+      → adds' ≡ adds + 1
+      → Agrees id_of stamp handles es' spare' next' adds' pending
+  Agrees-renewed_at handles es es' spare spare' next next' adds adds' pending handle item agrees none found stamped renewed more =
+      let same = same_by_handle id_of (id_of item) handle es agrees.handles_differ found in
+      let unlinked : is_linked handle (without id_of (id_of item) es) ≡ false = ap (is_linked handle) same.rest ∙ unlinked-without handle es agrees.handles_differ in
+      let last : es' ≡ without id_of (id_of item) es ++ record { handle = handle; item = item } ∷ [] =
+      renewed ∙ ap (λ xs. xs ++ record { handle = handle; item = item } ∷ []) (sym same.rest) in
+      rw (last, more, none)
+      (Agrees-added handles (without id_of (id_of item) es) 1 spare' handle next' adds (Some (id_of item)) handle item
+      (Agrees-unlinked handles es spare next adds pending (id_of item) handle agrees none found) refl stamped unlinked refl)

@@ -135,6 +135,23 @@ impl<I: Named> Directory<I> {
         }
     }
 
+    /// Renews the item with an identifier: another one with the same identifier and a new stamp comes last, under the same handle. It counts as
+    /// an add, and takes no memory. The result is the item that was there.
+    pub fn renew(&mut self, handle: Handle, item: I) -> I
+        requires none_pending { self.old.pending ≡ None }
+        requires present { handle_of I.id (I.id item) self.old.entries ≡ Some handle }
+        requires stamped { I.stamp item ≡ self.old.adds }
+        requires adds { self.old.adds < 2 ^ 63 }
+        ensures item { item_of I.id (I.id item) self.old.entries ≡ Some result }
+        ensures renewed { self.new ≡ record self.old {
+          entries = without I.id (I.id item) self.old.entries ++ record { handle = handle; item = item } ∷ [];
+          adds = self.old.adds + 1;
+        } }
+    {
+        self.adds += 1;
+        self.chain.renew(handle, item)
+    }
+
     /// The identifiers of the last `k` items, the newest first, or of all where there are fewer.
     pub fn recent(&self, k: usize) -> Recent
         requires { k ≤ 64 }
@@ -161,7 +178,7 @@ impl<I: Named> Directory<I> {
         &self.chain
     }
 
-    /// How many items were ever added.
+    /// How many items were ever added or renewed.
     pub fn adds(&self) -> u64
         ensures { result ≡ self.now.adds }
     {

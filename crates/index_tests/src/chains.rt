@@ -1,4 +1,4 @@
-//! A chain of three items, of which the middle one goes and another comes.
+//! A chain of three items, of which the middle one goes, another comes, and the first is renewed.
 use crate::item::Pair;
 use id_chain::{Chain, Handle};
 use query_laws::NoMemory;
@@ -37,5 +37,8 @@ fn walks_both_ways(rt: HostRuntime) -> Result<(), Fail> {
     );
     assert_eq!(rt; beside(&chain, a, &rt), (Some(c), None));
     assert_eq!(rt; beside(&chain, d, &rt), (None, Some(c)));
+    assert_eq!(rt; chain.renew(a, Pair::new(1, 2, 4)).stamp, 0);
+    assert_eq!(rt; (chain.first(), chain.item(a).stamp), (Some(c), 4));
+    assert_eq!(rt; beside(&chain, a, &rt), (None, Some(d)));
     Ok(())
 }

@@ -1,4 +1,4 @@
-//! A prepared add that is given up, adds, a removal, and the latest identifiers.
+//! A prepared add that is given up, adds, a removal, the latest identifiers, and an item that is renewed.
 ghost use Rattle.std.specs.Prelude.{◌≡◌, None, OnOk};
 
 use crate::item::Pair;
@@ -17,6 +17,16 @@ fn put(directory: &mut Directory<Pair>, id: u32, rt: &impl Abort) -> Result<Hand
     assert!(rt; stamp < 1_000_000);
     assert!(rt; directory.prepare_add(u64::from(id))?);
     Ok(directory.add(Pair::new(id, 0, stamp)))
+}
+
+/// Renews the item with this identifier, and says which y it had.
+fn renew(directory: &mut Directory<Pair>, id: u32, y: u32, rt: &impl Abort) -> Option<u32>
+    requires { directory.old.pending ≡ None }
+{
+    let handle = directory.find(u64::from(id))?;
+    let stamp = directory.adds();
+    assert!(rt; stamp < 1_000_000);
+    Some(directory.renew(handle, Pair::new(id, y, stamp)).y)
 }
 
 #[test]
@@ -39,5 +49,8 @@ fn finds_and_lists(rt: HostRuntime) -> Result<(), Fail> {
     assert_eq!(rt; directory.chain().last(), Some(seven));
     let recent = directory.recent(2);
     assert_eq!(rt; recent.as_slice(), [7, 5].as_slice());
+    assert_eq!(rt; renew(&mut directory, 5, 9, &rt), Some(0));
+    assert_eq!(rt; (directory.find(5), directory.adds()), (Some(five), 4));
+    assert_eq!(rt; directory.recent(2).as_slice(), [5, 7].as_slice());
     Ok(())
 }
