@@ -37,6 +37,7 @@ fn walks_both_ways(rt: HostRuntime) -> Result<(), Fail> {
     );
     assert_eq!(rt; beside(&chain, a, &rt), (Some(c), None));
     assert_eq!(rt; beside(&chain, d, &rt), (None, Some(c)));
+    assert!(rt; chain.has(a));
     assert_eq!(rt; chain.renew(a, Pair::new(1, 2, 4)).stamp, 0);
     assert_eq!(rt; (chain.first(), chain.item(a).stamp), (Some(c), 4));
     assert_eq!(rt; beside(&chain, a, &rt), (None, Some(d)));
