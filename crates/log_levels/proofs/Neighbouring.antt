@@ -8,7 +8,8 @@ use Rattle.builder_trait.specs.Builders.{PartProfile}
 use Rattle.builder_trait.specs.Parts.{Contents}
 use Rattle.partial_build.specs.Construction.{Builds}
 use Rattle.log_levels.specs.Slots.{Slots, ticks_of, waiting_in, clock_of, weight_in, live_in, items_in}
-use Rattle.log_levels.specs.Trades.{will_begin}
+use Rattle.part_store.specs.Store.{Stored}
+use Rattle.log_levels.specs.Trades.{will_begin, Begins}
 use Rattle.log_levels.specs.Neighbours.{IsBelow, IsVisited, IsConstructionOf, IsFed, stays, arrives, IsPublication, TakesTick, rests}
 use Rattle.log_levels.proofs.Clocks.{TakesTick-more, TakesTick-last}
 use Rattle.log_levels.proofs.Distinct.{IsPartOf-refl}
@@ -35,6 +36,17 @@ will_begin-both lower l on = (le-from (both on).0, not_some l.construction (both
 
     le-from : {n : ℕ} → nat_le 2 n ≡ true → 2 ≤ n
     le-from is = grind (arith, nat_tests, is)
+
+-- a construction that begins has no ticks, and nothing waits in it
+pub begun-idle : {P Item : Type 0} {l mid : Slots P Item} {r s : Stored} → (l.construction ≡ None → Begins l r mid s)
+    → (is_some l.construction ≡ true → (mid ≡ l) × (s ≡ r)) → (ticks_of mid ≡ ticks_of l) × (waiting_in mid ≡ waiting_in l)
+begun-idle {P} {Item} {l} {mid} {r} {s} begun running = of (is_some l.construction) refl
+  where
+    of : (b : Bool) → is_some l.construction ≡ b → (ticks_of mid ≡ ticks_of l) × (waiting_in mid ≡ waiting_in l)
+    of true is = (ap ticks_of (running is).0, ap waiting_in (running is).0)
+    of false is =
+        let none = not_some l.construction is in
+        ((begun none).ticks ∙ sym (none_ticks l none), (begun none).waiting ∙ sym (none_waiting l none))
 
 module _ {P Item : Type 0} (contents : P → Contents Item) (profile : PartProfile Item) where
   pub fed_by : (lower mid : Slots P Item) {a b : P} → lower.parts ≡ a ∷ b ∷ drop 2 lower.parts

@@ -1,5 +1,5 @@
 -- The items of two neighbouring levels, where a part is published.
-use Rattle.std.proofs.Common.{◌≡◌, ℕ, suc, ◌+◌, ◌*◌, ◌^◌, ◌≤◌, ◌∙◌, List, [], ◌∷◌, ◌++◌, length, get_or, drop, refl, ap, ap₂, sym, subst, arith, append_assoc}
+use Rattle.std.proofs.Common.{◌≡◌, ℕ, suc, ◌+◌, ◌*◌, ◌^◌, ◌≤◌, ◌∙◌, None, List, [], ◌∷◌, ◌++◌, length, get_or, drop, refl, ap, ap₂, sym, subst, arith, append_assoc}
 use Rattle.std.specs.List.{flat_map}
 use Rattle.std.proofs.lemmas.Grind.{pow_more}
 use Rattle.std.proofs.Math.Pow.{pow_mono}
@@ -87,3 +87,23 @@ module _ {P Item : Type 0} (contents : P → Contents Item) {old lower new lower
 
 pub higher : (k g : ℕ) → k ≤ g → 2 ^ k ≤ 2 ^ g
 higher k g few = pow_mono few
+
+module _ {P Item : Type 0} (contents : P → Contents Item) where
+  -- a part arrived where the construction was taken, and two parts were retired one by one
+  pub publication-of : {old taken new lower lower₁ lower₂ : Slots P Item} (first second fresh : P) (rest : List P)
+      → lower.parts ≡ first ∷ second ∷ rest → taken ≡ record old { construction = None } → new ≡ record taken { parts = taken.parts ++ fresh ∷ [] }
+      → lower₁ ≡ record lower { parts = drop 1 lower.parts } → lower₂ ≡ record lower₁ { parts = drop 1 lower₁.parts }
+      → Permuted (live_of (contents fresh)) (live_of (contents first) ++ live_of (contents second))
+      → IsPartOf (contents fresh).items ((contents first).items ++ (contents second).items) → IsPublication contents old lower new lower₂
+  publication-of {old} {taken} {new} {lower} {lower₁} {lower₂} first second fresh rest are took came once twice live items =
+      let gone : lower₂ ≡ record lower { parts = drop 1 (drop 1 lower.parts) } = twice ∙ ap (λ v. record v { parts = drop 1 v.parts }) once in
+      record {
+        fresh = fresh;
+        first = first;
+        second = second;
+        arrived = came ∙ ap (λ v. record v { parts = v.parts ++ fresh ∷ [] }) took;
+        retired = ap (λ ps. record lower { parts = ps }) (are ∙ ap (λ ps. first ∷ second ∷ drop 1 (drop 1 ps)) (sym are))
+            ∙ ap (λ v. record v { parts = first ∷ second ∷ v.parts }) (sym gone);
+        live = live;
+        items = items;
+      }

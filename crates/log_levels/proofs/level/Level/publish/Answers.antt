@@ -1,12 +1,15 @@
-use Rattle.std.proofs.Common.{rules, ◌≡◌, ◌+◌, ◌^◌, ◌∙◌, [], ◌∷◌, ◌++◌, Option, None, length, drop, ap, sym, subst, arith}
+use Rattle.std.proofs.Common.{◌≡◌, ◌+◌, ◌^◌, ◌∙◌, ◌++◌, Option, None, length, ap, sym, subst, arith}
 use Rattle.std.specs.Option.{option_map_or}
 use Rattle.builder_trait.specs.Builders.{PartProfile}
 use Rattle.partial_build.specs.Construction.{Construction, skipped_of, turns_left}
+use Rattle.part_store.specs.Store.{TakesPart, TakesTables}
 use Rattle.log_levels.specs.Slots.{ticks_of, waiting_in}
 use Rattle.log_levels.specs.Level.{IsOfLevel}
+use Rattle.log_levels.specs.Neighbours.{IsPublication}
 use Rattle.log_levels.proofs.Neighbouring.{none_waiting}
 use Rattle.log_levels.proofs.Paying.{left-ended}
-use Rattle.log_levels.proofs.Publishing.{two_oldest, none_of}
+use Rattle.log_levels.proofs.Publishing.{two_oldest, none_of, publication-of}
+use Rattle.log_levels.proofs.Trading.{Trades-same, lent-parts, lent-tables, trades-published}
 use Rattle.log_levels.proofs.level.Level.publish.Given.{Over}
 use Rattle.log_levels.proofs.level.Level.publish.Goals as goal
 
@@ -32,49 +35,3 @@ arrive-requires-clause-of_level g c =
     let p = c.publish-part.ensures.published (g.B.Part.Part.contents o.0) (g.B.Part.Part.contents o.1) (c.requires.fed o.0 o.1 o.2 o.3 c.in-Some.construction h.0) in
     let level : c.in-Some.construction.level ≡ c.take_ended.new.self.level = h.1 ∙ sym (ap (λ v. v.level) c.in-Some.ensures.taken) in
     subst (λ k. IsOfLevel k (g.B.Part.Part.contents c.publish-part.result.0)) level (record { at_level = p.level; fits = p.few })
-
-pub keep_tables-requires-clause-of_level : goal.keep_tables-requires-clause-of_level
-keep_tables-requires-clause-of_level g c =
-    c.publish-part.ensures.tables ∙ c.in-Some.ensures.ended.1 ∙ sym (ap (λ v. v.level) c.in-Some.ensures.taken) ∙ sym (ap (λ v. v.level) c.arrive.ensures)
-
-pub returns-in-Some-clause-ends : goal.returns-in-Some-clause-ends
-returns-in-Some-clause-ends g c late =
-    let h = c.in-Some.ensures.ended in
-    let o = two_oldest c.args.lower.now.parts c.requires.two in
-    let p = c.publish-part.ensures.published (g.B.Part.Part.contents o.0) (g.B.Part.Part.contents o.1) (c.requires.fed o.0 o.1 o.2 o.3 c.in-Some.construction h.0) in
-    let fresh = c.publish-part.result.0 in
-    record {
-      fresh = fresh;
-      first = o.0;
-      second = o.1;
-      arrived = ap (λ v. v.parts) c.keep_tables.ensures ∙ ap (λ v. v.parts) c.arrive.ensures ∙ ap (λ v. v.parts ++ fresh ∷ []) c.in-Some.ensures.taken;
-      none = ap (λ v. v.construction) c.keep_tables.ensures ∙ ap (λ v. v.construction) c.arrive.ensures
-          ∙ ap (λ v. v.construction) c.in-Some.ensures.taken;
-      retired = o.3 ∙ ap (λ ps. o.0 ∷ o.1 ∷ ps) (sym (c.retire.ensures.retired ∙ ap (drop 2) o.3));
-      tables = ap (λ v. v.tables) c.keep_tables.ensures ∙ ap (λ v. v.tables + 1) c.arrive.ensures ∙ ap (λ v. v.tables + 1) c.in-Some.ensures.taken;
-      kept = search rules;
-      live = p.live;
-      items = (
-        skipped_of c.in-Some.construction.merge.a.table (g.B.Part.Part.contents o.0).items
-            ++ skipped_of c.in-Some.construction.merge.b.table (g.B.Part.Part.contents o.1).items,
-        p.items,
-      );
-    }
-
-pub returns-in-Some-clause-waiting : goal.returns-in-Some-clause-waiting
-returns-in-Some-clause-waiting g c =
-    let h = c.in-Some.ensures.ended in
-    let none : c.keep_tables.new.self.construction ≡ None =
-    ap (λ v. v.construction) c.keep_tables.ensures ∙ ap (λ v. v.construction) c.arrive.ensures ∙ ap (λ v. v.construction) c.in-Some.ensures.taken in
-    let before : waiting_in c.args.self.now ≡ length c.in-Some.construction.waiting =
-    ap (λ (o : Option (Construction g.row.B-Item.Denot)). option_map_or (λ v. length v.waiting) o 0) h.0 in
-    omega (arith, none_waiting c.keep_tables.new.self none, before, h.2, (c.requires.punctual c.in-Some.construction h.0).few_to_come)
-
-pub returns-in-Some-clause-left : goal.returns-in-Some-clause-left
-returns-in-Some-clause-left g c =
-    let h = c.in-Some.ensures.ended in
-    let left = turns_left (profile g) in
-    let none : c.keep_tables.new.self.construction ≡ None =
-    ap (λ v. v.construction) c.keep_tables.ensures ∙ ap (λ v. v.construction) c.arrive.ensures ∙ ap (λ v. v.construction) c.in-Some.ensures.taken in
-    ap (λ o. option_map_or left o 0) none
-    ∙ sym (ap (λ o. option_map_or left o 0) h.0 ∙ left-ended (profile g) c.in-Some.construction h.2 (c.requires.punctual c.in-Some.construction h.0))
