@@ -27,12 +27,13 @@ not_some (Some x) none = absurd cc
 
 -- where a construction is to begin, two parts stand below, and none runs
 pub will_begin-both : {P Item : Type 0} (lower l : Slots P Item) → will_begin lower l ≡ true → (2 ≤ length lower.parts) × (l.construction ≡ None)
-will_begin-both lower l on = (le-from (both on).0, not_some l.construction (both on).1)
+will_begin-both lower l on =
+    let h = both (nat_le 2 (length lower.parts)) (is_some l.construction) on in (le-from h.0, not_some l.construction h.1)
   where
-    both : {a b : Bool} → (a && not b) ≡ true → (a ≡ true) × (b ≡ false)
-    both {true} {false} is = (refl, refl)
-    both {true} {true} is = absurd cc
-    both {false} {b} is = absurd cc
+    both : (a b : Bool) → (a && not b) ≡ true → (a ≡ true) × (b ≡ false)
+    both true false is = (refl, refl)
+    both true true is = absurd cc
+    both false b is = absurd cc
 
     le-from : {n : ℕ} → nat_le 2 n ≡ true → 2 ≤ n
     le-from is = grind (arith, nat_tests, is)

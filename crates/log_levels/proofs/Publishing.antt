@@ -96,14 +96,14 @@ module _ {P Item : Type 0} (contents : P → Contents Item) where
       → Permuted (live_of (contents fresh)) (live_of (contents first) ++ live_of (contents second))
       → IsPartOf (contents fresh).items ((contents first).items ++ (contents second).items) → IsPublication contents old lower new lower₂
   publication-of {old} {taken} {new} {lower} {lower₁} {lower₂} first second fresh rest are took came once twice live items =
-      let gone : lower₂ ≡ record lower { parts = drop 1 (drop 1 lower.parts) } = twice ∙ ap (λ v. record v { parts = drop 1 v.parts }) once in
+      let gone : lower₂ ≡ record lower { parts = drop 1 (drop 1 lower.parts) } = twice ∙ ap {A = Slots P Item} (λ v. record v { parts = drop 1 v.parts }) once in
       record {
         fresh = fresh;
         first = first;
         second = second;
-        arrived = came ∙ ap (λ v. record v { parts = v.parts ++ fresh ∷ [] }) took;
+        arrived = came ∙ ap {A = Slots P Item} (λ v. record v { parts = v.parts ++ fresh ∷ [] }) took;
         retired = ap (λ ps. record lower { parts = ps }) (are ∙ ap (λ ps. first ∷ second ∷ drop 1 (drop 1 ps)) (sym are))
-            ∙ ap (λ v. record v { parts = first ∷ second ∷ v.parts }) (sym gone);
+            ∙ ap {A = Slots P Item} (λ v. record v { parts = first ∷ second ∷ v.parts }) (sym gone);
         live = live;
         items = items;
       }

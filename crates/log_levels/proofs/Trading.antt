@@ -7,13 +7,13 @@ use Rattle.std.proofs.lemmas.List.{length-append}
 use Rattle.builder_trait.specs.Builders.{PartProfile}
 use Rattle.builder_trait.specs.Parts.{Contents}
 use Rattle.part_store.specs.Shelves.{one_if, kept_at, lent_at, held_at, Keeps}
-use Rattle.part_store.specs.Store.{Stored, KeepsBoth, LendsRoom, TakesPart, TakesTables}
+use Rattle.part_store.specs.Store.{Stored, KeepsBoth, LendsRoom, TakesPart, TakesRoom, TakesTables}
 use Rattle.log_levels.specs.Slots.{Slots, ticks_of}
 use Rattle.log_levels.specs.Neighbours.{IsBelow, Advances, stays, arrives, IsPublication}
 use Rattle.log_levels.proofs.Neighbouring.{none_ticks, not_some}
 use Rattle.log_levels.specs.Trades.{runs_in, used_in, used_at, built_at, AreLent, is_due, due_at, wanted_at, IsStocked, Trades, Ticks, will_begin, may_begin, now_at, soon_at, IsQuiet, IsQuietAbove, IsQuietSoon, AreReady, HasRoom, Visits, Walks}
 
-one_fits : (b : Bool) → one_if b ≤ 1
+pub one_fits : (b : Bool) → one_if b ≤ 1
 one_fits true = omega arith
 one_fits false = omega arith
 
@@ -244,6 +244,18 @@ stocked_both main main' shadow store store' t builders tables quiet = record {
   quiet = quiet;
 }
 
+-- of one level there are so many
+here : (k m : ℕ) → (if k == k then m else 0) ≡ m
+here k m = let same : (k == k) ≡ true = grind (arith, nat_tests) in ap (λ b. if b then m else 0) same
+
+-- one less of a level
+one_less : (k m' : ℕ) {i j m : ℕ} → j ≡ i → m ≡ m' + 1 → (if k == i then m else 0) ≡ (if k == j then m' else 0) + one_if (k == i)
+one_less k m' {i} {j} {m} same less = subst (λ n. (if k == i then m else 0) ≡ (if k == n then m' else 0) + one_if (k == i)) (sym same) (of (k == i))
+  where
+    of : (b : Bool) → (if b then m else 0) ≡ (if b then m' else 0) + one_if b
+    of true = less
+    of false = refl
+
 -- levels and a store through several calls
 module _ {P Item : Type 0} where
   pub Trades-same : (levels : List (Slots P Item)) (store : Stored) → Trades levels store levels store
@@ -262,10 +274,6 @@ module _ {P Item : Type 0} where
     builders = λ n. omega (arith, h.builders n, lent.builders n);
     tables = λ n. omega (arith, h.tables n, lent.tables n);
   }
-
-  -- of which level there are how many
-  here : (k m : ℕ) → (if k == k then m else 0) ≡ m
-  here k m = let same : (k == k) ≡ true = grind (arith, nat_tests) in ap (λ b. if b then m else 0) same
 
   -- what is to begin finds a room
   pub room_now : (lower l : Slots P Item) (above : List (Slots P Item)) (store : Stored) → AreReady lower (l ∷ above) store → will_begin lower l ≡ true
@@ -366,7 +374,7 @@ module _ {P Item : Type 0} where
     }
 
   -- A construction takes its tick: it begins in a room that is lent where none ran, and else it goes on.
-  module _ {lower l mid : Slots P Item} {r s : Stored} (level : mid.level ≡ l.level) (parts : mid.parts ≡ l.parts) (runs : is_some mid.construction ≡ true)
+  module _ (lower l mid : Slots P Item) (r s : Stored) (level : mid.level ≡ l.level) (parts : mid.parts ≡ l.parts) (runs : is_some mid.construction ≡ true)
       (two : 2 ≤ length lower.parts) (begun : l.construction ≡ None → LendsRoom l.level r s) (running : is_some l.construction ≡ true → s ≡ r) where
     abbrev more : ℕ → ℕ
     more k = if k == l.level then one_if (will_begin lower l) else 0
@@ -446,3 +454,22 @@ module _ {P Item : Type 0} where
   -- where fewer than two parts stand below, nothing is done
   pub visits-idle : (lower l : Slots P Item) (store : Stored) → Visits lower l store lower l store
   visits-idle lower l store = record { trades = Trades-same (lower ∷ l ∷ []) store; takes = λ k. omega arith; takes_tables = λ k. omega arith }
+
+  -- what a level gives back: the room of its construction, or a part
+  module _ (l l' : Slots P Item) {r s : Stored} (level : l'.level ≡ l.level) (less : used_in l ≡ used_in l' + 1) where
+    pub trades-room : runs_in l ≡ runs_in l' + 1 → TakesRoom l.level r s → Trades (l ∷ []) r (l' ∷ []) s
+    trades-room ends back = record {
+      keeps = record { builders = back.builders.keeps; tables = back.tables.keeps };
+      builders = λ k. omega (arith, back.builders.lent k, one_less k (used_in l') level less);
+      tables = λ k. omega (arith, back.tables.lent k, one_less k (runs_in l') level ends);
+    }
+
+    pub trades-part : runs_in l ≡ runs_in l' → TakesPart l.level r s → Trades (l ∷ []) r (l' ∷ []) s
+    trades-part same back = record {
+      keeps = record { builders = back.builders.keeps; tables = λ k. ap (held_at k) back.tables };
+      builders = λ k. omega (arith, back.builders.lent k, one_less k (used_in l') level less);
+      tables = λ k. omega (arith, ap (lent_at k) back.tables, ap₂ (λ n m. if k == n then m else 0) level (sym same));
+    }
+
+  pub lent-of : {l : Slots P Item} {r : Stored} → AreLent (l ∷ []) r → (used_in l ≤ lent_at l.level r.builders) × (runs_in l ≤ lent_at l.level r.tables)
+  lent-of {l} {r} lent = (omega (arith, lent.builders l.level, here l.level (used_in l)), omega (arith, lent.tables l.level, here l.level (runs_in l)))

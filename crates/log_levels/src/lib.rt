@@ -32,7 +32,7 @@
 //!   where at most one part is left. If two parts stood here, the construction above them has done at least `2^k` ticks, since the clock here
 //!   was at `2^k - 1`: that is the inequality without the `+ 1` for three parts.
 //!
-//! All memory of a level is lent by a store (`part_store`), which each call is passed beside the steps, and goes back to it:
+//! The memory of all parts and constructions is lent by a store (`part_store`), which a call is passed beside the steps, and goes back to it:
 //!
 //! ```text
 //!                         level i + 1                               the store

@@ -9,6 +9,7 @@ use Rattle.log_levels.proofs.Paying.{due_of-worked, saved_of-worked}
 use Rattle.log_levels.proofs.Spending.{below_power, IsWithin-one, IsWithin-first}
 use Rattle.log_levels.proofs.Ticking.{HasArrived, has_arrived}
 use Rattle.log_levels.proofs.visiting.take_in.Given.{Over}
+use Rattle.log_levels.proofs.visiting.take_in.Goals.{After-arrive}
 use Rattle.log_levels.proofs.visiting.take_in.Goals as goal
 
 abbrev profile : (g : Over) → PartProfile g.row.B-Item.Denot
@@ -34,7 +35,7 @@ arrive-requires g c =
     }
 
 -- the part that has arrived
-arrival : (g : Over) (c : goal.After-arrive g)
+arrival : (g : Over) (c : After-arrive g)
     → HasArrived g.B.Part.Part.contents (profile g) c.args.item c.args.levels.now c.arrive.new.levels c.args.store.now c.lend_builder-builder.new.self
 arrival g c =
     let whole = c.part_of_one-part.ensures.whole in

@@ -1,10 +1,10 @@
-use Rattle.std.proofs.Common.{◌≡◌, ℕ, ◌+◌, ◌-◌, ◌^◌, ◌<◌, ◌≤◌, ◌⊎◌, ◌∙◌, Option, None, true, List, [], ◌∷◌, ◌++◌, length, drop, refl, sym, ap, subst, inl, inr, ⊎_elim, arith}
+use Rattle.std.proofs.Common.{◌≡◌, ℕ, ◌+◌, ◌-◌, ◌^◌, ◌<◌, ◌≤◌, ◌⊎◌, ◌∙◌, Option, Some, None, true, List, [], ◌∷◌, ◌++◌, length, drop, refl, sym, ap, subst, inl, inr, ⊎_elim, arith}
 use Rattle.std.specs.Option.{is_some, option_map_or}
 use Rattle.std.proofs.lemmas.Bool.{cases_lt}
 use Rattle.builder_trait.specs.Builders.{PartProfile}
 use Rattle.partial_build.specs.Construction.{turns_left}
 use Rattle.partial_build.specs.Quota.{quota}
-use Rattle.log_levels.specs.Slots.{ticks_of, turns_to_go, most_turns, open_turns, all_turns, saved_by, left_in, items_in}
+use Rattle.log_levels.specs.Slots.{Slots, ticks_of, turns_to_go, most_turns, open_turns, all_turns, saved_by, left_in, items_in}
 use Rattle.log_levels.specs.Cost.{IsWithin, IsPaid}
 use Rattle.log_levels.specs.Neighbours.{IsVisited}
 use Rattle.log_levels.specs.Trades.{used_at, built_at}
@@ -48,7 +48,7 @@ begin-requires-clause-fed g c c' is =
 pub publish-requires-clause-lent : goal.publish-requires-clause-lent
 publish-requires-clause-lent g c =
     AreLent-on
-    (trades-begun (ap (λ v. v.level) c.tick.ensures.same ∙ ap (λ v. v.level) c.begin.ensures.same)
+    (trades-begun c.args.lower.now c.args.self.now c.tick.new.self c.args.store.now c.begin.new.store (ap (λ v. v.level) c.tick.ensures.same ∙ ap (λ v. v.level) c.begin.ensures.same)
     (ap (λ v. v.parts) c.tick.ensures.same ∙ ap (λ v. v.parts) c.begin.ensures.same) c.tick.ensures.runs
     (subst (λ ps. 2 ≤ length ps) c.parts.ensures.value c.in-len2-up.len_at_least)
     (λ none. (c.begin.ensures.begun none).lent) (λ some. (c.begin.ensures.running some).1)) c.requires.lent
@@ -147,9 +147,9 @@ returns-clause-same_below g c =
     let ticked : ticks_of mid ≡ ticks_of old + 1 = c.tick.ensures.ticked ∙ ap (λ n. n + 1) (begun-idle c.begin.ensures.begun c.begin.ensures.running).0 in
     let lower' = c.publish.new.lower in
     ⊎_elim
-    (λ early. let same = (c.publish.ensures.waits early).1 in same ∙ ap (λ v. record c.args.lower.now { parts = v.parts }) (sym same))
+    (λ early. let same = (c.publish.ensures.waits early).1 in same ∙ ap {A = Slots g.row.B-Part.Denot g.row.B-Item.Denot} (λ v. record c.args.lower.now { parts = v.parts }) (sym same))
     (λ late. let ended : ticks_of mid ≡ 2 ^ mid.level = omega (arith, late, ticked, h.early, ap (λ k. 2 ^ k) level) in
-    ap (λ v. record v { parts = lower'.parts }) (sym (c.publish.ensures.ends ended).retired))
+    ap {A = Slots g.row.B-Part.Denot g.row.B-Item.Denot} (λ v. record v { parts = lower'.parts }) (sym (c.publish.ensures.ends ended).retired))
     (cases_lt (ticks_of mid) (2 ^ mid.level))
 
 pub returns-clause-trades : goal.returns-clause-trades
@@ -174,5 +174,5 @@ returns-clause-trades g c =
     let p = c.publish.ensures.ends ended in
     (less-published g.B.Part.Part.contents p c.tick.ensures.runs, less_built-published g.B.Part.Part.contents p c.tick.ensures.runs))
     (cases_lt (ticks_of mid) (2 ^ mid.level)) in
-    visits-of level parts c.tick.ensures.runs two (λ none. (c.begin.ensures.begun none).lent) (λ some. (c.begin.ensures.running some).1)
+    visits-of lower old mid c.args.store.now c.begin.new.store level parts c.tick.ensures.runs two (λ none. (c.begin.ensures.begun none).lent) (λ some. (c.begin.ensures.running some).1)
     c.publish.ensures.trades less.0 less.1
