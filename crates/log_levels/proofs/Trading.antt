@@ -392,7 +392,7 @@ module _ {P Item : Type 0} where
     lends_more : (b : Bool) → is_some l.construction ≡ b → LendsMore
     lends_more true is =
         let off : will_begin lower l ≡ false = on_two ∙ ap not is in
-        let none : (k : ℕ) → more k ≡ 0 = λ k. ap (λ b. if k == l.level then one_if b else 0) off ∙ nothing (k == l.level) in
+        let none : (k : ℕ) → more k ≡ 0 = λ k. ap (λ b. if k == l.level then one_if b else 0) off ∙ nothing (k == l.level) (one_if false) refl in
         record {
           keeps = record { builders = λ k. ap (λ v. held_at k v.builders) (running is); tables = λ k. ap (λ v. held_at k v.tables) (running is) };
           builders = λ k. omega (arith, ap (λ v. lent_at k v.builders) (running is), none k);
@@ -400,9 +400,9 @@ module _ {P Item : Type 0} where
           runs_more = omega (arith, ap one_if is, ap one_if off);
         }
       where
-        nothing : (b : Bool) → (if b then 0 else 0) ≡ 0
-        nothing true = refl
-        nothing false = refl
+        nothing : (b : Bool) (m : ℕ) → m ≡ 0 → (if b then m else 0) ≡ 0
+        nothing true m none = none
+        nothing false m none = refl
     lends_more false is =
         let on : will_begin lower l ≡ true = on_two ∙ ap not is in
         let room = begun (not_some l.construction is) in
