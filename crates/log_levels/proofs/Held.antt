@@ -10,6 +10,10 @@ pub all_but_first : {X : Type 0} (xs : List X) → remove xs 0 ≡ drop 1 xs
 all_but_first [] = refl
 all_but_first (x ∷ xs) = refl
 
+pub length-rest : {X : Type 0} (xs : List X) → 0 < length xs → length (drop 1 xs) + 1 ≡ length xs
+length-rest [] some = absurd (omega (arith, some))
+length-rest (x ∷ xs) some = omega arith
+
 module _ {X : Type 0} {IsOne : X → Type 0} {most : ℕ} {room : ℕ} where
   pub AreHeld-push : (xs : List X) (x : X) {ys : List X} {room' : ℕ} → ys ≡ xs ++ x ∷ [] → room' ≡ room → AreHeld IsOne most xs room → IsOne x
       → length xs < most → AreHeld IsOne most ys room'

@@ -473,3 +473,7 @@ module _ {P Item : Type 0} where
 
   pub lent-of : {l : Slots P Item} {r : Stored} → AreLent (l ∷ []) r → (used_in l ≤ lent_at l.level r.builders) × (runs_in l ≤ lent_at l.level r.tables)
   lent-of {l} {r} lent = (omega (arith, lent.builders l.level, here l.level (used_in l)), omega (arith, lent.tables l.level, here l.level (runs_in l)))
+
+  -- a level that has nothing
+  pub trades-none : (l l' : Slots P Item) (s : Stored) → l' ≡ l → Trades (l ∷ []) s (l' ∷ []) s
+  trades-none l l' s same = subst (λ v. Trades (l ∷ []) s (v ∷ []) s) (sym same) (Trades-same (l ∷ []) s)
