@@ -69,7 +69,7 @@ module _ {P Item : Type 0} where
     begins-due l l' next h (arrives fresh parts none ending) =
         let long : length l'.parts ≡ length l.parts + 1 = ap length parts ∙ length-append l.parts (fresh ∷ []) in
         ⊎_elim (λ few. ⊎_elim (λ zero. inl (few-begins l' next (omega (arith, zero, long)))) (λ one. inr (omega (arith, one, few), ending))
-          (cases_lt (length l.parts) 1))
+        (cases_lt (length l.parts) 1))
         (λ two. inl (run-begins l' next (runs next (omega (arith, h.clock two)))))
         (cases_lt (length l.parts) 2)
 
@@ -127,7 +127,7 @@ module _ {P Item : Type 0} where
     soon-walked l l' [] h advances level k =
         let ahead = nat_le (2 ^ l'.level) (ticks_of l' + 1) in
         let less : one_if ahead ≤ one_if (is_due 2 l) = or_true false ahead (is_due 2 l) (λ on. absurd cc)
-          (λ on. due-two l (omega (arith, le-from (2 ^ l'.level) (ticks_of l' + 1) on, ap (λ k. 2 ^ k) level, one_tick advances))) in
+        (λ on. due-two l (omega (arith, le-from (2 ^ l'.level) (ticks_of l' + 1) on, ap (λ k. 2 ^ k) level, one_tick advances))) in
         let first : (if k == l'.level + 1 then one_if ahead else 0) ≤ (if k == l.level + 1 then one_if (is_due 2 l) else 0) =
         subst (λ n. (if k == n + 1 then one_if ahead else 0) ≤ (if k == l.level + 1 then one_if (is_due 2 l) else 0)) (sym level)
         (both_if (k == (l.level + 1)) (one_if ahead) (one_if (is_due 2 l)) less) in
@@ -145,7 +145,7 @@ module _ {P Item : Type 0} (lower lower' l : Slots P Item) (next : l.level ≡ l
   left_one true is =
       let many : (length lower'.parts == 1) ≡ false = grind (arith, nat_tests, two is) in
       let off : is_due 1 lower' ≡ false = ap (λ b. nat_le (2 ^ lower'.level) (ticks_of lower' + 1) && (nat_le 2 1 || b)) many
-        ∙ and-false (nat_le (2 ^ lower'.level) (ticks_of lower' + 1)) in
+      ∙ and-false (nat_le (2 ^ lower'.level) (ticks_of lower' + 1)) in
       let on : may_begin lower l ≡ true = ap (λ b. b || nat_le (2 ^ lower.level) (ticks_of lower + 1)) is in
       omega (arith, ap one_if off, ap one_if is, ap one_if on)
   left_one false is =
@@ -162,7 +162,7 @@ module _ {P Item : Type 0} (lower lower' l : Slots P Item) (next : l.level ≡ l
   visit-left k =
       let same : l.level ≡ lower'.level + 1 = next ∙ ap (λ n. n + 1) (sym level) in
       subst (λ n. (if k == n then one_if (is_due 1 lower') else 0) + (if k == l.level then one_if (will_begin lower l) else 0)
-        ≤ (if k == l.level then one_if (may_begin lower l) else 0)) same
+      ≤ (if k == l.level then one_if (may_begin lower l) else 0)) same
       (three (k == l.level) (one_if (is_due 1 lower')) (one_if (will_begin lower l)) (one_if (may_begin lower l)) (left_one (will_begin lower l) refl))
     where
       three : (b : Bool) (m n o : ℕ) → m + n ≤ o → (if b then m else 0) + (if b then n else 0) ≤ (if b then o else 0)
@@ -192,7 +192,7 @@ module _ {P Item : Type 0} (lower l lower' l' : Slots P Item) (above : List (Slo
     (v : Visits lower l store lower' l' store')
     (now : (k : ℕ) → now_at k l' above ≤ due_at 1 k (l ∷ above)) (soon : (k : ℕ) → soon_at k l' above ≤ due_at 2 k (l ∷ above))
     (left : (k : ℕ) → (if k == lower'.level + 1 then one_if (is_due 1 lower') else 0) + (if k == l.level then one_if (will_begin lower l) else 0)
-      ≤ (if k == l.level then one_if (may_begin lower l) else 0))
+    ≤ (if k == l.level then one_if (may_begin lower l) else 0))
     (quiet : IsQuietAbove 2 l above → IsQuietSoon l' above) where
   pub walks_above : (l'' : Slots P Item) (above'' : List (Slots P Item)) (store'' : Stored) → Walks l' above store' l'' above'' store''
       → Walks lower (l ∷ above) store lower' (l'' ∷ above'') store''

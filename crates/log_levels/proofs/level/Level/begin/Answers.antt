@@ -12,4 +12,3 @@ begin-requires-clause-other_apart g c =
 pub begin-requires-clause-differ : goal.begin-requires-clause-differ
 begin-requires-clause-differ g c =
     StampsDiffer-parts g.B.Item.Item.stamp (g.B.Part.Part.contents c.args.a.now).items (g.B.Part.Part.contents c.args.b.now).items c.requires.apart
-
