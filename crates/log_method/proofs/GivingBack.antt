@@ -1,0 +1,88 @@
+-- Levels that give back a part of the highest one that has any.
+use Rattle.std.proofs.Common.{◌≡◌, ◌==◌, ℕ, ◌+◌, ◌-◌, ◌<◌, ◌≤◌, ◌∙◌, true, false, List, [], ◌∷◌, if◌then◌else◌, nat_lt, length, inl, inr, refl, ap, sym, subst, arith}
+use Rattle.std.proofs.lemmas.Bool.Decides.{nat_tests}
+use Rattle.part_store.specs.Shelves.{one_if, kept_at, lent_at}
+use Rattle.part_store.specs.Store.{Stored, KeepsBoth}
+use Rattle.log_levels.specs.Slots.{Slots}
+use Rattle.log_levels.specs.Trades.{used_in, used_at, AreLent, Trades}
+use Rattle.log_method.specs.Retired.{used_of, top_of, GivesOneBack}
+
+module _ {P Item : Type 0} where
+  used_none : (k : ℕ) (levels : List (Slots P Item)) → used_of levels ≡ 0 → used_at k levels ≡ 0
+  used_none k [] none = refl
+  used_none k (l ∷ above) none =
+      let here : used_in l ≡ 0 = omega (arith, none) in rw here (unless (k == l.level) (used_none k above (omega (arith, none))))
+    where
+      unless : (b : Bool) {n : ℕ} → n ≡ 0 → (if b then 0 else 0) + n ≡ 0
+      unless true none = omega (arith, none)
+      unless false none = omega (arith, none)
+
+  -- there is no level
+  pub gives_none : (levels : List (Slots P Item)) → used_of levels ≡ 0 → GivesOneBack levels levels
+  gives_none levels none = record { one = omega (arith, none); at = λ some. absurd (omega (arith, none, some)) }
+
+  -- a part of a level above is given back
+  pub gives_above : (l : Slots P Item) (above above' : List (Slots P Item)) → 0 < used_of above → GivesOneBack above above'
+      → GivesOneBack (l ∷ above) (l ∷ above')
+  gives_above l above above' some h = record {
+    one = omega (arith, some, h.one);
+    at = λ all k.
+        let up : nat_lt 0 (used_of above) ≡ true = grind (arith, nat_tests, some) in
+        let top : top_of (l ∷ above) ≡ top_of above = rw up refl in
+        rw top (omega (arith, h.at some k));
+  }
+
+  -- a part of the lowest of these levels is given back, since none above has any
+  pub gives_here : (l l' : Slots P Item) (above above' : List (Slots P Item)) → used_of above ≡ 0 → used_of above' ≡ 0 → l'.level ≡ l.level
+      → used_in l' ≡ used_in l - 1 → GivesOneBack (l ∷ above) (l' ∷ above')
+  gives_here l l' above above' none none' level one = record {
+    one = omega (arith, none, none', one);
+    at = λ all k.
+        let up : nat_lt 0 (used_of above) ≡ false = grind (arith, nat_tests, none) in
+        let top : top_of (l ∷ above) ≡ l.level = rw up refl in
+        let less : used_in l' + 1 ≡ used_in l = omega (arith, one, none, all) in
+        rw (top, level) (at_level (k == l.level) (used_in l) (used_in l') (used_at k above) (used_at k above') less (used_none k above none) (used_none k above' none'));
+  }
+    where
+      at_level : (b : Bool) (m m' n n' : ℕ) → m' + 1 ≡ m → n ≡ 0 → n' ≡ 0 → (if b then m' else 0) + n' + one_if b ≡ (if b then m else 0) + n
+      at_level true m m' n n' less none none' = omega (arith, less, none, none')
+      at_level false m m' n n' less none none' = omega (arith, none, none')
+
+  -- what levels above one have is lent, as what all have
+  pub lent_above : (l : Slots P Item) (above : List (Slots P Item)) (store : Stored) → AreLent (l ∷ above) store → AreLent above store
+  lent_above l above store h = record { builders = λ k. omega (arith, h.builders k); tables = λ k. omega (arith, h.tables k) }
+
+  -- and so is what that one has, after moves of those above
+  pub lent_here : (l : Slots P Item) (above above' : List (Slots P Item)) (store store' : Stored) → Trades above store above' store'
+      → AreLent (l ∷ above) store → AreLent (l ∷ []) store'
+  lent_here l above above' store store' moves h = record {
+    builders = λ k. omega (arith, moves.builders k, h.builders k);
+    tables = λ k. omega (arith, moves.tables k, h.tables k);
+  }
+
+  pub moves_above : (l : Slots P Item) (above above' : List (Slots P Item)) (store store' : Stored) → Trades above store above' store'
+      → Trades (l ∷ above) store (l ∷ above') store'
+  moves_above l above above' store store' moves = record {
+    keeps = moves.keeps;
+    builders = λ k. omega (arith, moves.builders k);
+    tables = λ k. omega (arith, moves.tables k);
+  }
+
+  -- moves of levels, and then of the one below
+  pub moves_both : (l l' : Slots P Item) (above above' : List (Slots P Item)) (a b c : Stored) → Trades above a above' b
+      → Trades (l ∷ []) b (l' ∷ []) c → Trades (l ∷ above) a (l' ∷ above') c
+  moves_both l l' above above' a b c h k = record {
+    keeps = record {
+      builders = λ n. k.keeps.builders n ∙ h.keeps.builders n;
+      tables = λ n. k.keeps.tables n ∙ h.keeps.tables n;
+    };
+    builders = λ n. omega (arith, h.builders n, k.builders n);
+    tables = λ n. omega (arith, h.tables n, k.tables n);
+  }
+
+  pub moves_none : (levels : List (Slots P Item)) (store : Stored) → Trades levels store levels store
+  moves_none levels store = record {
+    keeps = record { builders = λ k. refl; tables = λ k. refl };
+    builders = λ k. refl;
+    tables = λ k. refl;
+  }
