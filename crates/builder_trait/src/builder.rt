@@ -14,7 +14,8 @@ use std::sync::ledger::Ledger;
 /// A part under construction: first the items are put, in the first order and then in the second order, then the builder is sealed, and then
 /// each turn does one unit of the work that is left (Overmars and van Leeuwen 1981).
 ///
-/// Only `room` takes memory. Once a part is of no use, `recycle` makes a builder of its memory.
+/// Only `room` takes memory. Once a part is of no use, `recycle` makes a builder of its memory; and `restart` does of a builder that is given up
+/// before its end. So whoever keeps builders is handed all memory back, and none is freed whole.
 pub trait Builder: Drop + Sized {
     type Item: Item;
 
@@ -87,6 +88,11 @@ pub trait Builder: Drop + Sized {
     /// counts nothing.
     fn recycle(part: Self::Part) -> Self
         ensures { progress result ≡ begun (Self.Part.contents part).at_level };
+
+    /// The same of a builder, at any time: what was put is taken out. It takes no memory, frees none, and counts nothing; each row is
+    /// emptied in one step, however much it holds.
+    fn restart(self) -> Self
+        ensures { progress result ≡ begun (progress self).at_level };
 
     /// The base is even, so that its half is a number of turns; and both numbers are small.
     ghost base_even: { BASE % 2 ≡ 0 };

@@ -8,6 +8,7 @@ ghost use Rattle.query_laws.specs.StepLedger.{Spends, one_mark, one_touch};
 ghost use Rattle.query_laws.specs.declared.item.Order.TheVariants.{First, Second};
 ghost use Rattle.builder_trait.specs.Parts.{IsPart, IsRising, OwnsStamp, IsOutside, live_of, has_stamp, without, marked};
 ghost use Rattle.builder_trait.specs.Builders.{IsUnderway, IsQuota, FitsFirst, FitsSecond, begun, with_put, sealed_with, all_live};
+ghost use Rattle.builder_trait.specs.Flat.{HasRoom};
 
 use crate::builder::Builder;
 use crate::part::Part;
@@ -192,6 +193,29 @@ impl<I: Item> Model for FlatBuilder<I> {
 }
 
 impl<I: Item> FlatBuilder<I> {
+    /// A builder to which nothing was put, on these rows, which are emptied in one step each.
+    fn on(items: Row<I>, places: Row<u32>, flags: Row<bool>, level: u32) -> FlatBuilder<I>
+        requires { HasRoom items places flags level }
+        ensures empty { result ≡ begun level }
+        ensures valid { IsUnderway I.before result }
+    {
+        let mut items = items;
+        let mut places = places;
+        let mut flags = flags;
+        items.clear();
+        places.clear();
+        flags.clear();
+        FlatBuilder {
+            items,
+            places,
+            flags,
+            level,
+            sealed: false,
+            left: 0,
+            stamps: Stamps::of_none(),
+        }
+    }
+
     /// How many items were put in the first order. It counts nothing.
     pub fn len(&self) -> usize
         ensures value { result ≡ length self.now.items }
@@ -316,25 +340,21 @@ impl<I: Item> Builder for FlatBuilder<I> {
         ensures valid { IsUnderway I.before result }
     {
         let FlatPart {
-            mut items,
-            mut places,
-            mut flags,
-            level,
-            live: _,
-            stamps: _,
-        } = part;
-        items.clear();
-        places.clear();
-        flags.clear();
-        FlatBuilder {
             items,
             places,
             flags,
             level,
-            sealed: false,
-            left: 0,
-            stamps: Stamps::of_none(),
-        }
+            live: _,
+            stamps: _,
+        } = part;
+        FlatBuilder::on(items, places, flags, level)
+    }
+
+    fn restart(self) -> FlatBuilder<I>
+        ensures empty { result ≡ begun self.at_level }
+        ensures valid { IsUnderway I.before result }
+    {
+        FlatBuilder::on(self.items, self.places, self.flags, self.level)
     }
 
     ghost base_even = { refl };

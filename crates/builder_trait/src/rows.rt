@@ -41,6 +41,9 @@ pub trait Rows: Drop + Sized {
     /// How many turns it takes to build the rows of so many items.
     ghost turns_for: { ℕ → ℕ };
 
+    /// The rows have the memory that a builder of this level needs.
+    ghost HasRoom: { ℕ → Self → Type 0 };
+
     /// The rows have what was put so far.
     ghost IsPutting: { Progress Self.Item → Self → Type 0 };
 
@@ -120,13 +123,20 @@ pub trait Rows: Drop + Sized {
         ensures done { IsDone items.now self.new }
         ensures cost { (h : ℕ) → length items.now.items ≤ 2 ^ h → Spends steps.old steps.new 0 0 (mark_touches h - (h + 4)) };
 
-    /// Takes all out, and keeps the memory for the next builder of the part's level. It counts nothing.
-    fn clear(&mut self, items: &FlatPart<Self::Item>)
-        requires done { IsDone items.now self.old }
-        ensures putting { IsPutting (begun items.now.at_level) self.new };
+    /// Takes all out, of a part as of a builder at any time, and keeps the memory for the next builder of that level. It counts nothing,
+    /// and each row is emptied in one step, however much it holds.
+    fn clear(&mut self)
+        ensures putting { (level : ℕ) → HasRoom level self.old → IsPutting (begun level) self.new };
 
     /// No turn is left before the rows begin.
     ghost none_left: { (b : Progress Self.Item) (rows : Self) → IsPutting b rows → left rows ≡ 0 };
+
+    /// The memory stays, whatever the rows hold.
+    ghost room_putting: { (b : Progress Self.Item) (rows : Self) → IsPutting b rows → HasRoom b.at_level rows };
+
+    ghost room_growing: { (part : Contents Self.Item) (rows : Self) → IsGrowing part rows → HasRoom part.at_level rows };
+
+    ghost room_done: { (part : Contents Self.Item) (rows : Self) → IsDone part rows → HasRoom part.at_level rows };
 
     /// After the last turn the rows are done.
     ghost done: { (b : Progress Self.Item) (rows : Self) → IsGrowing (all_live b) rows → left rows ≡ 0 → IsDone (all_live b) rows };
@@ -308,9 +318,18 @@ impl<R: Rows> Builder for RowsBuilder<R> {
 
     fn recycle(part: RowsPart<R>) -> RowsBuilder<R> {
         let RowsPart { items, mut rows } = part;
-        rows.clear(&items);
+        rows.clear();
         RowsBuilder {
             items: FlatBuilder::recycle(items),
+            rows,
+        }
+    }
+
+    fn restart(self) -> RowsBuilder<R> {
+        let RowsBuilder { items, mut rows } = self;
+        rows.clear();
+        RowsBuilder {
+            items: items.restart(),
             rows,
         }
     }

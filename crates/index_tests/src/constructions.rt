@@ -1,4 +1,4 @@
-//! A construction of four items, one of which dies after it was read.
+//! A construction of four items, one of which dies after it was read, and one that is given up.
 ghost use Rattle.std.specs.Prelude.{◌≡◌, ◌≢◌, [], ◌∷◌, true, IsTrue, IfOk};
 ghost use Rattle.query_laws.specs.declared.item.Order.TheVariants.{First, Second};
 
@@ -21,7 +21,8 @@ fn room<B: Builder>(alloc: Global) -> Result<Room<B>, NoMemory>
 
 /// A construction of two parts of two items each, one of which dies after the first of four ticks. The turns left, and how many
 /// items wait: at first, after that tick, once the item is noted, and after the next tick. Then how many items the new part has and
-/// how many are live, the turns and marks of all, and how many turns the next construction on the same tables has left at first.
+/// how many are live; the turns and marks of all; and how many turns the next construction on the same tables has left at first, and,
+/// after a tick of that, the one in the room that it hands back when it is given up.
 pub fn built<B: Builder, L: Ledger>(
     alloc: Global,
     first: B::Item,
@@ -29,7 +30,7 @@ pub fn built<B: Builder, L: Ledger>(
     third: B::Item,
     fourth: B::Item,
     steps: &mut Steps<L>,
-) -> Result<([u64; 4], [usize; 4], [u64; 5]), NoMemory>
+) -> Result<([u64; 4], [usize; 4], [u64; 6]), NoMemory>
     requires rising_a { IsTrue (B.Item.before First first third) × IsTrue (B.Item.before Second first third) }
     requires rising_b { IsTrue (B.Item.before First second fourth) × IsTrue (B.Item.before Second second fourth) }
     requires apart_first { (B.Item.stamp first ≢ B.Item.stamp second) × (B.Item.stamp first ≢ B.Item.stamp fourth) }
@@ -53,7 +54,10 @@ pub fn built<B: Builder, L: Ledger>(
     build.tick(&a, &b, steps);
     build.tick(&a, &b, steps);
     let (part, tables) = build.publish();
-    let again = Room::of(builder, tables).begin(&a, &b);
+    let mut again = Room::of(builder, tables).begin(&a, &b);
+    let left_again = again.turns_left();
+    again.tick(&a, &b, steps);
+    let third = again.abandon().begin(&a, &b);
     Ok((
         [begun.0, ticked.0, noted.0, drained.0],
         [begun.1, ticked.1, noted.1, drained.1],
@@ -62,7 +66,8 @@ pub fn built<B: Builder, L: Ledger>(
             part.live() as u64,
             steps.lap_turns(),
             steps.lap_marks(),
-            again.turns_left(),
+            left_again,
+            third.turns_left(),
         ],
     ))
 }

@@ -1,4 +1,4 @@
-//! A part of two items, and a part of one on its memory.
+//! A part of two items, and parts of one on its memory and on that of a builder.
 ghost use Rattle.std.specs.Prelude.{◌≡◌, ◌≢◌, [], ◌∷◌, true, false, IsTrue, IfOk, length};
 ghost use Rattle.query_laws.specs.declared.item.Order.TheVariants.{First, Second};
 ghost use Rattle.builder_trait.specs.Builders.{all_live};
@@ -91,13 +91,13 @@ pub fn rising_pair<B: Builder, L: Ledger>(
 }
 
 /// A part of two items, the first of which is marked twice: the turns left after the seal, all turns and marks, whether it was live at each mark, how
-/// many items are live, and how many a part of the second has, on the same memory.
+/// many items are live, and how many a part of the second has, on the same memory, and on that of a builder that had both.
 pub fn marked<B: Builder, L: Ledger>(
     alloc: Global,
     low: B::Item,
     high: B::Item,
     steps: &mut Steps<L>,
-) -> Result<([u64; 3], [bool; 2], [usize; 2]), NoMemory>
+) -> Result<([u64; 3], [bool; 2], [usize; 3]), NoMemory>
     requires rising { IsTrue (B.Item.before First low high) }
     requires rising_reordered { IsTrue (B.Item.before Second low high) }
     requires apart { B.Item.stamp low ≢ B.Item.stamp high }
@@ -107,6 +107,8 @@ pub fn marked<B: Builder, L: Ledger>(
     let was_live = [part.mark(&low, steps), part.mark(&low, steps)];
     let counted = [left, steps.lap_turns(), steps.lap_marks()];
     let live = part.live();
-    let single = part_of_one(B::recycle(part), high, steps).len();
-    Ok((counted, was_live, [live, single]))
+    let recycled = part_of_one(B::recycle(part), high, steps).len();
+    let builder: B = put_first(alloc, low, high, steps)?;
+    let restarted = part_of_one(builder.restart(), high, steps).len();
+    Ok((counted, was_live, [live, recycled, restarted]))
 }

@@ -21,9 +21,9 @@ use std::test::Fail;
 
 #[derive(Drop)]
 struct Findings {
-    marked: ([u64; 3], [bool; 2], [usize; 2]),
+    marked: ([u64; 3], [bool; 2], [usize; 3]),
     merged: MergeFindings,
-    built: ([u64; 4], [usize; 4], [u64; 5]),
+    built: ([u64; 4], [usize; 4], [u64; 6]),
     traced: (Vec<(u32, u64)>, u64, u32, u128),
     deleted: (u64, u64, u32, u32, u32),
     prepared: [(u64, u32); 3],
@@ -59,7 +59,7 @@ where
 #[test]
 fn rows_are_as_worked(rt: HostRuntime) -> Result<(), Fail> {
     let seen = seen::<FlatBuilder<Pair>, Brand>(rt.alloc(), blank())?;
-    assert_eq!(rt; seen.marked, ([2, 6, 2], [true, false], [1, 1]));
+    assert_eq!(rt; seen.marked, ([2, 6, 2], [true, false], [1, 1, 1]));
     let MergeFindings {
         left,
         passed,
@@ -72,7 +72,7 @@ fn rows_are_as_worked(rt: HostRuntime) -> Result<(), Fail> {
     assert_eq!(rt; stamps.as_slice(), [0, 2, 1, 0, 2, 1].as_slice());
     assert_eq!(rt;
         seen.built,
-        ([12, 6, 6, 0], [0, 0, 1, 0], [4, 3, 12, 2, 12])
+        ([12, 6, 6, 0], [0, 0, 1, 0], [4, 3, 18, 2, 12, 12])
     );
     let wanted = [
         (1, 1),

@@ -7,8 +7,8 @@ use Rattle.weak_delete.specs.Places.{LivePlaces, IsBuilt, live_place}
 use Rattle.builder_trait.specs.Builders.{Progress, all_live}
 use Rattle.map_shapes.specs.declared.segment.Segment.{Segment}
 use Rattle.interval_tree.specs.declared.rows.StabRows.{StabRows}
-use Rattle.interval_tree.specs.Rows.{end_place, count_place, AreKept}
-use Rattle.interval_tree.specs.Growing.{IsFilling, IsGrowing, all_ends, all_counted, turns_to}
+use Rattle.interval_tree.specs.Rows.{end_place, count_place, HasRoom, AreKept}
+use Rattle.interval_tree.specs.Growing.{AreEmpty, IsFilling, IsGrowing, all_ends, all_counted, turns_to}
 
 -- segments that a level below 32 has room for
 pub few_segments : (n level : ℕ) → level < 32 → n ≤ 2 ^ level → n ≤ 2 ^ 31
@@ -39,6 +39,17 @@ ends-live (x ∷ xs) = ap (λ l. live_place x.hi ∷ l) (ends-live xs)
 counts-live : (n : ℕ) → all_counted n ≡ map count_place (replicate n true)
 counts-live zero = refl
 counts-live (suc n) = ap (λ l. live_place 0 ∷ l) (counts-live n)
+
+-- trees into which nothing is put have their room
+pub HasRoom-empty : {level : ℕ} {rows : StabRows} → level < 32 → AreEmpty (2 ^ level) rows.trees → HasRoom level rows
+HasRoom-empty small empty = record {
+  small = small;
+  trees = record {
+    ends = ap (λ (s : LivePlaces). s.capacity) empty.ends;
+    by_lower = ap (λ (s : LivePlaces). s.capacity) empty.by_lower;
+    by_upper = ap (λ (s : LivePlaces). s.capacity) empty.by_upper;
+  };
+}
 
 pub AreKept-grown : (b : Progress Segment) (rows : StabRows) → IsGrowing (all_live b) rows → rows.left ≡ 0 → AreKept (all_live b) rows
 AreKept-grown b rows growing none =

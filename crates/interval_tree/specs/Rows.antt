@@ -56,6 +56,11 @@ pub record HaveRoom (cap : ℕ) (trees : Trees) : Type 0 where
   pub by_lower : trees.by_lower.capacity ≡ cap
   pub by_upper : trees.by_upper.capacity ≡ cap
 
+-- the trees have room for what a builder of this level takes
+pub record HasRoom (at_level : ℕ) (rows : StabRows) : Type 0 where
+  pub small : at_level < 32
+  pub trees : HaveRoom (2 ^ at_level) rows.trees
+
 -- The rows that a part keeps, which have room for what the next builder takes.
 pub record AreKept (part : Contents Segment) (rows : StabRows) : Type 0 where
   pub small : part.at_level < 32

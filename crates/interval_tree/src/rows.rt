@@ -47,10 +47,10 @@ const _: () = prove!(size_of::<Segment>() <= 64);
 impl Rows for StabRows {
     ghost use Rattle.std.specs.Prelude.{◌≡◌, ◌*◌, ◌+◌, ◌-◌, refl};
     ghost use Rattle.std.proofs.Common.{arith};
-    ghost use Rattle.interval_tree.specs.Rows.{AreKept};
+    ghost use Rattle.interval_tree.specs.Rows.{HasRoom, AreKept};
     ghost use Rattle.interval_tree.specs.Costs.{walk_touches};
     ghost use Rattle.interval_tree.specs.Growing.{IsPutting, IsGrowing};
-    ghost use Rattle.interval_tree.specs.GrowingLaws.{AreKept-grown};
+    ghost use Rattle.interval_tree.specs.GrowingLaws.{HasRoom-empty, AreKept-grown};
 
     type Item = Segment;
 
@@ -67,6 +67,8 @@ impl Rows for StabRows {
     ghost left = { λ rows. rows.left };
 
     ghost turns_for = { λ n. 6 * n - 1 };
+
+    ghost HasRoom = { HasRoom };
 
     ghost IsPutting = { IsPutting };
 
@@ -126,12 +128,18 @@ impl Rows for StabRows {
         self.trees.clear_at(place, index, steps);
     }
 
-    fn clear(&mut self, _segments: &FlatPart<Segment>) {
+    fn clear(&mut self) {
         self.trees.reset();
         self.left = 0;
     }
 
     ghost none_left = { λ b rows putting. putting.none_left };
+
+    ghost room_putting = { λ b rows putting. HasRoom-empty putting.small putting.empty };
+
+    ghost room_growing = { λ part rows growing. record { small = growing.small; trees = growing.room } };
+
+    ghost room_done = { λ part rows kept. record { small = kept.small; trees = kept.room } };
 
     ghost done = { AreKept-grown };
 

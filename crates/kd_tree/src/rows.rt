@@ -61,7 +61,7 @@ impl Rows for KdRows {
     ghost use Rattle.std.specs.Prelude.{◌≡◌, ◌*◌, ◌+◌, refl};
     ghost use Rattle.std.proofs.Common.{arith};
     ghost use Rattle.kd_tree.specs.Heights.{depth_for, nodes_in};
-    ghost use Rattle.kd_tree.specs.Growing.{IsPutting, IsGrowing, IsTree};
+    ghost use Rattle.kd_tree.specs.Growing.{HasRoom, IsPutting, IsGrowing, IsTree};
     ghost use Rattle.kd_tree.specs.GrowingLaws.{IsTree-grown};
 
     type Item = Point;
@@ -79,6 +79,8 @@ impl Rows for KdRows {
     ghost left = { λ rows. rows.left };
 
     ghost turns_for = { λ n. depth_for n * n + nodes_in (depth_for n) };
+
+    ghost HasRoom = { HasRoom };
 
     ghost IsPutting = { IsPutting };
 
@@ -155,7 +157,7 @@ impl Rows for KdRows {
         self.kill(place, steps);
     }
 
-    fn clear(&mut self, _points: &FlatPart<Point>) {
+    fn clear(&mut self) {
         self.places.clear();
         self.sorting.clear();
         self.leaves.clear();
@@ -164,6 +166,12 @@ impl Rows for KdRows {
     }
 
     ghost none_left = { λ b rows putting. putting.left };
+
+    ghost room_putting = { λ b rows putting. putting.room };
+
+    ghost room_growing = { λ part rows growing. growing.0.room };
+
+    ghost room_done = { λ part rows tree. tree.room };
 
     ghost done = { IsTree-grown };
 

@@ -5,6 +5,7 @@ pub mod Publishing
 pub mod Clocks
 pub mod Paying
 pub mod Neighbouring
+pub mod Trading
 pub mod Towers
 pub mod Marks
 pub mod Noting

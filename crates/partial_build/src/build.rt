@@ -9,7 +9,7 @@ ghost use Rattle.partial_build.specs.Quota.{quota};
 ghost use Rattle.partial_build.specs.Construction.{Builds, AreTaken, AreDrained, IsOnTime, IsPaid, IsPublished, turns_left};
 
 use crate::new_part::NewPart;
-use crate::room::Tables;
+use crate::room::{Room, Tables};
 use builder_trait::{Builder, Part, Profiled};
 use ordered_merge::Merge;
 use query_laws::Item;
@@ -22,7 +22,7 @@ const MARKS: u64 = 2;
 
 /// The construction of one part of two, a and b, while items of these still die.
 ///
-/// It begins in a [`Room`](crate::Room), takes `2^level` ticks, and is then published. Each tick takes a quota of turns; the
+/// It begins in a [`Room`], takes `2^level` ticks, and is then published. Each tick takes a quota of turns; the
 /// sources are read and the part is built by half of the ticks. An item that dies in a source is noted. Where it was read already,
 /// it waits until the new part is built and a tick marks it there. No call takes memory.
 #[derive(Drop)]
@@ -232,6 +232,21 @@ impl<B: Builder> Build<B> {
             waiting,
         } = self;
         (part.into_part(), Tables::emptied(level, merge, waiting))
+    }
+
+    /// Gives the construction up, at any time, and hands back all its memory, as room for the next construction into the level: so nothing of
+    /// it is freed whole. It counts nothing, and takes and frees no memory; each row and table is emptied in one step.
+    pub fn abandon(self) -> Room<B>
+        ensures { result ≡ self.level }
+    {
+        let Build {
+            level,
+            ticks: _,
+            merge,
+            part,
+            waiting,
+        } = self;
+        Room::of(part.into_builder(), Tables::emptied(level, merge, waiting))
     }
 
     /// The level that the part goes to.

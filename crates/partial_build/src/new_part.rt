@@ -2,7 +2,7 @@
 ghost use Rattle.std.specs.Prelude.{◌≡◌, ◌==◌, ℕ, ◌-◌, ◌*◌, ◌^◌, ◌≤◌, false, true, length};
 ghost use Rattle.query_laws.specs.StepLedger.{Spends};
 ghost use Rattle.builder_trait.specs.Parts.{OwnsStamp, without, marked, live_of};
-ghost use Rattle.builder_trait.specs.Builders.{IsQuota, all_live};
+ghost use Rattle.builder_trait.specs.Builders.{IsQuota, begun, all_live};
 ghost use Rattle.ordered_merge.specs.Merging.{Merges, HasRead};
 ghost use Rattle.partial_build.specs.NewPart.{put_of, IsAllLive};
 
@@ -169,6 +169,20 @@ impl<B: Builder> NewPart<B> {
         let NewPart { builder: _, part } = self;
         match part {
             Some(part) => part,
+            None => unreachable!(),
+        }
+    }
+
+    /// A builder to which nothing was put, on the memory of the part, whether it is built or not.
+    pub(crate) fn into_builder(self) -> B
+        ensures { B.progress result ≡ begun self.contents.at_level }
+    {
+        let NewPart { builder, part } = self;
+        if let Some(part) = part {
+            return B::recycle(part);
+        }
+        match builder {
+            Some(builder) => builder.restart(),
             None => unreachable!(),
         }
     }

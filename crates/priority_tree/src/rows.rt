@@ -51,10 +51,10 @@ pub struct TopRows {
 const _: () = prove!(size_of::<Point>() <= 64);
 
 impl Rows for TopRows {
-    ghost use Rattle.std.specs.Prelude.{◌≡◌, ◌*◌, ◌+◌, refl};
+    ghost use Rattle.std.specs.Prelude.{◌≡◌, ◌*◌, ◌+◌, ◌<◌, refl};
     ghost use Rattle.std.proofs.Common.{arith};
     ghost use Rattle.priority_tree.specs.Growing.{turns_for};
-    ghost use Rattle.priority_tree.specs.Live.{IsTree};
+    ghost use Rattle.priority_tree.specs.Live.{HasRoom, IsTree};
     ghost use Rattle.priority_tree.specs.Growing.{IsFilling, IsGrowing};
     ghost use Rattle.priority_tree.specs.GrowingLaws.{IsTree-grown};
 
@@ -73,6 +73,8 @@ impl Rows for TopRows {
     ghost left = { λ rows. rows.left };
 
     ghost turns_for = { turns_for };
+
+    ghost HasRoom = { λ level rows. (level < 32) × HasRoom level rows.heap };
 
     ghost IsPutting = { λ b rows. IsFilling b.at_level b.items rows.heap × (rows.left ≡ 0) };
 
@@ -148,7 +150,7 @@ impl Rows for TopRows {
         self.heap.remove(self.height, 0, &entry, steps);
     }
 
-    fn clear(&mut self, _points: &FlatPart<Point>) {
+    fn clear(&mut self) {
         self.heap.clear();
         self.height = 0;
         self.at = 0;
@@ -159,6 +161,12 @@ impl Rows for TopRows {
     }
 
     ghost none_left = { λ b rows putting. putting.1 };
+
+    ghost room_putting = { λ b rows putting. (putting.0.small, putting.0.room) };
+
+    ghost room_growing = { λ part rows growing. (growing.0.small, growing.0.room) };
+
+    ghost room_done = { λ part rows tree. (tree.small, tree.room) };
 
     ghost done = { IsTree-grown };
 

@@ -39,7 +39,7 @@ impl Rows for RangeRows {
     ghost use Rattle.std.proofs.Common.{arith};
     ghost use Rattle.range_tree.specs.Costs.{mark_touches-rise};
     ghost use Rattle.range_tree.specs.Heights.{rows_for, words_for};
-    ghost use Rattle.range_tree.specs.Growing.{IsPutting, IsGrowing, IsKept, IsKept-grown};
+    ghost use Rattle.range_tree.specs.Growing.{HasRoom, IsPutting, IsGrowing, IsKept, IsKept-grown};
 
     type Item = Point;
 
@@ -56,6 +56,8 @@ impl Rows for RangeRows {
     ghost left = { λ rows. rows.tree.left };
 
     ghost turns_for = { λ n. rows_for n * (64 * words_for n) };
+
+    ghost HasRoom = { λ level rows. HasRoom level rows.tree };
 
     ghost IsPutting = { λ b rows. IsPutting b rows.tree };
 
@@ -114,11 +116,17 @@ impl Rows for RangeRows {
         self.tree.mark(points, place, item, steps);
     }
 
-    fn clear(&mut self, points: &FlatPart<Point>) {
-        self.tree.clear(points);
+    fn clear(&mut self) {
+        self.tree.clear();
     }
 
     ghost none_left = { λ b rows putting. putting.none_left };
+
+    ghost room_putting = { λ b rows putting. putting.room };
+
+    ghost room_growing = { λ part rows growing. growing.room };
+
+    ghost room_done = { λ part rows kept. kept.room };
 
     ghost done = { λ b rows. IsKept-grown b rows.tree };
 

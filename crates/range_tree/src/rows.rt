@@ -58,7 +58,7 @@ impl Rows for RangeTree {
     ghost use Rattle.std.proofs.Common.{arith};
     ghost use Rattle.range_tree.specs.Costs.{mark_touches-rise};
     ghost use Rattle.range_tree.specs.Heights.{rows_for, words_for};
-    ghost use Rattle.range_tree.specs.Growing.{IsPutting, IsGrowing, IsKept, IsKept-grown};
+    ghost use Rattle.range_tree.specs.Growing.{HasRoom, IsPutting, IsGrowing, IsKept, IsKept-grown};
 
     type Item = Point;
 
@@ -75,6 +75,8 @@ impl Rows for RangeTree {
     ghost left = { λ rows. rows.left };
 
     ghost turns_for = { λ n. rows_for n * (64 * words_for n) };
+
+    ghost HasRoom = { HasRoom };
 
     ghost IsPutting = { IsPutting };
 
@@ -166,7 +168,7 @@ impl Rows for RangeTree {
         self.mark_rows(place, item, steps);
     }
 
-    fn clear(&mut self, _points: &FlatPart<Point>) {
+    fn clear(&mut self) {
         self.xs.clear();
         self.leaves.clear();
         self.top.clear();
@@ -178,6 +180,12 @@ impl Rows for RangeTree {
     }
 
     ghost none_left = { λ b rows putting. putting.none_left };
+
+    ghost room_putting = { λ b rows putting. putting.room };
+
+    ghost room_growing = { λ part rows growing. growing.room };
+
+    ghost room_done = { λ part rows kept. kept.room };
 
     ghost done = { IsKept-grown };
 
