@@ -219,7 +219,7 @@ impl<B: Builder> Stack<B> {
         ensures each { AreKept self.old.levels self.new.levels }
         ensures taken { HasTaken (λ k. wanted_at 2 k self.new.levels) store.old store.new }
     {
-        self.add_levels()?;
+        add_levels(&mut self.levels, self.alloc)?;
         stock_levels(&self.levels, store, self.alloc)
     }
 
