@@ -2,4 +2,5 @@ pub mod Stacks
 pub mod FewParts
 pub mod Forecasting
 pub mod Taking
+pub mod FewHeld
 pub mod GivingBack

@@ -10,7 +10,7 @@ ghost use Rattle.log_levels.specs.Marking.{noted};
 ghost use Rattle.log_levels.specs.Trades.{wanted_at, IsStocked, Ticks};
 ghost use Rattle.log_method.specs.Stack.{HaveSameItems, MayTick, Inserts, Deletes};
 ghost use Rattle.log_method.specs.Height.{IsHeight, HaveAtMost, HaveFewParts, size_of};
-ghost use Rattle.log_method.specs.Preparing.{AreKept, AreEnough, HasTaken, rooms_of};
+ghost use Rattle.log_method.specs.Preparing.{AreKept, AreEnough, HasTaken, LendsOnly, HoldsFew, rooms_of};
 
 use crate::preparing::{add_levels, forecast, stock_levels, wanted};
 use crate::retired::Retired;
@@ -218,6 +218,9 @@ impl<B: Builder> Stack<B> {
         ensures same { HaveSameItems B.Part.Part.contents self.old.levels self.new.levels }
         ensures each { AreKept self.old.levels self.new.levels }
         ensures taken { HasTaken (λ k. wanted_at 2 k self.new.levels) store.old store.new }
+
+        // Of whichever level: three complete parts, one under construction, and what is wanted.
+        ensures few { LendsOnly self.old.levels store.old → HoldsFew store.old store.new }
     {
         add_levels(&mut self.levels, self.alloc)?;
         stock_levels(&self.levels, store, self.alloc)
