@@ -5,7 +5,7 @@ use Rattle.std.proofs.lemmas.Bool.Decides.{nat_tests}
 use Rattle.std.proofs.lemmas.List.Elements.{All-head, All-tail}
 use Rattle.builder_trait.specs.Builders.{PartProfile}
 use Rattle.builder_trait.specs.Parts.{Contents}
-use Rattle.part_store.specs.Shelves.{one_if, kept_at, lent_at, held_at}
+use Rattle.part_store.specs.Shelves.{one_if}
 use Rattle.part_store.specs.Store.{Stored, tables_for}
 use Rattle.log_levels.specs.Slots.{Slots}
 use Rattle.log_levels.specs.Towers.{AreAllLevels}

@@ -1,19 +1,18 @@
 -- The levels that two ticks may want, and what they may take.
-use Rattle.std.proofs.Common.{◌≡◌, ◌==◌, ℕ, zero, suc, ◌+◌, ◌-◌, ◌*◌, ◌^◌, ◌<◌, ◌≤◌, ◌&&◌, ◌∙◌, Bool, true, false, List, [], ◌∷◌, ◌++◌, Some, None, length, All, if◌then◌else◌, nat_le, inl, inr, ⊎_elim, Result, Ok, Err, IfOk, slice_get, get_or, refl, ap, sym, subst, arith, append_assoc, ltb-false}
+use Rattle.std.proofs.Common.{◌≡◌, ◌==◌, ℕ, zero, suc, ◌+◌, ◌-◌, ◌*◌, ◌^◌, ◌<◌, ◌≤◌, ◌&&◌, ◌∙◌, Bool, true, false, List, [], ◌∷◌, ◌++◌, Some, None, length, All, if◌then◌else◌, nat_le, ⊎_elim, Result, Ok, Err, IfOk, slice_get, get_or, refl, ap, sym, subst, arith, append_assoc}
 use Rattle.std.proofs.Math.Nat.{mul-le-mul_right}
 use Rattle.std.proofs.lemmas.Bool.{cases_lt}
 use Rattle.std.proofs.lemmas.Bool.Decides.{nat_tests}
-use Rattle.std.proofs.lemmas.Grind.{common_steps}
 use Rattle.std.proofs.lemmas.List.{append-nil, length-append}
 use Rattle.std.proofs.lemmas.Nat.{pow_pos}
-use Rattle.std.proofs.lemmas.List.Elements.{All-append, All-cons, All-head, All-nil, All-push, All-tail}
+use Rattle.std.proofs.lemmas.List.Elements.{All-append, All-cons, All-nil, All-push}
 use Rattle.query_laws.specs.Orders.{AllStampsDiffer}
 use Rattle.builder_trait.specs.Parts.{Contents}
 use Rattle.builder_trait.specs.Builders.{PartProfile}
 use Rattle.part_store.specs.Shelves.{one_if}
 use Rattle.log_levels.specs.Slots.{Slots, IsIdle, ticks_of, weight_in, live_in, items_in}
 use Rattle.log_levels.specs.Levels.{weight_of, parts_of, live_items, all_items}
-use Rattle.log_levels.specs.Neighbours.{IsBelow, IsPunctual}
+use Rattle.log_levels.specs.Neighbours.{IsPunctual}
 use Rattle.log_levels.specs.Towers.{IsTower, AreAllLevels}
 use Rattle.log_levels.specs.Trades.{is_due, due_at, wanted_at, IsQuietAbove, IsQuiet}
 use Rattle.log_method.specs.Stack.{AreInPlace, IsStack}

@@ -1,13 +1,13 @@
 -- Levels that give back a part of the highest one that has any.
-use Rattle.std.proofs.Common.{◌≡◌, ◌==◌, ℕ, ◌+◌, ◌-◌, ◌<◌, ◌≤◌, ◌∙◌, Bool, true, false, List, [], ◌∷◌, Option, Some, None, if◌then◌else◌, nat_lt, length, inl, inr, refl, ap, sym, subst, arith}
+use Rattle.std.proofs.Common.{◌≡◌, ◌==◌, ℕ, ◌+◌, ◌-◌, ◌<◌, ◌∙◌, Bool, true, false, List, [], ◌∷◌, Option, Some, None, if◌then◌else◌, nat_lt, length, refl, ap, sym, arith}
 use Rattle.std.proofs.lemmas.Bool.Decides.{nat_tests}
-use Rattle.part_store.specs.Shelves.{one_if, kept_at, lent_at}
-use Rattle.part_store.specs.Store.{Stored, KeepsBoth}
+use Rattle.part_store.specs.Shelves.{one_if}
+use Rattle.part_store.specs.Store.{Stored}
 use Rattle.std.specs.Option.{is_some}
 use Rattle.partial_build.specs.Construction.{Construction}
 use Rattle.log_levels.specs.Slots.{Slots, IsIdle}
 use Rattle.log_levels.specs.Trades.{used_in, used_at, AreLent, Trades}
-use Rattle.log_method.specs.Retired.{used_of, top_of, GivesOneBack}
+use Rattle.log_method.specs.Retired.{used_of, GivesOneBack}
 
 module _ {P Item : Type 0} where
   used_none : (k : ℕ) (levels : List (Slots P Item)) → used_of levels ≡ 0 → used_at k levels ≡ 0

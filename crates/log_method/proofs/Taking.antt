@@ -4,7 +4,7 @@ use Rattle.std.proofs.lemmas.Bool.{cases_eq, cases_lt}
 use Rattle.std.proofs.lemmas.Bool.Decides.{nat_tests}
 use Rattle.std.proofs.lemmas.List.Elements.{All-head, All-tail}
 use Rattle.std.specs.Option.{is_some}
-use Rattle.part_store.specs.Shelves.{Shelved, one_if, kept_at, lent_at, TakesUpTo}
+use Rattle.part_store.specs.Shelves.{Shelved, one_if, kept_at, TakesUpTo}
 use Rattle.part_store.specs.Store.{Stored, HasRooms, StocksUpTo, tables_for}
 use Rattle.log_levels.specs.Slots.{Slots, IsIdle, ticks_of}
 use Rattle.log_levels.specs.Levels.{weight_of}

@@ -1,5 +1,5 @@
 -- What a preparation keeps, and what it makes ready.
-use Rattle.std.specs.Prelude.{◌≡◌, ℕ, ◌+◌, ◌-◌, ◌*◌, ◌^◌, ◌<◌, ◌≤◌, List, [], ◌∷◌, ◌++◌, All, if◌then◌else◌, length, max}
+use Rattle.std.specs.Prelude.{◌≡◌, ℕ, ◌+◌, ◌-◌, ◌^◌, ◌<◌, ◌≤◌, List, [], ◌∷◌, ◌++◌, All, if◌then◌else◌, length, max}
 use Rattle.builder_trait.specs.Builders.{PartProfile}
 use Rattle.builder_trait.specs.Parts.{Contents}
 use Rattle.part_store.specs.Shelves.{Shelved, kept_at, lent_at, held_at}
@@ -7,7 +7,7 @@ use Rattle.part_store.specs.Store.{Stored, HasRooms, tables_for}
 use Rattle.log_levels.specs.Slots.{Slots, IsIdle}
 use Rattle.log_levels.specs.Neighbours.{IsPunctual}
 use Rattle.log_levels.specs.Towers.{AreAllLevels}
-use Rattle.log_levels.specs.Trades.{used_at, built_at, is_due, due_at, wanted_at, IsQuiet}
+use Rattle.log_levels.specs.Trades.{used_at, built_at, is_due, due_at, IsQuiet}
 use Rattle.log_method.specs.Stack.{Stacked, HaveSameItems}
 
 -- of each level no more is taken than is wanted there beyond what was kept, and nothing else changes

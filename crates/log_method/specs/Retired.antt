@@ -1,5 +1,5 @@
 -- Memory of a stack that is given back part by part, those of the highest level first.
-use Rattle.std.specs.Prelude.{◌≡◌, ℕ, ◌+◌, ◌-◌, ◌<◌, ◌==◌, List, [], ◌∷◌, if◌then◌else◌, nat_lt, length}
+use Rattle.std.specs.Prelude.{◌≡◌, ℕ, ◌+◌, ◌-◌, ◌<◌, ◌==◌, List, [], ◌∷◌, if◌then◌else◌, nat_lt}
 use Rattle.part_store.specs.Shelves.{one_if}
 use Rattle.log_levels.specs.Slots.{Slots}
 use Rattle.log_levels.specs.Trades.{used_in, used_at}

@@ -1,5 +1,5 @@
 //! The ticks to come: the levels that they may want, and the memory.
-ghost use Rattle.std.specs.Prelude.{◌≡◌, ℕ, ◌+◌, ◌^◌, ◌<◌, ◌≤◌, true, false, IfOk, length};
+ghost use Rattle.std.specs.Prelude.{◌≡◌, ◌+◌, ◌^◌, ◌<◌, ◌≤◌, true, false, IfOk, length};
 ghost use Rattle.log_levels.specs.Levels.{weight_of};
 ghost use Rattle.log_levels.specs.Towers.{AreAllLevels};
 ghost use Rattle.log_levels.specs.Trades.{wanted_at, IsQuiet};

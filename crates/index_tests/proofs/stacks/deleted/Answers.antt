@@ -6,5 +6,5 @@ use Rattle.index_tests.proofs.stacks.deleted.Goals as goal
 pub delete-requires-clause-ready : goal.delete-requires-clause-ready
 delete-requires-clause-ready g c =
     let p = c.prepare.ensures in
-    let light : weight_of c.prepare.new.self.levels < 2 ^ 31 = omega (arith, p.same.weight, c.in_ok-filled.ensures.weight) in
-    may_tick _ _ light (c.in_ok-prepare.ensures.stocked light) (lent_prepared _ _ _ _ _ p.each p.taken c.in_ok-filled.ensures.lent)
+    let light : weight_of c.prepare.new.self.levels < 2 ^ 31 = omega (arith, p.same.weight, c.in_ok-stack.ensures.weight) in
+    may_tick _ _ light (c.in_ok-prepare.ensures.stocked light) (lent_prepared _ _ _ _ _ p.each p.taken c.in_ok-stack.ensures.lent)

@@ -1,4 +1,3 @@
-use Rattle.std.proofs.Common.{ℕ}
 use Rattle.log_levels.specs.Trades.{wanted_at}
 use Rattle.log_method.specs.Preparing.{HasRoomsBelow, HasTaken}
 use Rattle.log_method.proofs.preparing.stock_levels.Given as goal

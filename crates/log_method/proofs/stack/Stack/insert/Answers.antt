@@ -1,4 +1,4 @@
-use Rattle.std.proofs.Common.{◌≡◌, ◌+◌, ◌^◌, ◌<◌, ◌≤◌, ◌∙◌, ◌∷◌, ◌++◌, length, take, drop, ap, arith}
+use Rattle.std.proofs.Common.{◌≡◌, ◌+◌, ◌^◌, ◌<◌, ◌∙◌, ◌∷◌, ◌++◌, length, take, drop, ap, arith}
 use Rattle.std.proofs.lemmas.List.{take_at}
 use Rattle.query_laws.proofs.Permutations.{Permuted-length}
 use Rattle.log_levels.specs.Levels.{weight_of, all_items}
@@ -21,15 +21,8 @@ take_in-requires-clause-apart g c =
     rw c.deref_mut.ensures.value (AllStampsDiffer-push g.B.Item.Item.stamp c.args.item (all_items g.B.Part.Part.contents c.self.inside.levels.items)
     (rw (← c.self.view_is) at c.requires.apart) c.self.invariant.0.apart)
 
-pub overflow_add-self : goal.overflow_add-self
-overflow_add-self g c =
-    let light : c.self.inside.weight < 2 ^ 31 = omega (arith, c.requires.ready.light, ap (λ v. weight_of v.levels) c.self.view_is, c.self.invariant.1) in
-    omega (arith, light)
-
 pub overflow_add-self-2 : goal.overflow_add-self-2
-overflow_add-self-2 g c =
-    let light : c.self.inside.live < 2 ^ 31 =
-    omega (arith, c.requires.ready.light, ap (λ v. weight_of v.levels) c.self.view_is, c.self.invariant.1, c.self.invariant.3) in omega (arith, light)
+overflow_add-self-2 g c = omega (arith, c.self.invariant.0.light, c.self.invariant.1, c.self.invariant.3)
 
 -- the tick saw the levels, and the vector holds what it made of them
 seen : (g : Over) (c : goal.After-self-3-1 g) → c.deref_mut.result.now ≡ c.args.self.now.levels

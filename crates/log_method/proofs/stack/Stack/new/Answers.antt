@@ -1,4 +1,4 @@
-use Rattle.std.proofs.Common.{◌≡◌, ◌≤◌, List, [], length, refl, sym, subst, arith}
+use Rattle.std.proofs.Common.{◌≡◌, ◌≤◌, List, length, refl, sym, subst, arith}
 use Rattle.log_levels.specs.Slots.{Slots}
 use Rattle.log_levels.specs.Levels.{weight_of, live_items}
 use Rattle.log_method.specs.Stack.{IsStack}
