@@ -21,9 +21,10 @@
 //! an item is live is said by the list of live items, and not by a flag.
 //!
 //! What two ticks may take is forecast: a builder for each item, and above level 0 builder and tables where a part may arrive below
-//! (`wanted_at`). A preparation takes no more of a level than is wanted there beyond what is kept (`HasTaken`): so no level has room that
-//! can't be wanted soon. A tick takes no more than was forecast for it, and leaves what the next may want (`Ticks`). Who has two stacks on
-//! one store stocks it with what both want, by [`Stack::add_levels`] and [`Stack::wanted`].
+//! (`wanted_at`). A preparation takes no more of a level than is wanted there beyond what is kept (`HasTaken`): so none is taken that can't
+//! be wanted soon, and where a store lends to one stack alone, of no level more than five parts are in memory, in whatever use, and the
+//! tables of two constructions (`HoldsFew`). A tick takes no more than was forecast for it, and leaves what the next may want (`Ticks`). Who
+//! has two stacks on one store stocks it with what both want, by [`Stack::add_levels`] and [`Stack::wanted`].
 //!
 //! A stack out of use gives back one part at a time, since to give back all takes as long as it has parts.
 #![tactic(auto)]
