@@ -87,12 +87,7 @@ pub fn deleted<B: Builder<Item = Pair>, L: Ledger>(
     let mut stack = filled::<B, L>(alloc, &mut store, 5, steps)?;
     stack.prepare(&mut store)?;
     stack.delete(&pair(0), &mut store, steps);
-    Ok((
-        stack.weight(),
-        stack.live(),
-        stack.parts(),
-        stack.levels(),
-    ))
+    Ok((stack.weight(), stack.live(), stack.parts(), stack.levels()))
 }
 
 /// After so many inserts and a preparation: the weight of what is wanted, and how many builders of levels 0 to 3 are kept.

@@ -106,11 +106,17 @@ module _ {P Item : Type 0} where
       → LendsOnly old store → HoldsFew store store'
   few_held contents profile old new store store' h h' taken only = record {
     builders = λ k. omega (
-      arith, taken.builders.no_more k, taken.builders.lent k, only.builders k,
+      arith,
+      taken.builders.no_more k,
+      taken.builders.lent k,
+      only.builders k,
       builders_few contents profile old new h (in_place contents profile new h') k,
     );
     tables = λ k. omega (
-      arith, taken.tables.no_more k, taken.tables.lent k, only.tables k,
+      arith,
+      taken.tables.no_more k,
+      taken.tables.lent k,
+      only.tables k,
       tables_few old new (in_place contents profile old h) (in_place contents profile new h') k,
     );
   }

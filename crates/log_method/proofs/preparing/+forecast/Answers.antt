@@ -29,7 +29,7 @@ returns-then-is_due_soon-clause-value g t c =
     let level = (subst (AreInPlace c.args.number) split c.requires.in_place).0 in
     let whole = fits c.args.number _ c.requires.few (omega (arith, ap length split)) in
     rw whole (
-      forecast_due c.in-Some.level.now c.in-Some.above.now c.args.number c.forecast-rest.result level (sym c.is_due_soon.ensures ∙ c.if-is_due_soon.true)
-          c.forecast-rest.ensures.value
-          ∙ ap forecast_of (sym split)
+    forecast_due c.in-Some.level.now c.in-Some.above.now c.args.number c.forecast-rest.result level (sym c.is_due_soon.ensures ∙ c.if-is_due_soon.true)
+    c.forecast-rest.ensures.value
+    ∙ ap forecast_of (sym split)
     )
