@@ -1,10 +1,16 @@
 -- The lists of a level.
-use Rattle.std.proofs.Common.{◌≡◌, ℕ, ◌+◌, ◌<◌, ◌≤◌, List, [], ◌∷◌, ◌++◌, ◌∙◌, length, take, drop, remove, All, arith, ap, sym, subst}
-use Rattle.std.proofs.lemmas.List.{length_push, drop-drop, take_at}
+use Rattle.std.proofs.Common.{◌≡◌, ℕ, ◌+◌, ◌<◌, ◌≤◌, Option, Some, None, List, [], ◌∷◌, ◌++◌, ◌∙◌, length, take, drop, remove, All, arith, refl, ap, sym, subst}
+use Rattle.std.proofs.lemmas.List.{length_push, take_at}
 use Rattle.std.proofs.lemmas.List.Elements.{All-push, All-tail}
-use Rattle.log_levels.specs.Level.{AreHeld}
+use Rattle.builder_trait.specs.Parts.{Contents}
+use Rattle.partial_build.specs.Construction.{Construction}
+use Rattle.log_levels.specs.Level.{AreHeld, IsLevel, IsOfLevel}
 
-pub length-rest : {X : Type 0} (xs : List X) → 0 < length xs → length (remove xs 0) + 1 ≡ length xs
+pub all_but_first : {X : Type 0} (xs : List X) → remove xs 0 ≡ drop 1 xs
+all_but_first [] = refl
+all_but_first (x ∷ xs) = refl
+
+pub length-rest : {X : Type 0} (xs : List X) → 0 < length xs → length (drop 1 xs) + 1 ≡ length xs
 length-rest [] some = absurd (omega (arith, some))
 length-rest (x ∷ xs) some = omega arith
 
@@ -26,10 +32,27 @@ module _ {X : Type 0} {IsOne : X → Type 0} {most : ℕ} {room : ℕ} where
     place = omega (arith, h.place, as_wide);
   }
 
+module _ {P Item : Type 0} {contents : P → Contents Item} {level : ℕ} {parts : List P} {room : ℕ} {construction : Option (Construction Item)}
+    (h : IsLevel contents level parts room construction) where
+  -- the same level with other parts, or with another construction
+  pub IsLevel-holding : {parts' : List P} {room' : ℕ} → AreHeld (λ p. IsOfLevel level (contents p)) 3 parts' room'
+      → IsLevel contents level parts' room' construction
+  IsLevel-holding held = record { most = h.most; parts_held = held; builds = h.builds }
+
+  pub IsLevel-building : (c : Construction Item) → c.level ≡ level → IsLevel contents level parts room (Some c)
+  IsLevel-building c same = record {
+    most = h.most;
+    parts_held = h.parts_held;
+    builds = λ c' is. let e : c ≡ c' = cc in ap (λ v. v.level) (sym e) ∙ same;
+  }
+
+  pub IsLevel-built : {construction' : Option (Construction Item)} → construction' ≡ None → IsLevel contents level parts room construction'
+  IsLevel-built none = record {
+    most = h.most;
+    parts_held = h.parts_held;
+    builds = λ c is. let wrong : None ≡ Some c = sym none ∙ is in absurd cc;
+  }
+
 -- a slice of a whole list was written
 pub written : {A : Type 0} (n : ℕ) (old new : List A) → n ≡ length old → length new ≡ length old → take n (new ++ drop (length new) old) ≡ new
 written n old new same as_long = take_at new (drop (length new) old) n (as_long ∙ sym same)
-
--- one element fewer at the front
-pub drop_more : {A : Type 0} (n : ℕ) (xs : List A) → drop 1 (drop n xs) ≡ drop (n + 1) xs
-drop_more n xs = drop-drop 1 n xs

@@ -7,6 +7,7 @@ pub mod Paying
 pub mod Neighbouring
 pub mod Trading
 pub mod Towers
+pub mod Ticking
 pub mod Marks
 pub mod Noting
 pub mod MarkedLevels
