@@ -132,14 +132,13 @@ fn give_up_all<B: Builder<Item = Pair>>(
 ) -> usize
     requires { AreLent retired.old.levels store.old }
 {
-    let mut given = 0;
-    for _update in 0..most {
-        if !retired.is_empty() {
-            given += 1;
+    for given in 0..most {
+        if retired.is_empty() {
+            return given;
         }
         retired.give_up(store);
     }
-    given
+    most
 }
 
 /// A stack of twelve items is retired, and given up part by part: how many parts it had, and how many builders of levels 0 to 3 are kept

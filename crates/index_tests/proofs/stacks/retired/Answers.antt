@@ -2,5 +2,6 @@ use Rattle.std.proofs.Common.{sym, subst}
 use Rattle.log_levels.specs.Trades.{AreLent}
 use Rattle.index_tests.proofs.stacks.retired.Goals as goal
 
-pub give_up_all-requires : goal.give_up_all-requires
-give_up_all-requires g c = subst (λ s. AreLent s.levels c.filled-stack.new.store) (sym c.retire-retired.ensures) c.in_ok-stack.ensures.lent
+pub give_up_all-given-requires : goal.give_up_all-given-requires
+give_up_all-given-requires g c =
+    subst (λ s. AreLent s.levels c.filled.new.store) (sym c.retire-retired.ensures) c.in_ok-stack.ensures.lent
