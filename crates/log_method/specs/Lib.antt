@@ -1,5 +1,4 @@
 pub mod Stack
-pub mod Rooms
 pub mod Height
 pub mod Preparing
 pub mod Retired
