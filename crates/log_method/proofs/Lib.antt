@@ -3,3 +3,4 @@ pub mod FewParts
 pub mod Forecasting
 pub mod Taking
 pub mod GivingBack
+pub mod Fewness

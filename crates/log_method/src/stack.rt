@@ -7,7 +7,8 @@ ghost use Rattle.log_levels.specs.Asking.{AreThreeAtMost, HasAsked};
 ghost use Rattle.log_levels.specs.Cost.{IsCostOfInsert, IsCostOfDelete, ArePaid};
 ghost use Rattle.log_levels.specs.Towers.{AreOnTime};
 ghost use Rattle.log_levels.specs.Marking.{noted};
-ghost use Rattle.log_levels.specs.Trades.{wanted_at, IsStocked, Ticks};
+ghost use Rattle.log_levels.specs.Trades.{used_at, built_at, wanted_at, IsStocked, Ticks};
+ghost use Rattle.log_method.specs.Few.{HaveFew};
 ghost use Rattle.log_method.specs.Stack.{HaveSameItems, MayTick, Inserts, Deletes};
 ghost use Rattle.log_method.specs.Height.{IsHeight, HaveAtMost, HaveFewParts, size_of};
 ghost use Rattle.log_method.specs.Preparing.{AreKept, AreEnough, HasTaken, rooms_of};
@@ -198,6 +199,7 @@ impl<B: Builder> Stack<B> {
         ensures enough { IfOk result (λ _. weight_of self.new.levels < 2 ^ 31 → AreEnough self.new.levels) }
         ensures same { HaveSameItems B.Part.Part.contents self.old.levels self.new.levels }
         ensures each { AreKept self.old.levels self.new.levels }
+        ensures few { HaveFew self.new.levels }
     {
         add_levels(&mut self.levels, self.alloc)
     }
@@ -210,6 +212,28 @@ impl<B: Builder> Stack<B> {
         wanted(&self.levels, level)
     }
 
+    /// How many builders of a level the stack has, one that a part is made in too.
+    pub fn used(&self, level: u32) -> usize
+        ensures value { result ≡ used_at level self.now.levels }
+        ensures few { HaveFew self.now.levels }
+    {
+        match self.levels.get(level as usize) {
+            Some(at) => at.parts().len() + usize::from(at.is_building()),
+            None => 0,
+        }
+    }
+
+    /// Of how many constructions into a level it has the tables.
+    pub fn built(&self, level: u32) -> usize
+        ensures value { result ≡ built_at level self.now.levels }
+        ensures few { result ≤ 1 }
+    {
+        match self.levels.get(level as usize) {
+            Some(at) => usize::from(at.is_building()),
+            None => 0,
+        }
+    }
+
     /// Takes all memory that the next two ticks may want, by forecast: levels, and what a store that serves no other stack has to keep.
     ///
     /// `NoMemory` where it isn't given; what was taken is kept.
@@ -218,6 +242,7 @@ impl<B: Builder> Stack<B> {
         ensures same { HaveSameItems B.Part.Part.contents self.old.levels self.new.levels }
         ensures each { AreKept self.old.levels self.new.levels }
         ensures taken { HasTaken (λ k. wanted_at 2 k self.new.levels) store.old store.new }
+        ensures few { HaveFew self.new.levels }
     {
         self.add_levels()?;
         stock_levels(&self.levels, store, self.alloc)
