@@ -1,5 +1,5 @@
 -- The levels that two ticks may want, and what they may take.
-use Rattle.std.proofs.Common.{◌≡◌, ◌==◌, ℕ, zero, suc, ◌+◌, ◌-◌, ◌*◌, ◌^◌, ◌<◌, ◌≤◌, ◌&&◌, ◌∙◌, Bool, true, false, List, [], ◌∷◌, ◌++◌, Some, None, length, All, if◌then◌else◌, nat_le, inl, inr, ⊎_elim, slice_get, refl, ap, sym, subst, arith, append_assoc, ltb-false}
+use Rattle.std.proofs.Common.{◌≡◌, ◌==◌, ℕ, zero, suc, ◌+◌, ◌-◌, ◌*◌, ◌^◌, ◌<◌, ◌≤◌, ◌&&◌, ◌∙◌, Bool, true, false, List, [], ◌∷◌, ◌++◌, Some, None, length, All, if◌then◌else◌, nat_le, inl, inr, ⊎_elim, Result, Ok, Err, IfOk, slice_get, refl, ap, sym, subst, arith, append_assoc, ltb-false}
 use Rattle.std.proofs.Math.Nat.{mul-le-mul_right}
 use Rattle.std.proofs.lemmas.Bool.{cases_lt}
 use Rattle.std.proofs.lemmas.Bool.Decides.{nat_tests}
@@ -15,9 +15,9 @@ use Rattle.log_levels.specs.Slots.{Slots, IsIdle, ticks_of, weight_in, live_in, 
 use Rattle.log_levels.specs.Levels.{weight_of, parts_of, live_items, all_items}
 use Rattle.log_levels.specs.Neighbours.{IsBelow, IsPunctual}
 use Rattle.log_levels.specs.Towers.{IsTower, AreAllLevels}
-use Rattle.log_levels.specs.Trades.{is_due, due_at, IsQuietAbove, IsQuiet}
+use Rattle.log_levels.specs.Trades.{is_due, due_at, wanted_at, IsQuietAbove, IsQuiet}
 use Rattle.log_method.specs.Stack.{AreInPlace, IsStack}
-use Rattle.log_method.specs.Preparing.{AreKept, AreEnough, IsKept}
+use Rattle.log_method.specs.Preparing.{AreKept, AreEnough, IsKept, forecast_of}
 use Rattle.log_levels.proofs.Publishing.{doubled}
 use Rattle.log_levels.proofs.Neighbouring.{none_ticks}
 
@@ -101,6 +101,38 @@ module _ {P Item : Type 0} where
 
   not_due : (l : Slots P Item) → (2 ^ l.level ≤ ticks_of l + 2 → ⊥) → is_due 2 l ≡ false
   not_due l late = let off : nat_le (2 ^ l.level) (ticks_of l + 2) ≡ false = grind (arith, nat_tests, late) in ap (λ b. b && true) off
+
+  -- what two ticks may take of a level: of level 0 a builder for each item
+  pub wanted_lowest : (k : ℕ) (levels : List (Slots P Item)) → k ≡ 0 → 2 ≡ wanted_at 2 k levels
+  wanted_lowest k levels lowest = rw lowest (omega (arith, none_at_zero 2 levels))
+
+  -- above another level one where a part may arrive there
+  pub wanted_above : (k : ℕ) (levels : List (Slots P Item)) (l : Slots P Item) → AreInPlace 0 levels → (k ≡ 0 → ⊥)
+      → slice_get levels (k - 1) ≡ Some l → wanted_at 2 k levels ≡ one_if (is_due 2 l)
+  wanted_above k levels l places above is =
+      let other : (k == 0) ≡ false = grind (arith, nat_tests, above) in
+      rw other (omega (arith, due_above 2 0 (k - 1) k levels l places is (omega (arith, above))))
+
+  -- and above all levels none
+  pub wanted_past : (k : ℕ) (levels : List (Slots P Item)) → AreInPlace 0 levels → (k ≡ 0 → ⊥) → length levels ≤ k - 1
+      → 0 ≡ wanted_at 2 k levels
+  wanted_past k levels places above high =
+      let other : (k == 0) ≡ false = grind (arith, nat_tests, above) in
+      rw other (omega (arith, none_past 2 0 k levels places (omega (arith, above, high))))
+
+  -- the weight of constructions, with one level more
+  pub forecast_due : (l : Slots P Item) (above : List (Slots P Item)) (number rest : ℕ) → l.level ≡ number → is_due 2 l ≡ true
+      → rest ≡ forecast_of above → rest + 2 * 2 ^ number ≡ forecast_of (l ∷ above)
+  forecast_due l above number rest level due is =
+      rw due (omega (arith, is, doubled l.level, ap (λ k. 2 ^ k) level))
+
+  pub forecast_not_due : (l : Slots P Item) (above : List (Slots P Item)) (rest : ℕ) → is_due 2 l ≡ false
+      → rest ≡ forecast_of above → rest ≡ forecast_of (l ∷ above)
+  forecast_not_due l above rest late is = rw late (omega (arith, is))
+
+pub when_ok : {A E p q : Type 0} (r : Result A E) → (p → q) → IfOk r (λ _. p) → IfOk r (λ _. q)
+when_ok (Ok x) f h = f h
+when_ok (Err e) f h = tt
 
 module _ {P Item : Type 0} (contents : P → Contents Item) where
   module _ (profile : PartProfile Item) where

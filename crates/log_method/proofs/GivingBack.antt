@@ -1,9 +1,11 @@
 -- Levels that give back a part of the highest one that has any.
-use Rattle.std.proofs.Common.{◌≡◌, ◌==◌, ℕ, ◌+◌, ◌-◌, ◌<◌, ◌≤◌, ◌∙◌, true, false, List, [], ◌∷◌, if◌then◌else◌, nat_lt, length, inl, inr, refl, ap, sym, subst, arith}
+use Rattle.std.proofs.Common.{◌≡◌, ◌==◌, ℕ, ◌+◌, ◌-◌, ◌<◌, ◌≤◌, ◌∙◌, Bool, true, false, List, [], ◌∷◌, Option, Some, None, if◌then◌else◌, nat_lt, length, inl, inr, refl, ap, sym, subst, arith}
 use Rattle.std.proofs.lemmas.Bool.Decides.{nat_tests}
 use Rattle.part_store.specs.Shelves.{one_if, kept_at, lent_at}
 use Rattle.part_store.specs.Store.{Stored, KeepsBoth}
-use Rattle.log_levels.specs.Slots.{Slots}
+use Rattle.std.specs.Option.{is_some}
+use Rattle.partial_build.specs.Construction.{Construction}
+use Rattle.log_levels.specs.Slots.{Slots, IsIdle}
 use Rattle.log_levels.specs.Trades.{used_in, used_at, AreLent, Trades}
 use Rattle.log_method.specs.Retired.{used_of, top_of, GivesOneBack}
 
@@ -86,3 +88,19 @@ module _ {P Item : Type 0} where
     builders = λ k. refl;
     tables = λ k. refl;
   }
+
+  -- whether no part is left
+  pub idle_all : (l : Slots P Item) (above : List (Slots P Item)) → IsIdle l → (used_of above == 0) ≡ (used_of (l ∷ above) == 0)
+  idle_all l above idle =
+      let none : used_in l ≡ 0 = omega (arith, ap length idle.no_parts, ap (λ o. one_if (is_some o)) idle.no_construction) in
+      rw none refl
+
+  pub busy_one : (l : Slots P Item) (above : List (Slots P Item)) → (IsIdle l → ⊥) → false ≡ (used_of (l ∷ above) == 0)
+  busy_one l above busy =
+      let some : 0 < used_in l = used_some l.parts l.construction (λ no_parts no_construction. busy (record { no_parts = no_parts; no_construction = no_construction })) in
+      grind (arith, nat_tests, some)
+    where
+      used_some : (ps : List P) (o : Option (Construction Item)) → (ps ≡ [] → o ≡ None → ⊥) → 0 < length ps + one_if (is_some o)
+      used_some [] None both = absurd (both refl refl)
+      used_some [] (Some x) both = omega arith
+      used_some (p ∷ ps) o both = omega arith

@@ -1,13 +1,15 @@
 -- What a store keeps for the ticks to come.
-use Rattle.std.proofs.Common.{◌≡◌, ◌==◌, ℕ, ◌+◌, ◌-◌, ◌<◌, ◌≤◌, ◌∙◌, true, false, List, [], ◌∷◌, ◌++◌, All, if◌then◌else◌, length, inl, inr, refl, ap, sym, subst, arith}
+use Rattle.std.proofs.Common.{◌≡◌, ◌==◌, ℕ, ◌+◌, ◌-◌, ◌^◌, ◌<◌, ◌≤◌, ◌&&◌, ◌∙◌, Bool, true, false, nat_le, List, [], ◌∷◌, ◌++◌, All, if◌then◌else◌, length, inl, inr, refl, ap, sym, subst, arith}
 use Rattle.std.proofs.lemmas.Bool.{cases_eq, cases_lt}
 use Rattle.std.proofs.lemmas.Bool.Decides.{nat_tests}
 use Rattle.std.proofs.lemmas.List.Elements.{All-head, All-tail}
 use Rattle.std.specs.Option.{is_some}
 use Rattle.part_store.specs.Shelves.{Shelved, one_if, kept_at, lent_at, TakesUpTo}
 use Rattle.part_store.specs.Store.{Stored, HasRooms, StocksUpTo, tables_for}
-use Rattle.log_levels.specs.Slots.{Slots, IsIdle}
-use Rattle.log_levels.specs.Trades.{due_at, wanted_at, used_at, built_at, used_in, runs_in, AreLent, Trades, IsStocked}
+use Rattle.log_levels.specs.Slots.{Slots, IsIdle, ticks_of}
+use Rattle.log_levels.specs.Levels.{weight_of}
+use Rattle.log_levels.specs.Trades.{is_due, due_at, wanted_at, used_at, built_at, used_in, runs_in, AreLent, Trades, IsStocked, IsQuietAbove, IsQuiet}
+use Rattle.log_method.specs.Stack.{MayTick}
 use Rattle.log_method.specs.Preparing.{AreKept, AreEnough, AreTaken, HasTaken, HasRoomsBelow}
 use Rattle.log_method.proofs.Forecasting.{none_at_zero}
 
@@ -139,3 +141,57 @@ module _ {P Item : Type 0} where
     builders = λ k. omega (arith, moves.builders k, h.builders k);
     tables = λ k. omega (arith, moves.tables k, h.tables k);
   }
+
+  -- nothing is had
+  pub lent_none : (store : Stored) → AreLent {P = P} {Item = Item} [] store
+  lent_none store = record { builders = λ k. omega arith; tables = λ k. omega arith }
+
+  less_due : (l : Slots P Item) → one_if (is_due 1 l) ≤ one_if (is_due 2 l)
+  less_due l = less (nat_le (2 ^ l.level) (ticks_of l + 1)) (nat_le (2 ^ l.level) (ticks_of l + 2)) (length l.parts == 1)
+      (λ now. grind (arith, nat_tests, now))
+    where
+      less : (a b c : Bool) → (a ≡ true → b ≡ true) → one_if (a && c) ≤ one_if (b && true)
+      less true true true h = omega arith
+      less true true false h = omega arith
+      less true false c h = absurd (false_not_true (h refl))
+      less false b c h = omega arith
+
+      false_not_true : false ≡ true → ⊥
+      false_not_true is = absurd cc
+
+  less_wanted : (k : ℕ) (levels : List (Slots P Item)) → due_at 1 k levels ≤ due_at 2 k levels
+  less_wanted k [] = omega arith
+  less_wanted k (l ∷ above) = omega (arith, both (k == (l.level + 1)) (one_if (is_due 1 l)) (one_if (is_due 2 l)) (less_due l), less_wanted k above)
+    where
+      both : (b : Bool) (m n : ℕ) → m ≤ n → (if b then m else 0) ≤ (if b then n else 0)
+      both true m n le = le
+      both false m n le = omega arith
+
+  quiet_first : (levels : List (Slots P Item)) → IsQuiet 2 levels → IsQuiet 1 levels
+  quiet_first [] quiet = quiet
+  quiet_first (lowest ∷ above) quiet = from lowest above quiet
+    where
+      off : (a b : Bool) → one_if a ≤ one_if b → b ≡ false → a ≡ false
+      off false b less none = refl
+      off true b less none = absurd (omega (arith, less, ap one_if none))
+
+      from : (l : Slots P Item) (above : List (Slots P Item)) → IsQuietAbove 2 l above → IsQuietAbove 1 l above
+      from l [] quiet = off (is_due 1 l) (is_due 2 l) (less_due l) quiet
+      from l (next ∷ above) quiet = from next above quiet
+
+  -- levels that are prepared for two ticks may take one
+  pub may_tick : (levels : List (Slots P Item)) (store : Stored) → weight_of levels < 2 ^ 31 → IsStocked levels store 2 → AreLent levels store
+      → MayTick levels store
+  may_tick levels store light h lent = record {
+    stocked = record {
+      builders = λ k. omega (arith, first (k == 0), less_wanted k levels, h.builders k);
+      tables = λ k. omega (arith, less_wanted k levels, h.tables k);
+      quiet = quiet_first levels h.quiet;
+    };
+    lent = lent;
+    light = light;
+  }
+    where
+      first : (b : Bool) → (if b then 1 else 0) ≤ (if b then 2 else 0)
+      first true = omega arith
+      first false = omega arith

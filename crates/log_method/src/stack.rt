@@ -11,7 +11,7 @@ ghost use Rattle.log_levels.specs.Trades.{used_at, built_at, wanted_at, IsStocke
 ghost use Rattle.log_method.specs.Few.{HaveFew};
 ghost use Rattle.log_method.specs.Stack.{HaveSameItems, MayTick, Inserts, Deletes};
 ghost use Rattle.log_method.specs.Height.{IsHeight, HaveAtMost, HaveFewParts, size_of};
-ghost use Rattle.log_method.specs.Preparing.{AreKept, AreEnough, HasTaken, rooms_of};
+ghost use Rattle.log_method.specs.Preparing.{AreKept, AreEnough, HasTaken, LendsOnly, HoldsFew, rooms_of};
 
 use crate::preparing::{add_levels, forecast, stock_levels, wanted};
 use crate::retired::Retired;
@@ -199,7 +199,7 @@ impl<B: Builder> Stack<B> {
         ensures enough { IfOk result (λ _. weight_of self.new.levels < 2 ^ 31 → AreEnough self.new.levels) }
         ensures same { HaveSameItems B.Part.Part.contents self.old.levels self.new.levels }
         ensures each { AreKept self.old.levels self.new.levels }
-        ensures few { HaveFew self.new.levels }
+        ensures has_few { HaveFew self.new.levels }
     {
         add_levels(&mut self.levels, self.alloc)
     }
@@ -215,7 +215,7 @@ impl<B: Builder> Stack<B> {
     /// How many builders of a level the stack has, one that a part is made in too.
     pub fn used(&self, level: u32) -> usize
         ensures value { result ≡ used_at level self.now.levels }
-        ensures few { HaveFew self.now.levels }
+        ensures has_few { HaveFew self.now.levels }
     {
         match self.levels.get(level as usize) {
             Some(at) => at.parts().len() + usize::from(at.is_building()),
@@ -242,9 +242,12 @@ impl<B: Builder> Stack<B> {
         ensures same { HaveSameItems B.Part.Part.contents self.old.levels self.new.levels }
         ensures each { AreKept self.old.levels self.new.levels }
         ensures taken { HasTaken (λ k. wanted_at 2 k self.new.levels) store.old store.new }
-        ensures few { HaveFew self.new.levels }
+        ensures has_few { HaveFew self.new.levels }
+
+        // Of whichever level: three complete parts, one under construction, and what is wanted.
+        ensures few { LendsOnly self.old.levels store.old → HoldsFew store.old store.new }
     {
-        self.add_levels()?;
+        add_levels(&mut self.levels, self.alloc)?;
         stock_levels(&self.levels, store, self.alloc)
     }
 

@@ -1,0 +1,15 @@
+use Rattle.std.proofs.Common.{◌∙◌, length, sym, ap}
+use Rattle.log_method.proofs.Forecasting.{IsStack-kept, quiet_enough, when_ok}
+use Rattle.log_method.proofs.stack.Stack.prepare.Goals as goal
+
+pub invariant_of-self : goal.invariant_of-self
+invariant_of-self g c =
+    let h = c.self.invariant in
+    let k = c.add_levels.ensures.kept in
+    (IsStack-kept _ h.0 k, h.1 ∙ sym k.same.weight, h.2 ∙ ap length (sym k.same.live), h.3)
+
+pub invariant_of-self-2 : goal.invariant_of-self-2
+invariant_of-self-2 g c =
+    let h = c.self.invariant in
+    let k = c.add_levels.ensures.kept in
+    (IsStack-kept _ h.0 k, h.1 ∙ sym k.same.weight, h.2 ∙ ap length (sym k.same.live), h.3)
