@@ -1,6 +1,7 @@
 pub mod Walking
 pub mod Forgetting
 pub mod Owning
+pub mod Lending
 pub mod Stocking
 pub mod Weights
 pub mod Appending

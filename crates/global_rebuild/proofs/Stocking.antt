@@ -54,6 +54,14 @@ module _ {P Item : Type 0} where
   quiet_less [] quiet = quiet
   quiet_less (l ∷ above) quiet = quiet_above l above quiet
 
+  -- a stack that finds what two ticks may take finds what one may
+  pub ticks_less : (levels : List (Slots P Item)) (store : Stored) → IsStocked levels store 2 → IsStocked levels store 1
+  ticks_less levels store s = record {
+    builders = λ k. omega (arith, s.builders k, wanted_less k levels);
+    tables = λ k. omega (arith, s.tables k, due_less k levels);
+    quiet = quiet_less levels s.quiet;
+  }
+
   -- memory for two ticks of each stack is memory for one
   pub stocked_less : (main : Stacked P Item) (shadow : Option (Shadow P Item)) (store : Stored) → AreStocked 2 main shadow store → AreStocked 1 main shadow store
   stocked_less main shadow store s = record {

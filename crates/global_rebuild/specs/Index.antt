@@ -152,9 +152,9 @@ module _ {P Item : Type 0} (contents : P → Contents Item) where
     too_high : 2 * live_in main + 10 < 2 ^ level → IsSpare level main shadow store
 
   -- of each level no less is in memory; or a builder or tables of one level were freed, which were spare
-  pub data FreesOne (old new : Indexed P Item) : Type 0 where
-    none : HoldsNoLess old.store new.store → FreesOne old new
-    one : (level : ℕ) → FreesOneOf level old.store new.store → IsSpare level new.main new.shadow new.store → FreesOne old new
+  pub data FreesOne (old : Stored) (main : Stacked P Item) (shadow : Option (Shadow P Item)) (new : Stored) : Type 0 where
+    none : HoldsNoLess old new → FreesOne old main shadow new
+    one : (level : ℕ) → FreesOneOf level old new → IsSpare level main shadow new → FreesOne old main shadow new
 
   -- more of a stack's weight is dead than half of what is live, and eight
   abbrev pub is_heavy : Stacked P Item → Bool

@@ -13,7 +13,7 @@ ghost use Rattle.log_method.specs.Few.{HaveFew};
 ghost use Rattle.log_method.specs.Height.{HaveAtMost, AreFew, size_of};
 ghost use Rattle.log_levels.specs.Cost.{IsWithin, quotas};
 ghost use Rattle.log_levels.specs.Towers.{AreOnTime, TakeTicks};
-ghost use Rattle.global_rebuild.specs.Index.{Shadow as Walked, live_in, unwalked, to_walk, shadow_weight, is_heavy, IsKept, IsInTime, IsIndex, IsIndexOf, IsPrepared, AreStocked, HoldsAsMuch, HandsOver, IsWalkedOn, HasPaused, FreesOne, in_both, in_retired, waiting_of_both, asked_of_both};
+ghost use Rattle.global_rebuild.specs.Index.{Shadow as Walked, live_in, unwalked, to_walk, shadow_weight, is_heavy, IsKept, IsInTime, IsIndex, IsIndexOf, IsPrepared, AreStocked, OwnsMemory, HoldsAsMuch, IsWalkedOn, HasPaused, FreesOne, in_both, in_retired, waiting_of_both, asked_of_both};
 ghost use Rattle.global_rebuild.specs.Retiring.{with_retired, GivesBack, FreesSpare, TakeMemory};
 
 use crate::shadow::Shadow;
@@ -97,7 +97,7 @@ impl<B: Builder> Index<B> {
 
         // No rebuild begins, and none that runs is given up.
         ensures refused { OnErr result (IsWalkedOn B.Part.Part.contents self.old self.new ⊎ HasPaused B.Part.Part.contents 4 self.old self.new) }
-        ensures frees { FreesOne B.Part.Part.contents self.old self.new }
+        ensures frees { FreesOne B.Part.Part.contents self.old.store self.new.main self.new.shadow self.new.store }
 
         // A tick for each item that is handed over, and a part is made of it.
         ensures some_turns { let ticks = to_walk B.Part.Part.contents self.old - to_walk B.Part.Part.contents self.new in
@@ -112,9 +112,13 @@ impl<B: Builder> Index<B> {
             self.retired.reserve(1)?;
             swap(&mut self.main, &mut self.shadow, &mut self.retired);
         }
-        let back = give_back(&mut self.retired, &mut self.store);
-        free_spare(back, &self.main, &self.shadow, &mut self.store);
-        take_memory(&mut self.main, &mut self.shadow, &mut self.store, self.alloc)
+        settle(
+            &mut self.main,
+            &mut self.shadow,
+            &mut self.retired,
+            &mut self.store,
+            self.alloc,
+        )
     }
 
     /// Takes in the last item of a chain, which has a stamp that no item had before: an insert. The shadow gets it later.
@@ -341,6 +345,37 @@ fn swap<B: Builder>(
             retired.push_reserved(old);
         }
     }
+}
+
+/// Has the stack that was retired last give a part back, where one is left, frees spare memory of one level, where there is some, and takes
+/// the memory of two ticks.
+///
+/// `NoMemory` where some isn't given; what was taken is kept.
+fn settle<B: Builder>(
+    main: &mut Stack<B>,
+    shadow: &mut Option<Shadow<B>>,
+    retired: &mut Vec<Retired<B>>,
+    store: &mut Store<B>,
+    alloc: Global,
+) -> Result<(), NoMemory>
+    requires left { All (λ s. 0 < used_of s.levels) retired.old.items }
+    requires owns { OwnsMemory (record { store = store.old; main = main.old; shadow = shadow.old; retired = retired.old.items }) }
+    ensures left { All (λ s. 0 < used_of s.levels) retired.new.items }
+    ensures owns { OwnsMemory (record { store = store.new; main = main.new; shadow = shadow.new; retired = retired.new.items }) }
+    ensures one { in_retired used_of retired.new.items ≡ in_retired used_of retired.old.items - 1 }
+    ensures live { live_items B.Part.Part.contents main.new.levels ≡ live_items B.Part.Part.contents main.old.levels }
+    ensures items { all_items B.Part.Part.contents main.new.levels ≡ all_items B.Part.Part.contents main.old.levels }
+    ensures weight { weight_of main.new.levels ≡ weight_of main.old.levels }
+    ensures none { shadow.old ≡ None → shadow.new ≡ None }
+    ensures some { (r : Walked B.Part B.Item) → shadow.old ≡ Some r
+        → (r' : Walked B.Part B.Item) × (shadow.new ≡ Some r') × IsKept B.Part.Part.contents r r' }
+    ensures frees { FreesOne B.Part.Part.contents store.old main.new shadow.new store.new }
+    ensures stocked { IfOk result (λ _. weight_of main.new.levels < 2 ^ 31
+        → ((r : Walked B.Part B.Item) → shadow.new ≡ Some r → weight_of r.stack.levels < 2 ^ 31) → AreStocked 2 main.new shadow.new store.new) }
+{
+    let back = give_back(retired, store);
+    free_spare(back, main, shadow, store);
+    take_memory(main, shadow, store, alloc)
 }
 
 /// Has the stack that was retired last give a part back, where one is left. It tells the level of the part.

@@ -43,27 +43,11 @@ module _ {P Item : Type 0} where
       let other : (k == x.level) ≡ false = grind (arith, nat_tests, h.0, at) in
       rw other (omega (arith, used_there (from + 1) place k above l h.1 is (omega (arith, at))))
 
-  pub built_there : (from place k : ℕ) (levels : List (Slots P Item)) (l : Slots P Item) → AreInPlace from levels → slice_get levels place ≡ Some l
-      → k ≡ from + place → built_at k levels ≡ runs_in l
-  built_there from place k [] l h is at = absurd cc
-  built_there from zero k (x ∷ above) l h is at =
-      let same : x ≡ l = cc in
-      let here : (k == x.level) ≡ true = grind (arith, nat_tests, h.0, at) in
-      rw here (omega (arith, built_below (from + 1) k above h.1 (omega (arith, at)), ap runs_in same))
-  built_there from (suc place) k (x ∷ above) l h is at =
-      let other : (k == x.level) ≡ false = grind (arith, nat_tests, h.0, at) in
-      rw other (omega (arith, built_there (from + 1) place k above l h.1 is (omega (arith, at))))
-
   -- and above the highest nothing
   pub used_past : (from k : ℕ) (levels : List (Slots P Item)) → AreInPlace from levels → from + length levels ≤ k → used_at k levels ≡ 0
   used_past from k [] h high = refl
   used_past from k (l ∷ above) h high =
       let other : (k == l.level) ≡ false = grind (arith, nat_tests, h.0, high) in rw other (omega (arith, used_past (from + 1) k above h.1 (omega (arith, high))))
-
-  pub built_past : (from k : ℕ) (levels : List (Slots P Item)) → AreInPlace from levels → from + length levels ≤ k → built_at k levels ≡ 0
-  built_past from k [] h high = refl
-  built_past from k (l ∷ above) h high =
-      let other : (k == l.level) ≡ false = grind (arith, nat_tests, h.0, high) in rw other (omega (arith, built_past (from + 1) k above h.1 (omega (arith, high))))
 
   used_few : (from k : ℕ) (levels : List (Slots P Item)) → AreInPlace from levels → All (λ l. length l.parts ≤ 3) levels → used_at k levels ≤ 4
   used_few from k [] h three = omega arith

@@ -7,7 +7,7 @@ ghost use Rattle.log_levels.specs.Asking.{AreThreeAtMost, HasAsked};
 ghost use Rattle.log_levels.specs.Cost.{IsCostOfInsert, IsCostOfDelete, ArePaid};
 ghost use Rattle.log_levels.specs.Towers.{AreOnTime};
 ghost use Rattle.log_levels.specs.Marking.{noted};
-ghost use Rattle.log_levels.specs.Trades.{used_at, built_at, wanted_at, IsStocked, Ticks};
+ghost use Rattle.log_levels.specs.Trades.{used_at, wanted_at, IsStocked, Ticks};
 ghost use Rattle.log_method.specs.Few.{HaveFew};
 ghost use Rattle.log_method.specs.Stack.{HaveSameItems, MayTick, Inserts, Deletes};
 ghost use Rattle.log_method.specs.Height.{IsHeight, HaveAtMost, HaveFewParts, size_of};
@@ -219,17 +219,6 @@ impl<B: Builder> Stack<B> {
     {
         match self.levels.get(level as usize) {
             Some(at) => at.parts().len() + usize::from(at.is_building()),
-            None => 0,
-        }
-    }
-
-    /// Of how many constructions into a level it has the tables.
-    pub fn built(&self, level: u32) -> usize
-        ensures value { result ≡ built_at level self.now.levels }
-        ensures few { result ≤ 1 }
-    {
-        match self.levels.get(level as usize) {
-            Some(at) => usize::from(at.is_building()),
             None => 0,
         }
     }
