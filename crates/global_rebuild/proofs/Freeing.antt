@@ -1,5 +1,5 @@
 -- What a preparation frees.
-use Rattle.std.proofs.Common.{◌≡◌, ◌==◌, ◌≢◌, ℕ, ◌+◌, ◌-◌, ◌*◌, ◌^◌, ◌<◌, ◌≤◌, Bool, true, false, Option, None, if◌then◌else◌, inl, inr, refl, ap, arith}
+use Rattle.std.proofs.Common.{◌≡◌, ◌==◌, ◌≢◌, ℕ, ◌+◌, ◌-◌, ◌*◌, ◌^◌, ◌<◌, ◌≤◌, Bool, true, false, Option, None, Result, Ok, Err, IfOk, OnErr, if◌then◌else◌, inl, inr, refl, ap, arith}
 use Rattle.std.proofs.lemmas.Bool.{cases_eq}
 use Rattle.builder_trait.specs.Parts.{Contents}
 use Rattle.part_store.specs.Shelves.{one_if, kept_at, lent_at, held_at}
@@ -9,6 +9,14 @@ use Rattle.log_method.specs.Stack.{Stacked}
 use Rattle.global_rebuild.specs.Index.{Shadow, Indexed, HasPaused, in_both, live_in, IsSpare, enough, too_high, FreesOne as Frees, none as frees_none, one as frees_one}
 use Rattle.global_rebuild.specs.Memory.{HoldsNoLess, FreesOneOf}
 use Rattle.global_rebuild.specs.Retiring.{FreesOneAt, FreesSpare, none, one, TakeMemory}
+
+pub anyway_ok : {A E p : Type 0} (r : Result A E) → p → IfOk r (λ _. p)
+anyway_ok (Ok x) h = h
+anyway_ok (Err e) h = tt
+
+pub anyway_err : {A E p : Type 0} (r : Result A E) → p → OnErr r p
+anyway_err (Ok x) h = tt
+anyway_err (Err e) h = h
 
 -- a store frees what is kept of a level
 pub freed_at : (level : ℕ) (old new : Stored) → FreesOne level old new → FreesOneAt level old new
@@ -65,7 +73,7 @@ module _ {P Item : Type 0} {contents : P → Contents Item} where
       → TakeMemory main shadow store main' shadow' store' → live_in contents main' ≡ live_in contents main
       → IsSpare contents level main shadow store → IsSpare contents level main' shadow' store'
   spare_still level t live spare = elim spare [
-    | enough many ↦ enough (omega (arith, many, t.used level, t.taken.builders.no_less level))
+    | enough many ↦ enough (omega (arith, many, t.used level, t.kept level))
     | too_high high ↦ too_high (omega (arith, high, live))
   ]
 
@@ -75,11 +83,11 @@ module _ {P Item : Type 0} {contents : P → Contents Item} where
       → Frees contents old main' shadow' new
   frees keeps f t live = elim f [
     | none same ↦ frees_none (record {
-        builders = λ k. omega (arith, keeps.builders k, ap (λ s. held_at k s.builders) same, t.taken.builders.lent k, t.taken.builders.no_less k);
-        tables = λ k. omega (arith, keeps.tables k, ap (λ s. held_at k s.tables) same, t.taken.tables.lent k, t.taken.tables.no_less k);
+        builders = λ k. omega (arith, keeps.builders k, ap (λ s. held_at k s.builders) same, t.lent k, t.kept k);
+        tables = λ k. omega (arith, keeps.tables k, ap (λ s. held_at k s.tables) same, t.lent_tables k, t.kept_tables k);
       })
     | one level at spare ↦ frees_one level (record {
-        builders = λ k. omega (arith, keeps.builders k, at.lent k, at.at k, t.taken.builders.lent k, t.taken.builders.no_less k);
-        tables = λ k. omega (arith, keeps.tables k, at.lent_tables k, at.at_tables k, t.taken.tables.lent k, t.taken.tables.no_less k);
+        builders = λ k. omega (arith, keeps.builders k, at.lent k, at.at k, t.lent k, t.kept k);
+        tables = λ k. omega (arith, keeps.tables k, at.lent_tables k, at.at_tables k, t.lent_tables k, t.kept_tables k);
       }) (spare_still level t live spare)
   ]

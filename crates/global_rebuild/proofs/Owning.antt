@@ -13,7 +13,7 @@ use Rattle.global_rebuild.specs.Retiring.{GivesBack, TakeMemory}
 
 module _ {P Item : Type 0} where
   -- how much a shadow has
-  abbrev in_shadow : (List (Slots P Item) → ℕ) → Option (Shadow P Item) → ℕ
+  abbrev pub in_shadow : (List (Slots P Item) → ℕ) → Option (Shadow P Item) → ℕ
   in_shadow count shadow = option_map_or (λ r. count r.stack.levels) shadow 0
 
   pub owns-empty : OwnsMemory {P = P} {Item = Item} (record { store = record { builders = []; tables = [] }; main = record { levels = [] }; shadow = None; retired = [] })
@@ -81,7 +81,7 @@ module _ {P Item : Type 0} where
       }
 
   -- what a shadow has and may take
-  shadow_few : (shadow : Option (Shadow P Item)) → ((r : Shadow P Item) → shadow ≡ Some r → HaveFew r.stack.levels) → (k : ℕ)
+  pub shadow_few : (shadow : Option (Shadow P Item)) → ((r : Shadow P Item) → shadow ≡ Some r → HaveFew r.stack.levels) → (k : ℕ)
       → in_shadow (used_at k) shadow + in_shadow (wanted_at 2 k) shadow ≤ 5
   shadow_few None few k = omega arith
   shadow_few (Some r) few k = omega (arith, (few r refl).builders k)
@@ -108,7 +108,7 @@ module _ {P Item : Type 0} where
       → TakeMemory i.main i.shadow freed main shadow store
       → OwnsMemory (record i { store = store; main = main; shadow = shadow })
   owns-taken level main shadow freed store o lent lent_tables few t = record {
-    lent = λ k. omega (arith, o.lent k, lent k, t.taken.builders.lent k, t.used k);
-    lent_tables = λ k. omega (arith, o.lent_tables k, lent_tables k, t.taken.tables.lent k, t.built k);
-    few = λ k. omega (arith, few k, t.used k, t.taken.builders.no_more k, t.few.builders k, shadow_few shadow t.few_too k);
+    lent = λ k. omega (arith, o.lent k, lent k, t.lent k, t.used k);
+    lent_tables = λ k. omega (arith, o.lent_tables k, lent_tables k, t.lent_tables k, t.built k);
+    few = λ k. omega (arith, few k, t.few k);
   }

@@ -1,5 +1,5 @@
 -- A preparation: a walk, a swap where all items are handed over, and memory.
-use Rattle.std.proofs.Common.{◌≡◌, ◌≢◌, ℕ, ◌+◌, ◌-◌, ◌≤◌, ◌∙◌, ◌⊎◌, true, false, ⊎_elim, length, nat_le, Option, Some, None, List, sum_by, refl, ap, sym, subst, arith}
+use Rattle.std.proofs.Common.{◌≡◌, ◌≢◌, ℕ, ◌+◌, ◌-◌, ◌^◌, ◌<◌, ◌≤◌, ◌∙◌, ◌⊎◌, true, false, ⊎_elim, length, nat_le, Option, Some, None, List, sum_by, refl, ap, sym, subst, arith}
 use Rattle.std.proofs.lemmas.Bool.Decides.{nat_tests}
 use Rattle.builder_trait.specs.Parts.{Contents}
 use Rattle.id_chain.specs.Chain.{Entry}
@@ -8,11 +8,11 @@ use Rattle.log_levels.specs.Slots.{Slots}
 use Rattle.log_levels.specs.Trades.{used_at, built_at}
 use Rattle.log_method.specs.Stack.{Stacked}
 use Rattle.log_method.specs.Retired.{used_of}
-use Rattle.global_rebuild.specs.Index.{Shadow, Indexed, HandsOver, IsKept, IsIndexOf, IsInTime, live_in, to_walk, in_both, in_retired, OwnsMemory, retired_parts, IsWalkedOn, HasPaused}
+use Rattle.global_rebuild.specs.Index.{Shadow, Indexed, HandsOver, IsKept, IsIndexOf, IsIndex, IsInTime, live_in, to_walk, in_both, in_retired, OwnsMemory, retired_parts, IsWalkedOn, HasPaused}
 use Rattle.global_rebuild.specs.Retiring.{with_retired}
 use Rattle.global_rebuild.proofs.Owning.{in_shadow}
 use Rattle.global_rebuild.proofs.Retiring.{with_both, used_none, built_none}
-use Rattle.global_rebuild.proofs.Weights.{walked_few, ended_all}
+use Rattle.global_rebuild.proofs.Weights.{walked_few, ended_all, as_many, main_light, shadow_light}
 
 -- what was before a walk, in which a shadow was there where one is
 module _ {P Item : Type 0} {contents : P → Contents Item} {most : ℕ} {old i : Indexed P Item} (p : HasPaused contents most old i) where
@@ -178,4 +178,33 @@ module _ {P Item : Type 0} {contents : P → Contents Item} {stamp : Item → �
           };
           ahead = gone over;
         }
+  ]
+
+-- after a swap and what follows both stacks are light
+module _ {P Item : Type 0} {contents : P → Contents Item} {stamp : Item → ℕ} {i : Indexed P Item} {es : List (Entry Item)} {stamps : ℕ}
+    {main : Stacked P Item} {shadow : Option (Shadow P Item)} {retired : List (Stacked P Item)} (h : IsIndexOf contents stamp i es stamps) (v : IsIndex contents i)
+    (s : IsSwapped i main shadow retired) where
+  light_before : (r : Shadow P Item) → i.shadow ≡ Some r → weight_of r.stack.levels < 2 ^ 31
+  light_before r there = omega (arith, shadow_light (v.in_time r there) (omega (arith, as_many contents stamp i es h, h.few)))
+
+  pub settled_light : (main' : Stacked P Item) → weight_of main'.levels ≡ weight_of main.levels → weight_of main'.levels < 2 ^ 31
+  settled_light main' same = omega (arith, same, before)
+    where
+      before : weight_of main.levels < 2 ^ 31
+      before = elim s [
+        | quiet at is over put ↦ rw is (main_light refl v h)
+        | going r at going is is' put ↦ rw is (main_light refl v h)
+        | ended r at over is none put ↦ rw is (light_before r at)
+      ]
+
+  pub settled_light_too : (shadow' : Option (Shadow P Item)) → (shadow ≡ None → shadow' ≡ None)
+      → ((r : Shadow P Item) → shadow ≡ Some r → (r' : Shadow P Item) × (shadow' ≡ Some r') × IsKept contents r r') → (r' : Shadow P Item) → shadow' ≡ Some r'
+      → weight_of r'.stack.levels < 2 ^ 31
+  settled_light_too shadow' none some r' there = elim s [
+    | quiet at is over put ↦ let wrong : None ≡ Some r' = sym (none over) ∙ there in absurd cc
+    | going r at going is is' put ↦
+        let k = some r is' in
+        let one : k.0 ≡ r' = let both : Some k.0 ≡ Some r' = sym k.1 ∙ there in cc in
+        omega (arith, ap (λ (x : Shadow P Item). weight_of x.stack.levels) one, k.2.weight, light_before r at)
+    | ended r at over is gone put ↦ let wrong : None ≡ Some r' = sym (none gone) ∙ there in absurd cc
   ]

@@ -1,12 +1,10 @@
 -- Stacks that are put out of use, and one of their parts that is given back.
-use Rattle.std.specs.Prelude.{◌≡◌, ℕ, ◌+◌, ◌-◌, ◌≤◌, ◌==◌, ◌++◌, ◌∷◌, [], List, Option, Some, if◌then◌else◌, nat_lt}
+use Rattle.std.specs.Prelude.{◌≡◌, ℕ, ◌+◌, ◌-◌, ◌≤◌, ◌==◌, ◌++◌, ◌∷◌, [], List, Option, if◌then◌else◌, nat_lt}
 use Rattle.part_store.specs.Shelves.{one_if, kept_at, lent_at}
 use Rattle.part_store.specs.Store.{Stored, KeepsBoth}
 use Rattle.builder_trait.specs.Parts.{Contents}
-use Rattle.log_levels.specs.Trades.{used_at, built_at, wanted_at}
+use Rattle.log_levels.specs.Trades.{used_at, built_at}
 use Rattle.log_method.specs.Stack.{Stacked}
-use Rattle.log_method.specs.Preparing.{HasTaken}
-use Rattle.log_method.specs.Few.{HaveFew}
 use Rattle.log_method.specs.Retired.{used_of}
 use Rattle.global_rebuild.specs.Index.{Shadow, in_both, in_retired, IsSpare}
 
@@ -36,11 +34,15 @@ module _ {P Item : Type 0} where
     none : new ≡ old → FreesSpare contents main shadow old new
     one : (level : ℕ) → FreesOneAt level old new → IsSpare contents level main shadow new → FreesSpare contents main shadow old new
 
-  -- the memory of two ticks of both stacks is taken, as far as it isn't kept: levels were added, and a stack has as much of the store
+  -- memory is taken for both stacks, which have as much of the store: of each level no less is kept, and with what they have no more than ten
+  -- builders, where there weren't more
   pub record TakeMemory (main : Stacked P Item) (shadow : Option (Shadow P Item)) (store : Stored) (main' : Stacked P Item)
       (shadow' : Option (Shadow P Item)) (store' : Stored) : Type 0 where
     pub used : (k : ℕ) → in_both (used_at k) main' shadow' ≡ in_both (used_at k) main shadow
     pub built : (k : ℕ) → in_both (built_at k) main' shadow' ≡ in_both (built_at k) main shadow
-    pub few : HaveFew main'.levels
-    pub few_too : (r : Shadow P Item) → shadow' ≡ Some r → HaveFew r.stack.levels
-    pub taken : HasTaken (λ k. in_both (wanted_at 2 k) main' shadow') store store'
+    pub lent : (k : ℕ) → lent_at k store'.builders ≡ lent_at k store.builders
+    pub lent_tables : (k : ℕ) → lent_at k store'.tables ≡ lent_at k store.tables
+    pub kept : (k : ℕ) → kept_at k store.builders ≤ kept_at k store'.builders
+    pub kept_tables : (k : ℕ) → kept_at k store.tables ≤ kept_at k store'.tables
+    pub few : (k : ℕ) → let before = kept_at k store.builders + in_both (used_at k) main shadow in
+        kept_at k store'.builders + in_both (used_at k) main' shadow' ≤ before + (10 - before)

@@ -488,7 +488,8 @@ fn take_memory<B: Builder>(
 fn add_levels<B: Builder>(shadow: &mut Option<Shadow<B>>) -> Result<(), NoMemory>
     ensures none { shadow.old ≡ None → shadow.new ≡ None }
     ensures some { (r : Walked B.Part B.Item) → shadow.old ≡ Some r → (r' : Walked B.Part B.Item) × (shadow.new ≡ Some r')
-        × IsKept B.Part.Part.contents r r' × AreKept r.stack.levels r'.stack.levels × HaveFew r'.stack.levels }
+        × IsKept B.Part.Part.contents r r' × AreKept r.stack.levels r'.stack.levels }
+    ensures few { (r : Walked B.Part B.Item) → shadow.new ≡ Some r → HaveFew r.stack.levels }
     ensures enough { IfOk result (λ _. (r : Walked B.Part B.Item) → shadow.new ≡ Some r → weight_of r.stack.levels < 2 ^ 31
         → AreEnough r.stack.levels) }
 {

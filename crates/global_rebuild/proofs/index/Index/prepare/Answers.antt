@@ -1,12 +1,12 @@
 use Rattle.std.proofs.Common.{rules, ◌≡◌, ℕ, ◌-◌, ◌*◌, min, None, ◌∙◌, Some, IfOk, inl, refl, sym, ap, subst, arith}
 use Rattle.query_laws.specs.StepLedger.{Counts}
 use Rattle.log_levels.specs.Cost.{IsWithin, quotas}
-use Rattle.log_method.proofs.Forecasting.{when_ok, anyway_ok, anyway_err, both_ok}
-use Rattle.global_rebuild.specs.Index.{Shadow, AreStocked, to_walk}
+use Rattle.log_method.proofs.Forecasting.{when_ok}
+use Rattle.global_rebuild.specs.Index.{Shadow, IsIndex, AreStocked, OwnsMemory, to_walk}
 use Rattle.global_rebuild.specs.Retiring.{with_retired}
-use Rattle.global_rebuild.proofs.Freeing.{walked_frees}
+use Rattle.global_rebuild.proofs.Freeing.{walked_frees, anyway_ok, anyway_err}
 use Rattle.global_rebuild.proofs.Stocking.{stocked_less}
-use Rattle.global_rebuild.proofs.Swapping.{IsSwapped, ended, not_swapped, owns-swapped, as_far, IsMade, made}
+use Rattle.global_rebuild.proofs.Swapping.{IsSwapped, ended, not_swapped, owns-swapped, settled_light, settled_light_too, as_far, IsMade, made}
 use Rattle.global_rebuild.proofs.index.Index.prepare.Given.{Over}
 use Rattle.global_rebuild.proofs.index.Index.prepare.Goals.{then-has_walked+in_ok-reserve, else-has_walked}
 use Rattle.global_rebuild.proofs.index.Index.prepare.Goals as goal
@@ -37,7 +37,12 @@ made_of g c =
 
 -- both stacks are light
 is_stocked : (g : Over) (c : goal.After-settle g) → IfOk c.settle.result (λ _. AreStocked 2 c.settle.new.main c.settle.new.shadow c.settle.new.store)
-is_stocked g c = when_ok c.settle.result (λ stocked. stocked ? ?) c.settle.ensures.stocked
+is_stocked g c =
+    let e = c.settle.ensures in
+    let h = c.walk.ensures.chain c.requires.chain.0 c.requires.chain.1 in
+    let v = subst (IsIndex g.B.Part.Part.contents) c.self.view_is c.self.invariant in
+    when_ok c.settle.result (λ stocked. stocked (settled_light h v (is_swapped g c) c.settle.new.main e.weight)
+    (settled_light_too h v (is_swapped g c) c.settle.new.shadow e.none e.some)) e.stocked
 
 pub returns-clause-prepared : goal.returns-clause-prepared
 returns-clause-prepared g c =
