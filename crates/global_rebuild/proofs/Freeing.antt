@@ -1,6 +1,7 @@
 -- What a preparation frees.
 use Rattle.std.proofs.Common.{◌≡◌, ◌==◌, ◌≢◌, ℕ, ◌+◌, ◌-◌, ◌*◌, ◌^◌, ◌<◌, ◌≤◌, Bool, true, false, Option, None, Result, Ok, Err, IfOk, OnErr, if◌then◌else◌, inl, inr, refl, ap, arith}
 use Rattle.std.proofs.lemmas.Bool.{cases_eq}
+use Rattle.std.proofs.lemmas.Bool.Decides.{nat_tests}
 use Rattle.builder_trait.specs.Parts.{Contents}
 use Rattle.part_store.specs.Shelves.{one_if, kept_at, lent_at, held_at}
 use Rattle.part_store.specs.Store.{Stored, KeepsBoth, FreesOne}
@@ -39,6 +40,36 @@ freed_at level old new f = elim (cases_eq (kept_at level old.builders) 0) [
         at_tables = λ k. omega (arith, ap (kept_at k) t.1);
         no_more = λ k. omega (arith, t.0.kept k);
       }
+]
+
+-- where there is one builder too much of a level, it is freed
+pub few_freed : (level : ℕ) (both : ℕ → ℕ) (old new : Stored) → FreesOne level old new → both level ≤ 10 → 10 < kept_at level old.builders + both level
+    → ((k : ℕ) → kept_at k old.builders + both k ≤ 10 + one_if (k == level))
+    → ((k : ℕ) → kept_at k new.builders + both k ≤ 10) × (10 ≤ kept_at level new.builders + both level)
+few_freed level both old new f fits many few =
+    let some : kept_at level old.builders ≢ 0 = λ none. absurd (omega (arith, none, fits, many)) in
+    let t = (f.builder some).0 in
+    let itself : (level == level) ≡ true = grind (arith, nat_tests) in
+    let fewer : kept_at level new.builders ≡ kept_at level old.builders - 1 = rw itself at (t.kept level) in
+    let most : kept_at level old.builders + both level ≤ 10 + 1 = rw itself at (few level) in
+    ((λ k. elim (cases_eq k level) [
+      | inl same ↦ rw same (omega (arith, fewer, most, many))
+      | inr apart ↦
+          let other : (k == level) ≡ false = grind (arith, nat_tests, apart) in
+          let as_many : kept_at k new.builders ≡ kept_at k old.builders - 0 = rw other at (t.kept k) in
+          let within : kept_at k old.builders + both k ≤ 10 + 0 = rw other at (few k) in
+          omega (arith, as_many, within)
+    ]), omega (arith, fewer, many))
+
+-- where there isn't, there are few of all
+pub few_else : (level : ℕ) (both : ℕ → ℕ) (store : Stored) → kept_at level store.builders + both level ≤ 10
+    → ((k : ℕ) → kept_at k store.builders + both k ≤ 10 + one_if (k == level)) → (k : ℕ) → kept_at k store.builders + both k ≤ 10
+few_else level both store here few k = elim (cases_eq k level) [
+  | inl same ↦ rw same here
+  | inr apart ↦
+      let other : (k == level) ≡ false = grind (arith, nat_tests, apart) in
+      let within : kept_at k store.builders + both k ≤ 10 + 0 = rw other at (few k) in
+      omega (arith, within)
 ]
 
 module _ {P Item : Type 0} {contents : P → Contents Item} where

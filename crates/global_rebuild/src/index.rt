@@ -435,9 +435,10 @@ fn free_spare<B: Builder>(
         store.give_up(back);
         return;
     }
-    if let Some(level) = too_high(main, shadow, store) {
-        store.give_up(level);
-    }
+    let Some(level) = too_high(main, shadow, store) else {
+        return;
+    };
+    store.give_up(level);
 }
 
 /// The highest level of which something is kept, where that is above the greatest of an index of so many items, and more is kept than the
