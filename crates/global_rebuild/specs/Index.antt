@@ -58,7 +58,9 @@ module _ {P Item : Type 0} where
   -- Of one stack these are five, with those that it may want. Over a thousand lists of updates, at random and in bursts, with memory refused in many,
   -- both stacks together had and wanted ten builders of a level at once, and the tables of four constructions, and no more; of retired stacks one at
   -- most was left, of thirty parts at most, which came back before the next rebuild began. So ten are never too few in steady churn: there memory is
-  -- what is in use at its peak, and from the third rebuild on none is taken or freed.
+  -- what is in use at its peak, nothing is freed, and from the third rebuild on nothing is taken where the oldest or the newest item is dropped each
+  -- time; where any one is, now and then a room, as the peak differs. A layer that went from 65,536 items to ten has memory for 377 then, and for 185
+  -- a hundred updates later.
   --
   -- Each move keeps it. What a tick takes is kept no longer; a swap lowers the sum; memory is taken only where a stack wants more than is kept. Only a
   -- retired part that comes back raises it, by one: where it is then the eleventh, one is freed at once. What is kept of the retired stacks' own parts
