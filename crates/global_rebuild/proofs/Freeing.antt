@@ -8,8 +8,8 @@ use Rattle.part_store.specs.Store.{Stored, KeepsBoth, FreesOne}
 use Rattle.log_levels.specs.Trades.{used_at}
 use Rattle.log_method.specs.Stack.{Stacked}
 use Rattle.global_rebuild.specs.Index.{Shadow, Indexed, HasPaused, in_both, live_in, IsSpare, enough, too_high, FreesOne as Frees, none as frees_none, one as frees_one}
-use Rattle.global_rebuild.specs.Memory.{HoldsNoLess, FreesOneOf}
-use Rattle.global_rebuild.specs.Retiring.{FreesOneAt, FreesSpare, none, one, TakeMemory}
+use Rattle.global_rebuild.specs.Memory.{HoldsNoLess, FreesOneOf, FreesOneAt}
+use Rattle.global_rebuild.specs.Retiring.{FreesSpare, none, one, TakeMemory}
 
 pub anyway_ok : {A E p : Type 0} (r : Result A E) → p → IfOk r (λ _. p)
 anyway_ok (Ok x) h = h

@@ -10,10 +10,18 @@ pub record HoldsNoLess (old new : Stored) : Type 0 where
   pub builders : (k : ℕ) → held_at k old.builders ≤ held_at k new.builders
   pub tables : (k : ℕ) → held_at k old.tables ≤ held_at k new.tables
 
--- the same, but for a builder of one level, or the tables of a construction into it
+-- the same, but for a builder of one level at most, and the tables of one construction into it
 pub record FreesOneOf (level : ℕ) (old new : Stored) : Type 0 where
   pub builders : (k : ℕ) → held_at k old.builders ≤ held_at k new.builders + one_if (k == level)
   pub tables : (k : ℕ) → held_at k old.tables ≤ held_at k new.tables + one_if (k == level)
+
+-- a builder of a level, or the tables of a construction into it, is freed at most, and nothing else changes
+pub record FreesOneAt (level : ℕ) (old new : Stored) : Type 0 where
+  pub lent : (k : ℕ) → lent_at k new.builders ≡ lent_at k old.builders
+  pub lent_tables : (k : ℕ) → lent_at k new.tables ≡ lent_at k old.tables
+  pub at : (k : ℕ) → kept_at k old.builders ≤ kept_at k new.builders + one_if (k == level)
+  pub at_tables : (k : ℕ) → kept_at k old.tables ≤ kept_at k new.tables + one_if (k == level)
+  pub no_more : (k : ℕ) → kept_at k new.builders ≤ kept_at k old.builders
 
 -- A stack takes and gives back, and memory is taken for it. What more it has is lent more. Of each level the store keeps, and the stack has, no
 -- more builders together than before, or five.

@@ -7,6 +7,7 @@ use Rattle.log_levels.specs.Trades.{used_at, built_at}
 use Rattle.log_method.specs.Stack.{Stacked}
 use Rattle.log_method.specs.Retired.{used_of}
 use Rattle.global_rebuild.specs.Index.{Shadow, in_both, in_retired, IsSpare}
+use Rattle.global_rebuild.specs.Memory.{FreesOneAt}
 
 module _ {P Item : Type 0} where
   -- a stack is put out of use after others, where a part of it is in memory
@@ -20,14 +21,6 @@ module _ {P Item : Type 0} where
     pub lent : (k : ℕ) → lent_at k store'.builders + in_retired (used_at k) retired ≡ lent_at k store.builders + in_retired (used_at k) retired'
     pub lent_tables : (k : ℕ) → lent_at k store'.tables + in_retired (built_at k) retired ≡ lent_at k store.tables + in_retired (built_at k) retired'
     pub kept : (k : ℕ) → kept_at k store'.builders ≤ kept_at k store.builders + one_if (k == level)
-
-  -- a builder of a level, or the tables of a construction into it, is freed at most, and nothing else changes
-  pub record FreesOneAt (level : ℕ) (old new : Stored) : Type 0 where
-    pub lent : (k : ℕ) → lent_at k new.builders ≡ lent_at k old.builders
-    pub lent_tables : (k : ℕ) → lent_at k new.tables ≡ lent_at k old.tables
-    pub at : (k : ℕ) → kept_at k old.builders ≤ kept_at k new.builders + one_if (k == level)
-    pub at_tables : (k : ℕ) → kept_at k old.tables ≤ kept_at k new.tables + one_if (k == level)
-    pub no_more : (k : ℕ) → kept_at k new.builders ≤ kept_at k old.builders
 
   -- nothing changes, or spare memory of one level is freed
   pub data FreesSpare (contents : P → Contents Item) (main : Stacked P Item) (shadow : Option (Shadow P Item)) (old new : Stored) : Type 0 where

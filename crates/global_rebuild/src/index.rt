@@ -1,5 +1,5 @@
 //! The index.
-ghost use Rattle.std.specs.Prelude.{◌≡◌, ℕ, ◌+◌, ◌-◌, ◌*◌, ◌^◌, ◌<◌, ◌≤◌, ◌⊎◌, ◌++◌, ◌∷◌, [], All, List, None, Some, true, false, if◌then◌else◌, IfOk, IfSome, IsTrue, IsErr, OnErr, length, min, vec_capacity, map};
+ghost use Rattle.std.specs.Prelude.{◌≡◌, ◌==◌, ℕ, ◌+◌, ◌-◌, ◌*◌, ◌^◌, ◌<◌, ◌≤◌, ◌⊎◌, ◌++◌, ◌∷◌, [], All, List, None, Some, true, false, if◌then◌else◌, IfOk, IfSome, IsTrue, IsErr, OnErr, length, min, vec_capacity, map};
 ghost use Rattle.std.specs.Option.{option_map};
 ghost use Rattle.query_laws.specs.StepLedger.{Consults};
 ghost use Rattle.query_laws.specs.declared.item.Order.TheVariants.{First};
@@ -310,8 +310,7 @@ impl<B: Builder> Index<B> {
         let Some(shadow) = &mut self.shadow else {
             return Ok(());
         };
-        // It says that the main stack has few builders of each level.
-        self.main.used(0);
+        self.main.tell_few();
         shadow.walk(chain, most, &mut self.store, steps)
     }
 

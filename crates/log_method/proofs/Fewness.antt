@@ -1,5 +1,5 @@
 -- How much of one level a stack has and may want.
-use Rattle.std.proofs.Common.{◌≡◌, ◌==◌, ℕ, zero, suc, ◌+◌, ◌<◌, ◌≤◌, Bool, true, false, List, [], ◌∷◌, Some, All, if◌then◌else◌, length, slice_get, inl, inr, refl, ap, arith}
+use Rattle.std.proofs.Common.{◌≡◌, ◌==◌, ℕ, zero, suc, ◌+◌, ◌<◌, ◌≤◌, Bool, true, false, List, [], ◌∷◌, All, if◌then◌else◌, length, get_or, inl, inr, refl, ap, arith}
 use Rattle.std.specs.Option.{is_some}
 use Rattle.std.proofs.lemmas.Bool.{cases_eq, cases_lt}
 use Rattle.std.proofs.lemmas.Bool.Decides.{nat_tests}
@@ -32,16 +32,16 @@ module _ {P Item : Type 0} where
       let other : (k == l.level) ≡ false = grind (arith, nat_tests, h.0, low) in rw other (omega (arith, built_below (from + 1) k above h.1 (omega (arith, low))))
 
   -- of a level they have what stands at its place
-  pub used_there : (from place k : ℕ) (levels : List (Slots P Item)) (l : Slots P Item) → AreInPlace from levels → slice_get levels place ≡ Some l
-      → k ≡ from + place → used_at k levels ≡ used_in l
-  used_there from place k [] l h is at = absurd cc
-  used_there from zero k (x ∷ above) l h is at =
-      let same : x ≡ l = cc in
+  pub used_there : (from place k : ℕ) (levels : List (Slots P Item)) (l : Slots P Item) → AreInPlace from levels → place < length levels
+      → l ≡ get_or levels place l → k ≡ from + place → used_at k levels ≡ used_in l
+  used_there from place k [] l h within is at = absurd (omega (arith, within))
+  used_there from zero k (x ∷ above) l h within is at =
+      let same : l ≡ x = is in
       let here : (k == x.level) ≡ true = grind (arith, nat_tests, h.0, at) in
       rw here (omega (arith, used_below (from + 1) k above h.1 (omega (arith, at)), ap used_in same))
-  used_there from (suc place) k (x ∷ above) l h is at =
+  used_there from (suc place) k (x ∷ above) l h within is at =
       let other : (k == x.level) ≡ false = grind (arith, nat_tests, h.0, at) in
-      rw other (omega (arith, used_there (from + 1) place k above l h.1 is (omega (arith, at))))
+      rw other (omega (arith, used_there (from + 1) place k above l h.1 (omega (arith, within)) is (omega (arith, at))))
 
   -- and above the highest nothing
   pub used_past : (from k : ℕ) (levels : List (Slots P Item)) → AreInPlace from levels → from + length levels ≤ k → used_at k levels ≡ 0

@@ -1,5 +1,5 @@
 //! The stack.
-ghost use Rattle.std.specs.Prelude.{◌≡◌, ◌≢◌, ℕ, ◌+◌, ◌*◌, ◌^◌, ◌<◌, ◌≤◌, false, [], All, Contains, IsTrue, IfOk, IsErr, OnErr, length};
+ghost use Rattle.std.specs.Prelude.{◌≡◌, ◌≢◌, ℕ, ◌+◌, ◌*◌, ◌^◌, ◌<◌, ◌≤◌, true, false, [], All, Contains, IsTrue, IfOk, IsErr, OnErr, length};
 ghost use Rattle.query_laws.specs.StepLedger.{Consults};
 ghost use Rattle.query_laws.specs.declared.item.Order.TheVariants.{First};
 ghost use Rattle.log_levels.specs.Levels.{live_items, all_items, weight_of, parts_of, parts_asked, touches_of};
@@ -210,6 +210,12 @@ impl<B: Builder> Stack<B> {
         ensures few { result ≤ 2 }
     {
         wanted(&self.levels, level)
+    }
+
+    /// It does nothing, and says how much of each level the stack has and may want.
+    pub fn tell_few(&self)
+        ensures { HaveFew self.now.levels }
+    {
     }
 
     /// How many builders of a level the stack has, one that a part is made in too.

@@ -64,4 +64,4 @@ invariant_of-self-2 g c =
     let own = c.walk.ensures.shadow c.requires.chain.0 h.rise (h.shadow c.in-Some.shadow c.in-Some.is) in
     IsIndex-shadow _ _ c.walk.new.self c.walk.new.store c.self.invariant
     (in_time-walked (c.self.invariant.in_time c.in-Some.shadow c.in-Some.is) c.walk.ensures.handed (live-walked _ _ _ _ h c.walk.new.self own))
-    (owns-walked c.self.invariant.memory c.in-Some.shadow c.in-Some.is c.walk.new.self c.walk.new.store c.used.ensures.has_few c.walk.ensures.memory)
+    (owns-walked c.self.invariant.memory c.in-Some.shadow c.in-Some.is c.walk.new.self c.walk.new.store c.tell_few.ensures c.walk.ensures.memory)
