@@ -1,5 +1,5 @@
 -- The levels that two ticks may want, and what they may take.
-use Rattle.std.proofs.Common.{◌≡◌, ◌==◌, ℕ, zero, suc, ◌+◌, ◌-◌, ◌*◌, ◌^◌, ◌<◌, ◌≤◌, ◌&&◌, ◌∙◌, Bool, true, false, List, [], ◌∷◌, ◌++◌, Some, None, length, All, if◌then◌else◌, nat_le, inl, inr, ⊎_elim, Result, Ok, Err, IfOk, slice_get, refl, ap, sym, subst, arith, append_assoc, ltb-false}
+use Rattle.std.proofs.Common.{◌≡◌, ◌==◌, ℕ, zero, suc, ◌+◌, ◌-◌, ◌*◌, ◌^◌, ◌<◌, ◌≤◌, ◌&&◌, ◌∙◌, Bool, true, false, List, [], ◌∷◌, ◌++◌, Some, None, length, All, if◌then◌else◌, nat_le, inl, inr, ⊎_elim, Result, Ok, Err, IfOk, slice_get, get_or, refl, ap, sym, subst, arith, append_assoc, ltb-false}
 use Rattle.std.proofs.Math.Nat.{mul-le-mul_right}
 use Rattle.std.proofs.lemmas.Bool.{cases_lt}
 use Rattle.std.proofs.lemmas.Bool.Decides.{nat_tests}
@@ -57,16 +57,15 @@ module _ {P Item : Type 0} where
       rw other (omega (arith, none_below n (from + 1) k above h.1 (omega (arith, low))))
 
   -- above a level one may begin where a part may arrive there
-  pub due_above : (n from place k : ℕ) (levels : List (Slots P Item)) (l : Slots P Item) → AreInPlace from levels
-      → slice_get levels place ≡ Some l → k ≡ from + place + 1 → due_at n k levels ≡ one_if (is_due n l)
-  due_above n from place k [] l h is at = absurd cc
-  due_above n from zero k (x ∷ above) l h is at =
-      let same : x ≡ l = cc in
+  pub due_above : (n from place k : ℕ) (levels : List (Slots P Item)) (l : Slots P Item) → AreInPlace from levels → place < length levels
+      → l ≡ get_or levels place l → k ≡ from + place + 1 → due_at n k levels ≡ one_if (is_due n l)
+  due_above n from place k [] l h within is at = absurd (omega (arith, within))
+  due_above n from zero k (x ∷ above) l h within is at =
       let here : (k == (x.level + 1)) ≡ true = grind (arith, nat_tests, h.0, at) in
-      rw here (omega (arith, none_below n (from + 1) k above h.1 (omega (arith, at)), ap (λ v. one_if (is_due n v)) same))
-  due_above n from (suc place) k (x ∷ above) l h is at =
+      rw here (omega (arith, none_below n (from + 1) k above h.1 (omega (arith, at)), ap (λ v. one_if (is_due n v)) is))
+  due_above n from (suc place) k (x ∷ above) l h within is at =
       let other : (k == (x.level + 1)) ≡ false = grind (arith, nat_tests, h.0, at) in
-      rw other (omega (arith, due_above n (from + 1) place k above l h.1 is (omega (arith, at))))
+      rw other (omega (arith, due_above n (from + 1) place k above l h.1 (omega (arith, within)) is (omega (arith, at))))
 
   -- and further up none
   pub none_past : (n from k : ℕ) (levels : List (Slots P Item)) → AreInPlace from levels → from + length levels < k → due_at n k levels ≡ 0
@@ -108,10 +107,10 @@ module _ {P Item : Type 0} where
 
   -- above another level one where a part may arrive there
   pub wanted_above : (k : ℕ) (levels : List (Slots P Item)) (l : Slots P Item) → AreInPlace 0 levels → (k ≡ 0 → ⊥)
-      → slice_get levels (k - 1) ≡ Some l → wanted_at 2 k levels ≡ one_if (is_due 2 l)
-  wanted_above k levels l places above is =
+      → k - 1 < length levels → l ≡ get_or levels (k - 1) l → wanted_at 2 k levels ≡ one_if (is_due 2 l)
+  wanted_above k levels l places above within is =
       let other : (k == 0) ≡ false = grind (arith, nat_tests, above) in
-      rw other (omega (arith, due_above 2 0 (k - 1) k levels l places is (omega (arith, above))))
+      rw other (omega (arith, due_above 2 0 (k - 1) k levels l places within is (omega (arith, above))))
 
   -- and above all levels none
   pub wanted_past : (k : ℕ) (levels : List (Slots P Item)) → AreInPlace 0 levels → (k ≡ 0 → ⊥) → length levels ≤ k - 1

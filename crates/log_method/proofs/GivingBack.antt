@@ -30,8 +30,7 @@ module _ {P Item : Type 0} where
     one = omega (arith, some, h.one);
     at = λ all k.
         let up : nat_lt 0 (used_of above) ≡ true = grind (arith, nat_tests, some) in
-        let top : top_of (l ∷ above) ≡ top_of above = rw up refl in
-        rw top (omega (arith, h.at some k));
+        rw up (omega (arith, h.at some k));
   }
 
   -- a part of the lowest of these levels is given back, since none above has any
@@ -41,9 +40,8 @@ module _ {P Item : Type 0} where
     one = omega (arith, none, none', one);
     at = λ all k.
         let up : nat_lt 0 (used_of above) ≡ false = grind (arith, nat_tests, none) in
-        let top : top_of (l ∷ above) ≡ l.level = rw up refl in
         let less : used_in l' + 1 ≡ used_in l = omega (arith, one, none, all) in
-        rw (top, level) (at_level (k == l.level) (used_in l) (used_in l') (used_at k above) (used_at k above') less (used_none k above none) (used_none k above' none'));
+        rw (up, level) (at_level (k == l.level) (used_in l) (used_in l') (used_at k above) (used_at k above') less (used_none k above none) (used_none k above' none'));
   }
     where
       at_level : (b : Bool) (m m' n n' : ℕ) → m' + 1 ≡ m → n ≡ 0 → n' ≡ 0 → (if b then m' else 0) + n' + one_if b ≡ (if b then m else 0) + n
@@ -93,14 +91,37 @@ module _ {P Item : Type 0} where
   pub idle_all : (l : Slots P Item) (above : List (Slots P Item)) → IsIdle l → (used_of above == 0) ≡ (used_of (l ∷ above) == 0)
   idle_all l above idle =
       let none : used_in l ≡ 0 = omega (arith, ap length idle.no_parts, ap (λ o. one_if (is_some o)) idle.no_construction) in
-      rw none refl
+      ap (λ n. n == 0) (omega (arith, none))
 
   pub busy_one : (l : Slots P Item) (above : List (Slots P Item)) → (IsIdle l → ⊥) → false ≡ (used_of (l ∷ above) == 0)
   busy_one l above busy =
-      let some : 0 < used_in l = used_some l.parts l.construction (λ no_parts no_construction. busy (record { no_parts = no_parts; no_construction = no_construction })) in
+      let some : 0 < used_in l =
+      used_some l.parts l.construction (λ no_parts no_construction. busy (record { no_parts = no_parts; no_construction = no_construction })) in
       grind (arith, nat_tests, some)
     where
       used_some : (ps : List P) (o : Option (Construction Item)) → (ps ≡ [] → o ≡ None → ⊥) → 0 < length ps + one_if (is_some o)
       used_some [] None both = absurd (both refl refl)
       used_some [] (Some x) both = omega arith
       used_some (p ∷ ps) o both = omega arith
+
+pub some_left : (n : ℕ) {b : Bool} → b ≡ nat_lt 0 n → b ≡ true → 0 < n
+some_left n is left = grind (arith, nat_tests, sym is ∙ left)
+
+pub none_left : (n : ℕ) {b : Bool} → b ≡ nat_lt 0 n → b ≡ false → n ≡ 0
+none_left n is left = grind (arith, nat_tests, sym is ∙ left)
+
+-- a level says whether it gave a part back
+module _ (b : Bool) (m m' : ℕ) (one : m' + one_if b ≡ m) (none : b ≡ false → m ≡ 0) where
+  pub given_one : m' ≡ m - 1
+  given_one = of b one none
+    where
+      of : (b : Bool) → m' + one_if b ≡ m → (b ≡ false → m ≡ 0) → m' ≡ m - 1
+      of true one none = omega (arith, one)
+      of false one none = omega (arith, one, none refl)
+
+  pub given_if : (n : ℕ) → n ≡ 0 → b ≡ nat_lt 0 (m + n)
+  given_if n nothing = of b one none
+    where
+      of : (b : Bool) → m' + one_if b ≡ m → (b ≡ false → m ≡ 0) → b ≡ nat_lt 0 (m + n)
+      of true one none = grind (arith, nat_tests, one, nothing)
+      of false one none = grind (arith, nat_tests, none refl, nothing)

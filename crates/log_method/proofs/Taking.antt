@@ -87,7 +87,7 @@ module _ {P Item : Type 0} where
       at k has = elim (cases_eq k 0) [
         | inl lowest ↦ let none : due_at 2 k levels ≡ 0 = ap (λ j. due_at 2 j levels) lowest ∙ none_at_zero 2 levels in omega (arith, none)
         | inr above ↦ let other : (k == 0) ≡ false = grind (arith, nat_tests, above) in
-            let some : due_at 2 k levels + 0 ≤ kept_at k store.tables + 0 = rw other at has in omega (arith, some)
+            let some : 0 + due_at 2 k levels ≤ kept_at k store.tables = rw other at has in omega (arith, some)
       ]
 
   used_append : (k : ℕ) (a b : List (Slots P Item)) → used_at k (a ++ b) ≡ used_at k a + used_at k b
@@ -153,11 +153,8 @@ module _ {P Item : Type 0} where
       less : (a b c : Bool) → (a ≡ true → b ≡ true) → one_if (a && c) ≤ one_if (b && true)
       less true true true h = omega arith
       less true true false h = omega arith
-      less true false c h = absurd (false_not_true (h refl))
+      less true false c h = let wrong : false ≡ true = h refl in absurd cc
       less false b c h = omega arith
-
-      false_not_true : false ≡ true → ⊥
-      false_not_true is = absurd cc
 
   less_wanted : (k : ℕ) (levels : List (Slots P Item)) → due_at 1 k levels ≤ due_at 2 k levels
   less_wanted k [] = omega arith

@@ -1,5 +1,5 @@
 -- Memory of a stack that is given back part by part, those of the highest level first.
-use Rattle.std.specs.Prelude.{◌≡◌, ℕ, ◌+◌, ◌-◌, ◌==◌, List, [], ◌∷◌, if◌then◌else◌, nat_lt, length}
+use Rattle.std.specs.Prelude.{◌≡◌, ℕ, ◌+◌, ◌-◌, ◌<◌, ◌==◌, List, [], ◌∷◌, if◌then◌else◌, nat_lt, length}
 use Rattle.part_store.specs.Shelves.{one_if}
 use Rattle.log_levels.specs.Slots.{Slots}
 use Rattle.log_levels.specs.Trades.{used_in, used_at}
@@ -18,4 +18,4 @@ module _ {P Item : Type 0} where
   -- one part less is left, if any was: one of the highest level
   pub record GivesOneBack (old new : List (Slots P Item)) : Type 0 where
     pub one : used_of new ≡ used_of old - 1
-    pub at : (k : ℕ) → used_at k new ≡ used_at k old - one_if (k == top_of old)
+    pub at : 0 < used_of old → (k : ℕ) → used_at k new + one_if (k == top_of old) ≡ used_at k old
