@@ -92,7 +92,7 @@ module _ {P Item : Type 0} where
     );
     kept = λ k.
         let fewer : used_at k last.levels ≤ used_at k last'.levels + one_if (k == level) =
-        subst (λ t. used_at k last.levels ≤ used_at k last'.levels + one_if (k == t)) (sym at) (omega (arith, g.at k)) in
+        subst (λ t. used_at k last.levels ≤ used_at k last'.levels + one_if (k == t)) (sym at) (omega (arith, g.at some k)) in
         omega (arith, moves.builders k, moves.keeps.builders k, fewer);
   }
 
