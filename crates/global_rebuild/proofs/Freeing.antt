@@ -22,8 +22,8 @@ anyway_err (Err e) h = h
 -- a store frees what is kept of a level
 pub freed_at : (level : ℕ) (old new : Stored) → FreesOne level old new → FreesOneAt level old new
 freed_at level old new f = elim (cases_eq (kept_at level old.builders) 0) [
-  | inl no ↦
-      let t = f.tables no in
+  | inl nothing ↦
+      let t = f.tables nothing in
       record {
         lent = λ k. ap (lent_at k) t.0;
         lent_tables = t.1.lent;
@@ -31,8 +31,8 @@ freed_at level old new f = elim (cases_eq (kept_at level old.builders) 0) [
         at_tables = λ k. omega (arith, t.1.kept k);
         no_more = λ k. omega (arith, ap (kept_at k) t.0);
       }
-  | inr some ↦
-      let t = f.builder some in
+  | inr there ↦
+      let t = f.builder there in
       record {
         lent = t.0.lent;
         lent_tables = λ k. ap (lent_at k) t.1;

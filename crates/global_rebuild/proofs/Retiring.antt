@@ -12,11 +12,11 @@ use Rattle.log_method.specs.Retired.{used_of, top_of, GivesOneBack}
 use Rattle.global_rebuild.specs.Index.{in_retired}
 use Rattle.global_rebuild.specs.Retiring.{with_retired, GivesBack}
 
-module _ {P Item : Type 0} where
-  unless : (b : Bool) {m n : ℕ} → m ≡ 0 → n ≡ 0 → (if b then m else 0) + n ≡ 0
-  unless true first second = omega (arith, first, second)
-  unless false first second = omega (arith, second)
+unless : (b : Bool) {m n : ℕ} → m ≡ 0 → n ≡ 0 → (if b then m else 0) + n ≡ 0
+unless true first second = omega (arith, first, second)
+unless false first second = omega (arith, second)
 
+module _ {P Item : Type 0} where
   -- where nothing is had, nothing of any level is
   pub used_none : (k : ℕ) (levels : List (Slots P Item)) → used_of levels ≡ 0 → used_at k levels ≡ 0
   used_none k [] nothing = refl

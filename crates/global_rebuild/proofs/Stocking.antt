@@ -129,13 +129,13 @@ module _ {P Item : Type 0} where
 
       due_shadow : (k : ℕ) → (k == 0) ≡ false → (o : Option (Shadow P Item)) → in_shadow (wanted_at 2 k) o ≡ in_shadow (due_at 2 k) o
       due_shadow k above None = refl
-      due_shadow k above (Some r) = rw above refl
+      due_shadow k above (Some r) = rw above (omega arith)
 
       at : (k : ℕ) → tables_for k (in_both (wanted_at 2 k) main shadow) ≤ kept_at k store.tables → in_both (due_at 2 k) main shadow ≤ kept_at k store.tables
       at k has = elim (cases_eq k 0) [
         | inl first ↦ rw first (omega (arith, none_at_zero 2 main.levels, lowest shadow))
         | inr above ↦ let other : (k == 0) ≡ false = grind (arith, nat_tests, above) in
             let some : in_both (wanted_at 2 k) main shadow ≤ kept_at k store.tables = rw other at has in
-            let here : wanted_at 2 k main.levels ≡ due_at 2 k main.levels = rw other refl in
+            let here : wanted_at 2 k main.levels ≡ due_at 2 k main.levels = rw other (omega arith) in
             omega (arith, some, here, due_shadow k other shadow)
       ]

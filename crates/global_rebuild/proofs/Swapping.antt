@@ -4,6 +4,8 @@ use Rattle.std.proofs.lemmas.Bool.Decides.{nat_tests}
 use Rattle.builder_trait.specs.Parts.{Contents}
 use Rattle.id_chain.specs.Chain.{Entry}
 use Rattle.log_levels.specs.Levels.{live_items, weight_of}
+use Rattle.part_store.specs.Shelves.{kept_at, lent_at}
+use Rattle.part_store.specs.Store.{Stored}
 use Rattle.log_levels.specs.Slots.{Slots}
 use Rattle.log_levels.specs.Trades.{used_at, built_at}
 use Rattle.log_method.specs.Stack.{Stacked}
@@ -69,11 +71,11 @@ module _ {P Item : Type 0} {i : Indexed P Item} {main : Stacked P Item} {shadow 
     | ended r is at same over put ↦ omega (arith, ap (λ m. f m.levels) same, ap (in_shadow f) is, ap (in_shadow f) over)
   ]
 
-  pub owns-swapped : OwnsMemory i → OwnsMemory (record { store = i.store; main = main; shadow = shadow; retired = retired })
-  owns-swapped o = record {
-    lent = λ k. omega (arith, o.lent k, swapped_all (used_at k) (used_none k i.main.levels));
-    lent_tables = λ k. omega (arith, o.lent_tables k, swapped_all (built_at k) (built_none k i.main.levels));
-    few = λ k. omega (arith, o.few k, swapped_both (used_at k));
+  pub owns-swapped : (store : Stored) → store ≡ i.store → OwnsMemory i → OwnsMemory (record { store = store; main = main; shadow = shadow; retired = retired })
+  owns-swapped store same o = record {
+    lent = λ k. omega (arith, ap (λ x. lent_at k x.builders) same, o.lent k, swapped_all (used_at k) (used_none k i.main.levels));
+    lent_tables = λ k. omega (arith, ap (λ x. lent_at k x.tables) same, o.lent_tables k, swapped_all (built_at k) (built_none k i.main.levels));
+    few = λ k. omega (arith, ap (λ x. kept_at k x.builders) same, o.few k, swapped_both (used_at k));
   }
 
 -- how much is left to walk, after a swap and what follows
@@ -193,7 +195,7 @@ module _ {P Item : Type 0} {contents : P → Contents Item} {stamp : Item → �
       before : weight_of main.levels < 2 ^ 31
       before = elim s [
         | quiet at is over put ↦ rw is (main_light refl v h)
-        | going r at going is is' put ↦ rw is (main_light refl v h)
+        | going r at still is is' put ↦ rw is (main_light refl v h)
         | ended r at over is none put ↦ rw is (light_before r at)
       ]
 
@@ -202,9 +204,9 @@ module _ {P Item : Type 0} {contents : P → Contents Item} {stamp : Item → �
       → weight_of r'.stack.levels < 2 ^ 31
   settled_light_too shadow' none some r' there = elim s [
     | quiet at is over put ↦ let wrong : None ≡ Some r' = sym (none over) ∙ there in absurd cc
-    | going r at going is is' put ↦
+    | going r at still is is' put ↦
         let k = some r is' in
         let one : k.0 ≡ r' = let both : Some k.0 ≡ Some r' = sym k.1 ∙ there in cc in
         omega (arith, ap (λ (x : Shadow P Item). weight_of x.stack.levels) one, k.2.weight, light_before r at)
-    | ended r at over is gone put ↦ let wrong : None ≡ Some r' = sym (none gone) ∙ there in absurd cc
+    | ended r at over is empty put ↦ let wrong : None ≡ Some r' = sym (none empty) ∙ there in absurd cc
   ]

@@ -425,7 +425,7 @@ fn free_spare<B: Builder>(
     shadow: &Option<Shadow<B>>,
     store: &mut Store<B>,
 )
-    requires few { (k : ℕ) → kept_at k store.old.builders + in_both (used_at k) main.now shadow.now ≤ 10 + one_if (k == back) }
+    requires { (k : ℕ) → kept_at k store.old.builders + in_both (used_at k) main.now shadow.now ≤ 10 + one_if (k == back) }
     ensures few { (k : ℕ) → kept_at k store.new.builders + in_both (used_at k) main.now shadow.now ≤ 10 }
     ensures frees { FreesSpare B.Part.Part.contents main.now shadow.now store.old store.new }
 {

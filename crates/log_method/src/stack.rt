@@ -212,10 +212,11 @@ impl<B: Builder> Stack<B> {
         wanted(&self.levels, level)
     }
 
-    /// It does nothing, and says how much of each level the stack has and may want.
+    /// It does no work, and says how much of each level the stack has and may want.
     pub fn tell_few(&self)
         ensures { HaveFew self.now.levels }
     {
+        let _opened = self.weight;
     }
 
     /// How many builders of a level the stack has, one that a part is made in too.

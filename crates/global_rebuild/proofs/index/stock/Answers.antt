@@ -16,15 +16,15 @@ loop-level-preserved g c =
     let h = c.loop-level.invariant in
     let e = c.stock.ensures in
     record {
-      stocked = HasRoomsBelow-more w c.loop-level.level c.wanted.result _ _ c.wanted.ensures e.takes c.in_ok-stock.ensures.stocked h.stocked;
-      taken = HasTaken-then w _ _ _ h.taken (HasTaken-stock w c.loop-level.level c.wanted.result _ _ c.wanted.ensures e.takes);
+      stocked = HasRoomsBelow-more w c.loop-level.level c.wanted.result _ _ c.wanted.ensures.value e.takes c.in_ok-stock.ensures.stocked h.stocked;
+      taken = HasTaken-then w _ _ _ h.taken (HasTaken-stock w c.loop-level.level c.wanted.result _ _ c.wanted.ensures.value e.takes);
     }
 
 pub returns-in_err-stock-clause-taken : goal.returns-in_err-stock-clause-taken
 returns-in_err-stock-clause-taken g c =
     let w : ℕ → ℕ = λ k. in_both (wanted_at 2 k) c.args.main.now c.args.shadow.now in
     HasTaken-then w _ _ _ c.loop-level.invariant.taken
-    (HasTaken-stock w c.loop-level.level c.wanted.result _ _ c.wanted.ensures c.stock.ensures.takes)
+    (HasTaken-stock w c.loop-level.level c.wanted.result _ _ c.wanted.ensures.value c.stock.ensures.takes)
 
 pub returns-clause-stocked : goal.returns-clause-stocked
 returns-clause-stocked g c =

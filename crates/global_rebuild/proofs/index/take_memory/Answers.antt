@@ -6,6 +6,7 @@ use Rattle.global_rebuild.specs.Index.{Shadow}
 use Rattle.global_rebuild.proofs.Stocking.{stocked_both}
 use Rattle.global_rebuild.proofs.Taking.{IsKeptToo, same_too, takes-levels, takes-wanted}
 use Rattle.global_rebuild.proofs.index.take_memory.Given.{Over}
+use Rattle.global_rebuild.proofs.index.take_memory.Goals.{After-add_levels-2}
 use Rattle.global_rebuild.proofs.index.take_memory.Goals as goal
 
 pub returns-in_err-add_levels-clause-memory : goal.returns-in_err-add_levels-clause-memory
@@ -13,12 +14,12 @@ returns-in_err-add_levels-clause-memory g c =
     takes-levels c.in_err-add_levels.ensures.each (same_too c.args.shadow.now) c.args.store.now
 
 -- the shadow has its levels
-too : (g : Over) (c : goal.After-add_levels-2 g) → IsKeptToo c.args.shadow.now c.add_levels-2.new.shadow
+too : (g : Over) (c : After-add_levels-2 g) → IsKeptToo c.args.shadow.now c.add_levels-2.new.shadow
 too g c =
     let e = c.add_levels-2.ensures in
     (e.none, (λ r there. let k = e.some r there in (k.0, k.1, k.3)))
 
-few_too : (g : Over) (c : goal.After-add_levels-2 g) (r : Shadow g.row.B-Part.Denot g.row.B-Item.Denot) → c.add_levels-2.new.shadow ≡ Some r
+few_too : (g : Over) (c : After-add_levels-2 g) (r : Shadow g.row.B-Part.Denot g.row.B-Item.Denot) → c.add_levels-2.new.shadow ≡ Some r
     → HaveFew r.stack.levels
 few_too g c r there = c.add_levels-2.ensures.few r there
 

@@ -1,6 +1,7 @@
-use Rattle.std.proofs.Common.{rules, ◌≡◌, ℕ, ◌+◌, ◌-◌, ◌*◌, ◌^◌, ◌<◌, ◌∙◌, nat_lt, true, false, Option, Some, None, [], ◌∷◌, ap, sym, arith}
+use Rattle.std.proofs.Common.{rules, ◌≡◌, ℕ, ◌+◌, ◌-◌, ◌*◌, ◌^◌, ◌<◌, ◌∙◌, nat_lt, true, false, Option, Some, None, [], ◌∷◌, ap, sym, subst, arith}
 use Rattle.std.proofs.lemmas.Bool.Decides.{nat_tests}
 use Rattle.id_chain.specs.Chain.{is_linked, before_cursor}
+use Rattle.part_store.specs.Store.{KeepsBoth}
 use Rattle.log_levels.specs.Levels.{weight_of}
 use Rattle.log_levels.specs.Cost.{IsWithin, quotas}
 use Rattle.global_rebuild.specs.Index.{Shadow, IsIndexOf, live_in, is_heavy}
@@ -156,6 +157,12 @@ returns-then-eq-clause-goes_on g c r there =
 pub returns-else-eq-clause-goes_on : goal.returns-else-eq-clause-goes_on
 returns-else-eq-clause-goes_on g c r there =
     left_after (some_dropped g (goal.at.returns-else-eq-clause-goes_on g c).After-delete) c.in-Some.shadow c.in-Some.is r there (search rules)
+
+pub returns-then-weight-live-clause-held : goal.returns-then-weight-live-clause-held
+returns-then-weight-live-clause-held g c = record {
+  store = subst (λ i. KeepsBoth i.store c.delete.new.store) c.self.view_is c.delete.ensures.trades.trades.keeps;
+  retired = ap (λ i. i.retired) c.self.view_is;
+}
 
 pub returns-then-weight-live-clause-starts : goal.returns-then-weight-live-clause-starts
 returns-then-weight-live-clause-starts g c none =

@@ -2,7 +2,7 @@ use Rattle.std.proofs.Common.{rules, ◌≡◌, ℕ, ◌-◌, ◌*◌, min, None
 use Rattle.query_laws.specs.StepLedger.{Counts}
 use Rattle.log_levels.specs.Cost.{IsWithin, quotas}
 use Rattle.log_method.proofs.Forecasting.{when_ok}
-use Rattle.global_rebuild.specs.Index.{Shadow, IsIndex, AreStocked, OwnsMemory, to_walk}
+use Rattle.global_rebuild.specs.Index.{Shadow, IsIndex, AreStocked, OwnsMemory, FreesOne, to_walk}
 use Rattle.global_rebuild.specs.Retiring.{with_retired}
 use Rattle.global_rebuild.proofs.Freeing.{walked_frees, anyway_ok, anyway_err}
 use Rattle.global_rebuild.proofs.Stocking.{stocked_less}
@@ -58,8 +58,37 @@ returns-clause-walked g c = anyway_ok c.settle.result (made_of g c).on
 pub returns-clause-refused : goal.returns-clause-refused
 returns-clause-refused g c = anyway_err c.settle.result (inl (made_of g c).on)
 
+pub settle-requires-clause-owns : goal.settle-requires-clause-owns
+settle-requires-clause-owns g c =
+    let owns = subst (λ i. OwnsMemory i) c.self.view_is c.self.invariant.memory in
+    elim c.if-has_walked.branch [
+      | then-has_walked+in_ok-reserve w ↦
+          let told : (r : Shadow g.row.B-Part.Denot g.row.B-Item.Denot) × (c.walk.new.self.shadow ≡ Some r) × (r.cursor ≡ None) = search rules in
+          let put = w.swap.ensures.swapped told.0 (ap (λ i. i.shadow) c.self.view_is ∙ told.1) in
+          owns-swapped (ended told.0 told.1 told.2 (ap (λ i. i.main) w.self-inside-is ∙ put.0)
+          (ap (λ i. i.shadow) w.self-inside-is ∙ w.swap.ensures.ended)
+          (ap (λ i. i.retired.items) w.self-inside-is ∙ put.1 ∙ ap (λ rs. with_retired rs c.self.inside.main) w.reserve.ensures.items
+          ∙ ap (λ i. with_retired i.retired i.main) c.self.view_is))
+          c.if-has_walked.self-inside.store (ap (λ i. i.store) w.self-inside-is ∙ ap (λ i. i.store) c.self.view_is) owns
+      | else-has_walked w ↦
+          let some : (r : Shadow g.row.B-Part.Denot g.row.B-Item.Denot) → c.walk.new.self.shadow ≡ Some r → r.cursor ≡ None → ⊥ = search rules in
+          owns-swapped (not_swapped c.walk.new.self some (ap (λ i. i.main) w.self-inside-is ∙ ap (λ i. i.main) c.self.view_is)
+          (ap (λ i. i.shadow) w.self-inside-is ∙ ap (λ i. i.shadow) c.self.view_is)
+          (ap (λ i. i.retired.items) w.self-inside-is ∙ ap (λ i. i.retired) c.self.view_is))
+          c.if-has_walked.self-inside.store (ap (λ i. i.store) w.self-inside-is ∙ ap (λ i. i.store) c.self.view_is) owns
+    ]
+
+-- a swap takes nothing of the store
+same_store : (g : Over) (c : goal.After-settle g) → c.if-has_walked.self-inside.store ≡ c.walk.new.self.store
+same_store g c = elim c.if-has_walked.branch [
+  | then-has_walked+in_ok-reserve w ↦ ap (λ i. i.store) w.self-inside-is ∙ ap (λ i. i.store) c.self.view_is
+  | else-has_walked w ↦ ap (λ i. i.store) w.self-inside-is ∙ ap (λ i. i.store) c.self.view_is
+]
+
 pub returns-clause-frees : goal.returns-clause-frees
-returns-clause-frees g c = walked_frees c.walk.ensures.paused.no_less ?
+returns-clause-frees g c =
+    walked_frees c.walk.ensures.paused.no_less
+    (subst (λ s. FreesOne g.B.Part.Part.contents s c.settle.new.main c.settle.new.shadow c.settle.new.store) (same_store g c) c.settle.ensures.frees)
 
 -- as many are handed over
 ticked : (walked handed turns marks : ℕ) {touches : ℕ} {old new : Counts} → walked ≡ handed

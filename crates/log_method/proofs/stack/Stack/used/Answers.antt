@@ -27,7 +27,7 @@ returns-in-Some-clause-value g c =
     (in_place g.B.Part.Part.contents (profile g) c.self.inside.levels.items c.self.invariant.0.levels) in
     omega (
       arith,
-      used_there 0 k k levels c.in-Some.at.now places found.3.0 found.1 refl,
+      used_there 0 k k levels c.in-Some.at.now places found.3.0 found.1 (omega arith),
       ap (used_at k) c.deref.ensures.value,
       ap (λ s. used_at k s.levels) c.self.view_is,
       ap length c.parts.ensures.value,
@@ -42,7 +42,7 @@ returns-in-None-clause-value g c =
     (in_place g.B.Part.Part.contents (profile g) c.self.inside.levels.items c.self.invariant.0.levels) in
     omega (
       arith,
-      used_past 0 k levels places (ltb-false k (length levels) (sym c.in-None.ensures.lookup.0)),
+      used_past 0 k levels places (omega (arith, ltb-false k (length levels) (sym c.in-None.ensures.lookup.0))),
       ap (used_at k) c.deref.ensures.value,
       ap (λ s. used_at k s.levels) c.self.view_is,
     )
