@@ -5,3 +5,4 @@ pub mod Taking
 pub mod FewHeld
 pub mod GivingBack
 pub mod Fewness
+pub mod Topmost

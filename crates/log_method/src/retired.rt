@@ -1,7 +1,7 @@
 //! What is left of a stack that isn't asked any more: memory, given back part by part.
-ghost use Rattle.std.specs.Prelude.{◌≡◌, ◌==◌, ◌<◌, IfSome, nat_lt};
+ghost use Rattle.std.specs.Prelude.{◌≡◌, ◌==◌, ◌<◌, ℕ, Some, None, IfSome, nat_lt};
 ghost use Rattle.std.specs.Option.{is_some};
-ghost use Rattle.log_levels.specs.Trades.{AreLent, Trades};
+ghost use Rattle.log_levels.specs.Trades.{used_in, AreLent, Trades};
 ghost use Rattle.log_method.specs.Retired.{used_of, top_of, GivesOneBack};
 
 use builder_trait::Builder;
@@ -44,7 +44,10 @@ impl<B: Builder> Retired<B> {
     pub fn top(&self) -> u32
         ensures { 0 < used_of self.now.levels → result ≡ top_of self.now.levels }
     {
-        highest_used(&self.levels).unwrap_or(0)
+        match highest_used(&self.levels) {
+            Some(level) => level,
+            None => 0,
+        }
     }
 
     /// Gives a part back to the store that lent it, if one is left: the oldest of the highest level that has any. One that is under
@@ -73,12 +76,20 @@ fn highest_used<B: Builder>(levels: &[Level<B>]) -> Option<u32>
     ensures some { is_some result ≡ nat_lt 0 (used_of levels.now) }
     ensures found { IfSome result (λ level. level ≡ top_of levels.now) }
 {
-    let (level, above) = levels.split_first()?;
-    if let Some(highest) = highest_used(above) {
-        return Some(highest);
+    match levels.split_first() {
+        Some((level, above)) => used_or(highest_used(above), level),
+        None => None,
     }
-    if level.is_idle() {
-        return None;
+}
+
+/// The number of a level that has a part, or one under construction, where there is no higher one that has any.
+fn used_or<B: Builder>(higher: Option<u32>, level: &Level<B>) -> Option<u32>
+    ensures above { (k : ℕ) → higher ≡ Some k → result ≡ Some k }
+    ensures here { higher ≡ None → is_some result ≡ nat_lt 0 (used_in level.now) }
+    ensures found { higher ≡ None → IfSome result (λ k. k ≡ level.now.level) }
+{
+    if higher.is_some() || level.is_idle() {
+        return higher;
     }
     Some(level.number())
 }
