@@ -94,6 +94,13 @@ impl<B: Builder> Level<B> {
         self.parts.is_empty() && self.construction.is_none()
     }
 
+    /// Whether a construction runs into the level.
+    pub fn is_building(&self) -> bool
+        ensures { result ≡ is_some self.now.construction }
+    {
+        self.construction.is_some()
+    }
+
     /// Whether a part may arrive here within two ticks, so that a construction into the next level may begin.
     pub fn is_due_soon(&self) -> bool
         ensures { result ≡ is_due 2 self.now }

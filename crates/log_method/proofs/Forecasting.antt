@@ -49,7 +49,7 @@ module _ {P Item : Type 0} where
       let other : (0 == (l.level + 1)) ≡ false = grind (arith, nat_tests) in rw other (omega (arith, none_at_zero n above))
 
   -- nor into the lowest of some levels
-  none_below : (n from k : ℕ) (levels : List (Slots P Item)) → AreInPlace from levels → k ≤ from → due_at n k levels ≡ 0
+  pub none_below : (n from k : ℕ) (levels : List (Slots P Item)) → AreInPlace from levels → k ≤ from → due_at n k levels ≡ 0
   none_below n from k [] h low = refl
   none_below n from k (l ∷ above) h low =
       let other : (k == (l.level + 1)) ≡ false = grind (arith, nat_tests, h.0, low) in

@@ -4,3 +4,5 @@ pub mod Forecasting
 pub mod Taking
 pub mod FewHeld
 pub mod GivingBack
+pub mod Fewness
+pub mod Topmost

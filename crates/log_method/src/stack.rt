@@ -7,7 +7,8 @@ ghost use Rattle.log_levels.specs.Asking.{AreThreeAtMost, HasAsked};
 ghost use Rattle.log_levels.specs.Cost.{IsCostOfInsert, IsCostOfDelete, ArePaid};
 ghost use Rattle.log_levels.specs.Towers.{AreOnTime};
 ghost use Rattle.log_levels.specs.Marking.{noted};
-ghost use Rattle.log_levels.specs.Trades.{wanted_at, IsStocked, Ticks};
+ghost use Rattle.log_levels.specs.Trades.{used_at, wanted_at, IsStocked, Ticks};
+ghost use Rattle.log_method.specs.Few.{HaveFew};
 ghost use Rattle.log_method.specs.Stack.{HaveSameItems, MayTick, Inserts, Deletes};
 ghost use Rattle.log_method.specs.Height.{IsHeight, HaveAtMost, HaveFewParts, size_of};
 ghost use Rattle.log_method.specs.Preparing.{AreKept, AreEnough, HasTaken, LendsOnly, HoldsFew, rooms_of};
@@ -198,6 +199,7 @@ impl<B: Builder> Stack<B> {
         ensures enough { IfOk result (λ _. weight_of self.new.levels < 2 ^ 31 → AreEnough self.new.levels) }
         ensures same { HaveSameItems B.Part.Part.contents self.old.levels self.new.levels }
         ensures each { AreKept self.old.levels self.new.levels }
+        ensures has_few { HaveFew self.new.levels }
     {
         add_levels(&mut self.levels, self.alloc)
     }
@@ -210,6 +212,24 @@ impl<B: Builder> Stack<B> {
         wanted(&self.levels, level)
     }
 
+    /// It does no work, and says how much of each level the stack has and may want.
+    pub fn tell_few(&self)
+        ensures { HaveFew self.now.levels }
+    {
+        let _opened = self.weight;
+    }
+
+    /// How many builders of a level the stack has, one that a part is made in too.
+    pub fn used(&self, level: u32) -> usize
+        ensures value { result ≡ used_at level self.now.levels }
+        ensures has_few { HaveFew self.now.levels }
+    {
+        match self.levels.get(level as usize) {
+            Some(at) => at.parts().len() + usize::from(at.is_building()),
+            None => 0,
+        }
+    }
+
     /// Takes all memory that the next two ticks may want, by forecast: levels, and what a store that serves no other stack has to keep.
     ///
     /// `NoMemory` where it isn't given; what was taken is kept.
@@ -218,6 +238,7 @@ impl<B: Builder> Stack<B> {
         ensures same { HaveSameItems B.Part.Part.contents self.old.levels self.new.levels }
         ensures each { AreKept self.old.levels self.new.levels }
         ensures taken { HasTaken (λ k. wanted_at 2 k self.new.levels) store.old store.new }
+        ensures has_few { HaveFew self.new.levels }
 
         // Of whichever level: three complete parts, one under construction, and what is wanted.
         ensures few { LendsOnly self.old.levels store.old → HoldsFew store.old store.new }

@@ -6,6 +6,7 @@ use Rattle.log_method.specs.Preparing.{HasRoomsBelow, HasTaken, LendsOnly}
 use Rattle.log_method.proofs.Forecasting.{IsStack-kept, in_place, quiet_enough, when_ok}
 use Rattle.log_method.proofs.Taking.{stocked}
 use Rattle.log_method.proofs.FewHeld.{few_held}
+use Rattle.log_method.proofs.Fewness.{have_few}
 use Rattle.log_method.proofs.stack.Stack.prepare.Given.{Over}
 use Rattle.log_method.proofs.stack.Stack.prepare.Goals as goal
 
@@ -23,6 +24,12 @@ invariant_of-self-2 g c =
     let h = c.self.invariant in
     let k = c.add_levels.ensures.kept in
     (IsStack-kept _ h.0 k, h.1 ∙ sym k.same.weight, h.2 ∙ ap length (sym k.same.live), h.3)
+
+pub returns-clause-has_few : goal.returns-clause-has_few
+returns-clause-has_few g c = have_few g.B.Part.Part.contents (profile g) _ (c.add_levels.ensures.kept.levels (profile g) c.self.invariant.0.levels)
+
+pub returns-in_err-add_levels-clause-has_few : goal.returns-in_err-add_levels-clause-has_few
+returns-in_err-add_levels-clause-has_few g c = have_few g.B.Part.Part.contents (profile g) _ (c.add_levels.ensures.kept.levels (profile g) c.self.invariant.0.levels)
 
 pub stock_levels-requires : goal.stock_levels-requires
 stock_levels-requires g c =
