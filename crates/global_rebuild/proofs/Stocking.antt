@@ -14,6 +14,10 @@ use Rattle.log_method.proofs.Forecasting.{none_at_zero}
 use Rattle.global_rebuild.specs.Index.{Shadow, Indexed, in_both, AreStocked, OwnsMemory}
 use Rattle.global_rebuild.proofs.Owning.{in_shadow, lent_to_main, lent_to_shadow, owns-main}
 
+-- above the lowest level constructions have tables, each its own
+tables_fit : (k n most : ℕ) → (k == 0) ≡ false → tables_for k n ≤ most → n ≤ most
+tables_fit k n most other has = rw other at has
+
 module _ {P Item : Type 0} where
   -- what is due within one tick is within two
   due_soon : (l : Slots P Item) → one_if (is_due 1 l) ≤ one_if (is_due 2 l)
@@ -135,7 +139,7 @@ module _ {P Item : Type 0} where
       at k has = elim (cases_eq k 0) [
         | inl first ↦ rw first (omega (arith, none_at_zero 2 main.levels, lowest shadow))
         | inr above ↦ let other : (k == 0) ≡ false = grind (arith, nat_tests, above) in
-            let some : in_both (wanted_at 2 k) main shadow ≤ kept_at k store.tables = rw other at has in
+            let some = tables_fit k (in_both (wanted_at 2 k) main shadow) (kept_at k store.tables) other has in
             let here : wanted_at 2 k main.levels ≡ due_at 2 k main.levels = rw other (omega arith) in
             omega (arith, some, here, due_shadow k other shadow)
       ]
