@@ -9,8 +9,11 @@ use Rattle.id_chain.proofs.Entries.{Apart-parts, item_at-linked, item_at-split, 
 use Rattle.id_chain.proofs.Stamps.{StampsRise-append}
 use Rattle.log_levels.specs.Slots.{IsPartOf}
 use Rattle.log_levels.specs.Levels.{live_items, all_items, weight_of}
+use Rattle.log_levels.specs.Trades.{Trades}
 use Rattle.log_method.specs.Stack.{Stacked}
+use Rattle.part_store.specs.Store.{Stored}
 use Rattle.global_rebuild.specs.Index.{Shadow, Indexed, IsShadowOf, IsIndexOf, IsIndex, IsPrepared}
+use Rattle.global_rebuild.proofs.Owning.{owns-main}
 use Rattle.global_rebuild.proofs.Walking.{Permuted-appended, below-appended, stamp_at-item}
 use Rattle.global_rebuild.proofs.Weights.{IsSoundOf, ended_all}
 
@@ -24,7 +27,7 @@ module _ {P Item : Type 0} (contents : P → Contents Item) (stamp : Item → �
       own = h.shadow r is
 
       at : (cursor : Option ℕ) → r.cursor ≡ cursor → IsShadowOf contents stamp r (front ++ e ∷ []) (stamp e.item + 1)
-      at None ended = let all = ended_all contents stamp i front h r own ended in absurd (omega (arith, all, (p.shadow r is).2))
+      at None ended = let all = ended_all contents stamp i front h r own ended in absurd (omega (arith, all, (p.shadow r is).1))
       at (Some handle) stands =
           let linked = subst (λ c. IsCursor c front) stands own.cursor in
           let there = item_at-linked handle front linked in
@@ -37,23 +40,24 @@ module _ {P Item : Type 0} (contents : P → Contents Item) (stamp : Item → �
             below = subst (λ n. All (λ x. stamp x < n) (all_items contents r.stack.levels)) (here ∙ sym now) own.below;
           }
 
-  pub appended : (main : Stacked P Item) → Permuted (live_items contents main.levels) (e.item ∷ live_items contents i.main.levels)
+  pub appended : (main : Stacked P Item) (store : Stored) → Trades i.main.levels i.store main.levels store → Permuted (live_items contents main.levels) (e.item ∷ live_items contents i.main.levels)
       → IsPartOf (all_items contents main.levels) (e.item ∷ all_items contents i.main.levels) → weight_of main.levels ≡ weight_of i.main.levels + 1
       → HandlesDiffer (front ++ e ∷ []) → length (front ++ e ∷ []) < 2 ^ 29
-      → IsSoundOf contents stamp (record { main = main; shadow = i.shadow; retired = i.retired }) (front ++ e ∷ []) (stamp e.item + 1)
-  appended main live items weight differ few =
+      → IsSoundOf contents stamp (record { store = store; main = main; shadow = i.shadow; retired = i.retired }) (front ++ e ∷ []) (stamp e.item + 1)
+  appended main store moves live items weight differ few =
       let more = Permuted-length live in (
         record {
           quiet = λ none. omega (arith, v.quiet none, more, weight);
           in_time = λ r is.
               let t = v.in_time r is in
-              let some = (p.shadow r is).2 in
+              let some = (p.shadow r is).1 in
               record {
                 few = omega (arith, t.few, more);
                 main_light = omega (arith, t.main_light, more, weight, some);
                 shadow_light = omega (arith, t.shadow_light, more, some);
               };
           left = v.left;
+          memory = owns-main v.memory main store moves;
         },
         record {
           live = Permuted-appended front e live h.live;

@@ -13,13 +13,16 @@ use Rattle.id_chain.proofs.Entries.{Apart-parts, Apart-without, HandlesDiffer-ap
 use Rattle.id_chain.proofs.Stamps.{StampsRise-without}
 use Rattle.log_levels.specs.Slots.{IsPartOf}
 use Rattle.log_levels.specs.Levels.{live_items, all_items, weight_of}
-use Rattle.log_method.specs.Stack.{Stacked}
+use Rattle.log_levels.specs.Trades.{Trades, Ticks}
+use Rattle.log_method.specs.Stack.{Stacked, Deletes}
+use Rattle.part_store.specs.Store.{Stored}
 use Rattle.log_levels.specs.Cost.{IsWithin}
 use Rattle.log_levels.proofs.Spending.{IsWithin-more, IsWithin-then}
-use Rattle.global_rebuild.specs.Index.{Shadow, Indexed, IsShadowOf, IsIndexOf, IsIndex, IsPrepared, IsInTime, IsQuiet, live_in, stamp_at, unwalked}
+use Rattle.global_rebuild.specs.Index.{Shadow, Indexed, OwnsMemory, IsShadowOf, IsIndexOf, IsIndex, IsPrepared, IsInTime, IsQuiet, live_in, stamp_at, unwalked}
 use Rattle.global_rebuild.proofs.Walking.{item_of, All-part}
 use Rattle.global_rebuild.proofs.Forgetting.{items_without, length-without_handle, IsShadowOf-deleted, IsShadowOf-moved, IsShadowOf-after, one_fewer, walked_live}
 use Rattle.global_rebuild.proofs.Weights.{IsSoundOf, as_many, shadow_light}
+use Rattle.global_rebuild.proofs.Owning.{owns-main, owns-fresh, owns-shadow, owns-moved}
 
 module _ {Item : Type 0} (handle : ℕ) (item : Item) (es : List (Entry Item)) (is : item_at handle es ≡ Some item) where
   abbrev entry : Entry Item
@@ -36,21 +39,20 @@ module _ {Item : Type 0} (handle : ℕ) (item : Item) (es : List (Entry Item)) (
       StampsRise-without stamp 0 (before handle es) entry (after handle es) stamps
       (subst (λ l. StampsRise stamp 0 l stamps) (split_at handle item es is) rise)
 
--- a prepared index of a chain with an item, what is seen of it, and its main stack without the item
+-- a prepared index of a chain with an item, what is seen of it, and its main stack without the item, with the store after that tick
 pub record IsDropped {P Item : Type 0} (contents : P → Contents Item) (stamp : Item → ℕ) (i now : Indexed P Item) (es : List (Entry Item)) (stamps handle : ℕ)
-    (item : Item) (main : Stacked P Item) : Type 0 where
+    (item : Item) (main : Stacked P Item) (store : Stored) : Type 0 where
   pub view : i ≡ now
   pub valid : IsIndex contents i
   pub prepared : IsPrepared contents now
   pub chain : IsIndexOf contents stamp now es stamps
   pub linked : is_linked handle es ≡ true
   pub is : item_at handle es ≡ Some item
-  pub live : Permuted (live_items contents main.levels) (without stamp (stamp item) (live_items contents i.main.levels))
-  pub items : IsPartOf (all_items contents main.levels) (all_items contents i.main.levels)
-  pub weight : weight_of main.levels ≡ weight_of i.main.levels
+  pub deletes : Deletes contents stamp (stamp item) i.main.levels main.levels
+  pub ticks : Ticks i.main.levels i.store main.levels store
 
 module _ {P Item : Type 0} {contents : P → Contents Item} {stamp : Item → ℕ} {i now : Indexed P Item} {es : List (Entry Item)} {stamps handle : ℕ} {item : Item}
-    {main : Stacked P Item} (f : IsDropped contents stamp i now es stamps handle item main) where
+    {main : Stacked P Item} {store : Stored} (f : IsDropped contents stamp i now es stamps handle item main store) where
   h : IsIndexOf contents stamp i es stamps
   h = subst (λ j. IsIndexOf contents stamp j es stamps) (sym f.view) f.chain
 
@@ -63,7 +65,7 @@ module _ {P Item : Type 0} {contents : P → Contents Item} {stamp : Item → �
   others_left : Permuted (live_items contents main.levels) (map item_of others)
   others_left =
       subst (Permuted (live_items contents main.levels)) (items_without stamp handle 0 item es stamps h.rise f.is)
-      (composed f.live (Permuted-filter (λ x. not (stamp x == stamp item)) h.live))
+      (composed f.deletes.live (Permuted-filter (λ x. not (stamp x == stamp item)) h.live))
 
   pub one_dropped : live_in contents main + 1 ≡ live_in contents i.main
   one_dropped =
@@ -72,21 +74,27 @@ module _ {P Item : Type 0} {contents : P → Contents Item} {stamp : Item → �
   pub few_left : 3 * live_in contents main + 16 < 2 ^ 64
   few_left = omega (arith, one_dropped, as_many contents stamp i es h, h.few)
 
-  -- with the main stack without the item, and this shadow, it is an index of the others
-  abbrev IsSoundWith : Option (Shadow P Item) → Type 0
-  IsSoundWith shadow = IsSoundOf contents stamp (record i { main = main; shadow = shadow }) others stamps
+  -- what is lent after the tick
+  pub owned : OwnsMemory (record i { store = store; main = main })
+  owned = owns-main f.valid.memory main store f.ticks.trades
 
-  sound : (shadow : Option (Shadow P Item)) → (shadow ≡ None → IsQuiet contents main)
-      → ((r : Shadow P Item) → shadow ≡ Some r → IsInTime contents 0 main r × IsShadowOf contents stamp r others stamps) → IsSoundWith shadow
-  sound shadow quiet some = (
+  -- with the main stack without the item, and this shadow, it is an index of the others
+  abbrev IsSoundWith : Stored → Option (Shadow P Item) → Type 0
+  IsSoundWith left shadow = IsSoundOf contents stamp (record i { store = left; main = main; shadow = shadow }) others stamps
+
+  sound : (left : Stored) (shadow : Option (Shadow P Item)) → OwnsMemory (record i { store = left; main = main; shadow = shadow })
+      → (shadow ≡ None → IsQuiet contents main)
+      → ((r : Shadow P Item) → shadow ≡ Some r → IsInTime contents 0 main r × IsShadowOf contents stamp r others stamps) → IsSoundWith left shadow
+  sound left shadow owns quiet some = (
     record {
       quiet = quiet;
       in_time = λ r there. (some r there).0;
       left = f.valid.left;
+      memory = owns;
     },
     record {
       live = others_left;
-      below = All-part (λ x. stamp x < stamps) (all_items contents main.levels) (all_items contents i.main.levels) f.items h.below;
+      below = All-part (λ x. stamp x < stamps) (all_items contents main.levels) (all_items contents i.main.levels) f.deletes.items h.below;
       shadow = λ r there. (some r there).1;
       rise = rise_without handle item es f.is stamp stamps h.rise;
       differ = HandlesDiffer-without handle item es f.is h.differ;
@@ -95,21 +103,22 @@ module _ {P Item : Type 0} {contents : P → Contents Item} {stamp : Item → �
   )
 
   -- no rebuild runs, and none starts
-  pub stays_quiet : i.shadow ≡ None → IsQuiet contents main → IsSoundWith i.shadow
-  stays_quiet none quiet = sound i.shadow (λ no. quiet) (λ r there. let wrong : Some r ≡ None = sym there ∙ none in absurd cc)
+  pub stays_quiet : i.shadow ≡ None → IsQuiet contents main → IsSoundWith store i.shadow
+  stays_quiet none quiet = sound store i.shadow owned (λ no. quiet) (λ r there. let wrong : Some r ≡ None = sym there ∙ none in absurd cc)
 
-  goes_on : (r : Shadow P Item) → IsInTime contents 0 main r → IsShadowOf contents stamp r others stamps → IsSoundWith (Some r)
-  goes_on r t own =
-      sound (Some r) (λ no. absurd cc)
+  goes_on : (left : Stored) (r : Shadow P Item) → OwnsMemory (record i { store = left; main = main; shadow = Some r }) → IsInTime contents 0 main r
+      → IsShadowOf contents stamp r others stamps → IsSoundWith left (Some r)
+  goes_on left r owns t own =
+      sound left (Some r) owns (λ no. absurd cc)
       (λ x there. let one : r ≡ x = cc in subst (λ s. IsInTime contents 0 main s × IsShadowOf contents stamp s others stamps) one (t, own))
 
   -- no rebuild runs, and one starts
   pub starts : i.shadow ≡ None → (cursor : Option ℕ) → IsCursor cursor others → before_cursor cursor others ≡ []
-      → IsSoundWith (Some (record { stack = record { levels = []; spare = 0; starters = 0 }; cursor = cursor }))
+      → IsSoundWith store (Some (record { stack = record { levels = [] }; cursor = cursor }))
   starts none cursor at first =
       let quiet = f.valid.quiet none in
-      goes_on (record { stack = record { levels = []; spare = 0; starters = 0 }; cursor = cursor })
-      (record { few = omega arith; main_light = omega (arith, quiet, one_dropped, f.weight); shadow_light = omega arith })
+      goes_on store (record { stack = record { levels = [] }; cursor = cursor }) (owns-fresh owned none cursor)
+      (record { few = omega arith; main_light = omega (arith, quiet, one_dropped, f.deletes.weight); shadow_light = omega arith })
       (record {
         cursor = at;
         live = subst (λ l. Permuted [] (map item_of l)) (sym first) nothing;
@@ -121,7 +130,7 @@ module _ {P Item : Type 0} {contents : P → Contents Item} {stamp : Item → �
     own = h.shadow r there
 
     ahead : IsInTime contents 4 i.main r
-    ahead = (p.shadow r there).1
+    ahead = (p.shadow r there).0
 
     pub walked_light : weight_of r.stack.levels < 2 ^ 31
     walked_light = omega (arith, shadow_light (f.valid.in_time r there) (omega (arith, as_many contents stamp i es h, h.few)))
@@ -134,36 +143,37 @@ module _ {P Item : Type 0} {contents : P → Contents Item} {stamp : Item → �
     walked_item walked = walked_live contents stamp r es stamps handle item h.rise own f.is walked
 
     -- it is dropped there too
-    pub goes_on_without : (r' : Shadow P Item) → r'.cursor ≡ r.cursor → is_linked handle (before_cursor r.cursor es) ≡ true
-        → Permuted (live_items contents r'.stack.levels) (without stamp (stamp item) (live_items contents r.stack.levels))
-        → IsPartOf (all_items contents r'.stack.levels) (all_items contents r.stack.levels) → weight_of r'.stack.levels ≡ weight_of r.stack.levels
-        → IsSoundWith (Some r')
-    goes_on_without r' same walked live items weight =
-        let one = one_fewer contents stamp r es stamps handle item h.rise own f.is (live_items contents r'.stack.levels) walked live in
-        subst (λ k. IsSoundWith (Some (record { stack = r'.stack; cursor = k }))) (sym same) (goes_on (record r { stack = r'.stack }) (record {
+    pub goes_on_without : (r' : Shadow P Item) (left : Stored) → r'.cursor ≡ r.cursor → is_linked handle (before_cursor r.cursor es) ≡ true
+        → Deletes contents stamp (stamp item) r.stack.levels r'.stack.levels → Trades r.stack.levels store r'.stack.levels left
+        → IsSoundWith left (Some r')
+    goes_on_without r' left same walked d moves =
+        let one = one_fewer contents stamp r es stamps handle item h.rise own f.is (live_items contents r'.stack.levels) walked d.live in
+        subst (λ k. IsSoundWith left (Some (record { stack = r'.stack; cursor = k }))) (sym same) (goes_on left (record r { stack = r'.stack })
+        (owns-shadow owned r there (record r { stack = r'.stack }) left moves) (record {
           few = omega (arith, ahead.few, one, one_dropped);
-          main_light = omega (arith, ahead.few, ahead.main_light, one, one_dropped, f.weight);
-          shadow_light = omega (arith, ahead.few, ahead.shadow_light, one, one_dropped, weight);
-        }) (IsShadowOf-deleted contents stamp r es stamps handle item h.rise own f.is r'.stack walked live items))
+          main_light = omega (arith, ahead.few, ahead.main_light, one, one_dropped, f.deletes.weight);
+          shadow_light = omega (arith, ahead.few, ahead.shadow_light, one, one_dropped, d.weight);
+        }) (IsShadowOf-deleted contents stamp r es stamps handle item h.rise own f.is r'.stack walked d.live d.items))
 
     in_time_at : (cursor : Option ℕ) → IsInTime contents 0 main (record r { cursor = cursor })
     in_time_at cursor =
-        let some = (p.shadow r there).2 in
+        let some = (p.shadow r there).1 in
         record {
           few = omega (arith, some, one_dropped);
-          main_light = omega (arith, ahead.main_light, some, one_dropped, f.weight);
+          main_light = omega (arith, ahead.main_light, some, one_dropped, f.deletes.weight);
           shadow_light = omega (arith, ahead.shadow_light, some, one_dropped);
         }
 
     -- the cursor was at it, and goes on
-    pub goes_on_moved : r.cursor ≡ Some handle → IsSoundWith (Some (record r { cursor = first_handle (after handle es) }))
+    pub goes_on_moved : r.cursor ≡ Some handle → IsSoundWith store (Some (record r { cursor = first_handle (after handle es) }))
     goes_on_moved at =
-        goes_on (record r { cursor = first_handle (after handle es) }) (in_time_at (first_handle (after handle es)))
+        goes_on store (record r { cursor = first_handle (after handle es) }) (owns-moved owned r there (first_handle (after handle es))) (in_time_at (first_handle (after handle es)))
         (IsShadowOf-moved contents stamp r es stamps handle item h.rise own f.is h.differ at)
 
     -- it comes after the cursor
-    pub goes_on_after : is_linked handle (before_cursor r.cursor es) ≡ false → r.cursor ≢ Some handle → IsSoundWith (Some r)
-    goes_on_after later other = goes_on r (in_time_at r.cursor) (IsShadowOf-after contents stamp r es stamps handle item h.rise own f.is later other)
+    pub goes_on_after : is_linked handle (before_cursor r.cursor es) ≡ false → r.cursor ≢ Some handle → IsSoundWith store (Some r)
+    goes_on_after later other =
+        goes_on store r (owns-moved owned r there r.cursor) (in_time_at r.cursor) (IsShadowOf-after contents stamp r es stamps handle item h.rise own f.is later other)
 
     -- as many are left after it is dropped, or one fewer
     module _ (old : Shadow P Item) (was : now.shadow ≡ Some old) where

@@ -1,5 +1,9 @@
 pub mod Walking
 pub mod Forgetting
+pub mod Owning
+pub mod Lending
+pub mod Taking
+pub mod Stocking
 pub mod Weights
 pub mod Appending
 pub mod Dropping

@@ -1,14 +1,20 @@
 -- A preparation: a walk, a swap where all items are handed over, and memory.
-use Rattle.std.proofs.Common.{◌≡◌, ◌≢◌, ℕ, ◌+◌, ◌-◌, ◌≤◌, ◌∙◌, ◌⊎◌, true, false, ⊎_elim, length, nat_le, Option, Some, None, List, sum_by, refl, ap, sym, subst, arith}
+use Rattle.std.proofs.Common.{◌≡◌, ◌≢◌, ℕ, ◌+◌, ◌-◌, ◌^◌, ◌<◌, ◌≤◌, ◌∙◌, ◌⊎◌, true, false, ⊎_elim, length, nat_le, Option, Some, None, List, sum_by, refl, ap, sym, subst, arith}
 use Rattle.std.proofs.lemmas.Bool.Decides.{nat_tests}
 use Rattle.builder_trait.specs.Parts.{Contents}
 use Rattle.id_chain.specs.Chain.{Entry}
 use Rattle.log_levels.specs.Levels.{live_items, weight_of}
-use Rattle.log_method.specs.Stack.{Stacked, memory_of}
-use Rattle.global_rebuild.specs.Index.{Shadow, Indexed, HandsOver, IsKept, IsIndexOf, IsInTime, live_in, to_walk, parts_in, retired_parts, IsWalkedOn, HasPaused}
+use Rattle.part_store.specs.Shelves.{kept_at, lent_at}
+use Rattle.part_store.specs.Store.{Stored}
+use Rattle.log_levels.specs.Slots.{Slots}
+use Rattle.log_levels.specs.Trades.{used_at, built_at}
+use Rattle.log_method.specs.Stack.{Stacked}
+use Rattle.log_method.specs.Retired.{used_of}
+use Rattle.global_rebuild.specs.Index.{Shadow, Indexed, HandsOver, IsKept, IsIndexOf, IsIndex, IsInTime, live_in, to_walk, in_both, in_retired, OwnsMemory, retired_parts, IsWalkedOn, HasPaused}
 use Rattle.global_rebuild.specs.Retiring.{with_retired}
-use Rattle.global_rebuild.proofs.Retiring.{with-memory}
-use Rattle.global_rebuild.proofs.Weights.{walked_few, ended_all}
+use Rattle.global_rebuild.proofs.Owning.{in_shadow}
+use Rattle.global_rebuild.proofs.Retiring.{with_both, used_none, built_none}
+use Rattle.global_rebuild.proofs.Weights.{walked_few, ended_all, as_many, main_light, shadow_light}
 
 -- what was before a walk, in which a shadow was there where one is
 module _ {P Item : Type 0} {contents : P → Contents Item} {most : ℕ} {old i : Indexed P Item} (p : HasPaused contents most old i) where
@@ -28,14 +34,6 @@ module _ {P Item : Type 0} {contents : P → Contents Item} {most : ℕ} {old i 
           let n = p.going x is in
           let one : n.0 ≡ r = let both : Some n.0 ≡ Some r = sym n.1 ∙ there in cc in (x, is, subst (HandsOver contents most x) one n.2)
 
-  -- it frees nothing
-  pub walked_parts : (k : ℕ) → parts_in k old ≤ parts_in k i
-  walked_parts k = cases old.shadow refl
-    where
-      cases : (o : Option (Shadow P Item)) → old.shadow ≡ o → parts_in k old ≤ parts_in k i
-      cases None is = rw (p.main, p.retired, is, p.none is) (omega arith)
-      cases (Some x) is = let n = p.going x is in rw (p.main, p.retired, is, n.1) (omega (arith, n.2.no_less k))
-
 -- what a swap makes of an index: a shadow that has all items takes the place of the main stack, and nothing else changes anything
 pub data IsSwapped {P Item : Type 0} (i : Indexed P Item) (main : Stacked P Item) (shadow : Option (Shadow P Item)) (retired : List (Stacked P Item)) : Type 0 where
   quiet : i.shadow ≡ None → main ≡ i.main → shadow ≡ None → retired ≡ i.retired → IsSwapped i main shadow retired
@@ -51,6 +49,34 @@ not_swapped {P} {Item} i {main} {shadow} {retired} some main_is shadow_is put = 
     cases : (o : Option (Shadow P Item)) → i.shadow ≡ o → IsSwapped i main shadow retired
     cases None none = quiet none main_is (shadow_is ∙ none) put
     cases (Some r) there = going r there (some r there) main_is (shadow_is ∙ there) put
+
+-- a swap moves all that stacks have, and lends none
+module _ {P Item : Type 0} {i : Indexed P Item} {main : Stacked P Item} {shadow : Option (Shadow P Item)} {retired : List (Stacked P Item)}
+    (s : IsSwapped i main shadow retired) where
+  swapped_all : (f : List (Slots P Item) → ℕ) → (used_of i.main.levels ≡ 0 → f i.main.levels ≡ 0)
+      → in_both f main shadow + in_retired f retired ≡ in_both f i.main i.shadow + in_retired f i.retired
+  swapped_all f nothing = elim s [
+    | quiet at same over put ↦
+        omega (arith, ap (λ m. f m.levels) same, ap (in_shadow f) at, ap (in_shadow f) over, ap (in_retired f) put)
+    | going r is at same same' put ↦
+        omega (arith, ap (λ m. f m.levels) same, ap (in_shadow f) is, ap (in_shadow f) same', ap (in_retired f) put)
+    | ended r is at same over put ↦
+        omega (arith, ap (λ m. f m.levels) same, ap (in_shadow f) is, ap (in_shadow f) over, ap (in_retired f) put, with_both i.retired i.main f nothing)
+  ]
+
+  swapped_both : (f : List (Slots P Item) → ℕ) → in_both f main shadow ≤ in_both f i.main i.shadow
+  swapped_both f = elim s [
+    | quiet at same over put ↦ omega (arith, ap (λ m. f m.levels) same, ap (in_shadow f) at, ap (in_shadow f) over)
+    | going r is at same same' put ↦ omega (arith, ap (λ m. f m.levels) same, ap (in_shadow f) is, ap (in_shadow f) same')
+    | ended r is at same over put ↦ omega (arith, ap (λ m. f m.levels) same, ap (in_shadow f) is, ap (in_shadow f) over)
+  ]
+
+  pub owns-swapped : (store : Stored) → store ≡ i.store → OwnsMemory i → OwnsMemory (record { store = store; main = main; shadow = shadow; retired = retired })
+  owns-swapped store same o = record {
+    lent = λ k. omega (arith, ap (λ x. lent_at k x.builders) same, o.lent k, swapped_all (used_at k) (used_none k i.main.levels));
+    lent_tables = λ k. omega (arith, ap (λ x. lent_at k x.tables) same, o.lent_tables k, swapped_all (built_at k) (built_none k i.main.levels));
+    few = λ k. omega (arith, ap (λ x. kept_at k x.builders) same, o.few k, swapped_both (used_at k));
+  }
 
 -- how much is left to walk, after a swap and what follows
 module _ {P Item : Type 0} {contents : P → Contents Item} {stamp : Item → ℕ} {i : Indexed P Item} {es : List (Entry Item)} {stamps : ℕ}
@@ -79,7 +105,7 @@ module _ {P Item : Type 0} {contents : P → Contents Item} {stamp : Item → �
     (p : HasPaused contents 4 old i)
     (taken : (x r : Shadow P Item) → old.shadow ≡ Some x → i.shadow ≡ Some r → (r.cursor ≡ None) ⊎ (live_in contents r.stack ≡ live_in contents x.stack + 4))
     (in_time : (r : Shadow P Item) → i.shadow ≡ Some r → r.cursor ≢ None → IsInTime contents 4 i.main r)
-    (one : retired_parts new ≡ sum_by memory_of retired - 1)
+    (one : retired_parts new ≡ in_retired used_of retired - 1)
     (live : live_items contents new.main.levels ≡ live_items contents main.levels) (weight : weight_of new.main.levels ≡ weight_of main.levels)
     (none : shadow ≡ None → new.shadow ≡ None)
     (some : (r : Shadow P Item) → shadow ≡ Some r → (r' : Shadow P Item) × (new.shadow ≡ Some r') × IsKept contents r r') where
@@ -90,7 +116,7 @@ module _ {P Item : Type 0} {contents : P → Contents Item} {stamp : Item → �
   same_weight same = weight ∙ ap (λ m. weight_of m.levels) (same ∙ p.main)
 
   one_fewer : retired ≡ i.retired → retired_parts new ≡ retired_parts old - 1
-  one_fewer put = one ∙ ap (λ rs. sum_by memory_of rs - 1) (put ∙ p.retired)
+  one_fewer put = one ∙ ap (λ rs. in_retired used_of rs - 1) (put ∙ p.retired)
 
   pub made : IsMade contents old new
   made = elim s [
@@ -143,8 +169,44 @@ module _ {P Item : Type 0} {contents : P → Contents Item} {stamp : Item → �
             walked = rw (none over, x.1, few);
             weight = rw (x.1, few) (omega (arith, weight, ap (λ m. weight_of m.levels) same, x.2.weight, x.2.no_fewer, all, total));
             shadow_weight = rw (none over, x.1, few);
-            retired = rw (x.1, few) (omega (arith, one, ap (sum_by memory_of) put, with-memory i.retired i.main, ap memory_of p.main, ap (sum_by memory_of) p.retired));
+            retired = rw (x.1, few) (omega (
+              arith,
+              one,
+              ap (in_retired used_of) put,
+              with_both i.retired i.main used_of (λ h. h),
+              ap (λ m. used_of m.levels) p.main,
+              ap (in_retired used_of) p.retired,
+            ));
           };
           ahead = gone over;
         }
+  ]
+
+-- after a swap and what follows both stacks are light
+module _ {P Item : Type 0} {contents : P → Contents Item} {stamp : Item → ℕ} {i : Indexed P Item} {es : List (Entry Item)} {stamps : ℕ}
+    {main : Stacked P Item} {shadow : Option (Shadow P Item)} {retired : List (Stacked P Item)} (h : IsIndexOf contents stamp i es stamps) (v : IsIndex contents i)
+    (s : IsSwapped i main shadow retired) where
+  light_before : (r : Shadow P Item) → i.shadow ≡ Some r → weight_of r.stack.levels < 2 ^ 31
+  light_before r there = omega (arith, shadow_light (v.in_time r there) (omega (arith, as_many contents stamp i es h, h.few)))
+
+  pub settled_light : (main' : Stacked P Item) → weight_of main'.levels ≡ weight_of main.levels → weight_of main'.levels < 2 ^ 31
+  settled_light main' same = omega (arith, same, before)
+    where
+      before : weight_of main.levels < 2 ^ 31
+      before = elim s [
+        | quiet at is over put ↦ rw is (main_light refl v h)
+        | going r at still is is' put ↦ rw is (main_light refl v h)
+        | ended r at over is none put ↦ rw is (light_before r at)
+      ]
+
+  pub settled_light_too : (shadow' : Option (Shadow P Item)) → (shadow ≡ None → shadow' ≡ None)
+      → ((r : Shadow P Item) → shadow ≡ Some r → (r' : Shadow P Item) × (shadow' ≡ Some r') × IsKept contents r r') → (r' : Shadow P Item) → shadow' ≡ Some r'
+      → weight_of r'.stack.levels < 2 ^ 31
+  settled_light_too shadow' none some r' there = elim s [
+    | quiet at is over put ↦ let wrong : None ≡ Some r' = sym (none over) ∙ there in absurd cc
+    | going r at still is is' put ↦
+        let k = some r is' in
+        let one : k.0 ≡ r' = let both : Some k.0 ≡ Some r' = sym k.1 ∙ there in cc in
+        omega (arith, ap (λ (x : Shadow P Item). weight_of x.stack.levels) one, k.2.weight, light_before r at)
+    | ended r at over is empty put ↦ let wrong : None ≡ Some r' = sym (none empty) ∙ there in absurd cc
   ]

@@ -12,9 +12,13 @@ use Rattle.id_chain.specs.Chain.{Entry, is_linked, before, IsCursor, before_curs
 use Rattle.log_levels.specs.Levels.{weight_of}
 use Rattle.log_levels.specs.Cost.{IsWithin}
 use Rattle.log_levels.proofs.Spending.{IsWithin-times}
-use Rattle.log_method.specs.Stack.{Stacked, memory_of}
-use Rattle.log_method.specs.Retired.{parts_at}
+use Rattle.log_method.specs.Stack.{Stacked}
+use Rattle.log_method.specs.Retired.{used_of}
+use Rattle.part_store.specs.Store.{Stored}
 use Rattle.global_rebuild.specs.Index.{Shadow, Indexed, HandsOver, HasPaused, IsShadowOf, IsIndexOf, IsIndex, IsInTime, live_in}
+use Rattle.global_rebuild.specs.Index.{OwnsMemory}
+use Rattle.global_rebuild.specs.Memory.{HoldsNoLess}
+use Rattle.global_rebuild.proofs.Owning.{owns-empty}
 use Rattle.global_rebuild.proofs.Walking.{item_of}
 
 module _ {Item : Type 0} where
@@ -29,23 +33,26 @@ module _ {Item : Type 0} where
   few_before (Some handle) es linked = inr ((λ none. absurd cc), length-before handle es linked)
 
 module _ {P Item : Type 0} (contents : P → Contents Item) where
-  pub IsIndex-empty : IsIndex contents (record { main = record { levels = []; spare = 0; starters = 0 }; shadow = None; retired = [] })
-  IsIndex-empty = record { quiet = λ none. omega arith; in_time = λ r is. absurd cc; left = All-nil (λ s. 0 < memory_of s) }
+  pub IsIndex-empty : IsIndex contents (record { store = record { builders = []; tables = [] }; main = record { levels = [] }; shadow = None; retired = [] })
+  IsIndex-empty = record { quiet = λ none. omega arith; in_time = λ r is. absurd cc; left = All-nil (λ s. 0 < used_of s.levels); memory = owns-empty }
 
-  -- only the shadow is another
-  pub IsIndex-shadow : (i : Indexed P Item) (r : Shadow P Item) → IsIndex contents i → IsInTime contents 0 i.main r → IsIndex contents (record i { shadow = Some r })
-  IsIndex-shadow i r v t = record {
+  -- only the shadow is another, and the store
+  pub IsIndex-shadow : (i : Indexed P Item) (r : Shadow P Item) (store : Stored) → IsIndex contents i → IsInTime contents 0 i.main r
+      → OwnsMemory (record i { store = store; shadow = Some r }) → IsIndex contents (record i { store = store; shadow = Some r })
+  IsIndex-shadow i r store v t owns = record {
     quiet = λ none. absurd cc;
     in_time = λ r' is. let one : r ≡ r' = cc in subst (IsInTime contents 0 i.main) one t;
     left = v.left;
+    memory = owns;
   }
 
   -- and has taken items
-  pub paused : (i : Indexed P Item) (r r' : Shadow P Item) {most : ℕ} → i.shadow ≡ Some r → HandsOver contents most r r'
-      → HasPaused contents most i (record i { shadow = Some r' })
-  paused i r r' {most} there h = record {
+  pub paused : (i : Indexed P Item) (r r' : Shadow P Item) (store : Stored) {most : ℕ} → i.shadow ≡ Some r → HandsOver contents most r r'
+      → HoldsNoLess i.store store → HasPaused contents most i (record i { store = store; shadow = Some r' })
+  paused i r r' store {most} there h no_less = record {
     main = refl;
     retired = refl;
+    no_less = no_less;
     none = λ none. let wrong : Some r ≡ None = sym there ∙ none in absurd cc;
     going = λ x is.
         let one : r ≡ x = let both : Some r ≡ Some x = sym there ∙ is in cc in (r', refl, subst (λ y. HandsOver contents most y r') one h);
@@ -56,7 +63,7 @@ module _ {P Item : Type 0} (contents : P → Contents Item) (stamp : Item → �
   abbrev pub IsSoundOf : Indexed P Item → List (Entry Item) → ℕ → Type 0
   IsSoundOf i es stamps = IsIndex contents i × IsIndexOf contents stamp i es stamps
 
-  pub IsIndexOf-empty : IsIndexOf contents stamp (record { main = record { levels = []; spare = 0; starters = 0 }; shadow = None; retired = [] }) [] 0
+  pub IsIndexOf-empty : IsIndexOf contents stamp (record { store = record { builders = []; tables = [] }; main = record { levels = [] }; shadow = None; retired = [] }) [] 0
   IsIndexOf-empty = record {
     live = nothing;
     below = All-nil (λ x. stamp x < 0);
@@ -96,8 +103,8 @@ four_ticks n turns marks h = IsWithin-times (min 4 n) 4 turns marks (omega arith
 
 module _ {P Item : Type 0} {contents : P → Contents Item} {r r' : Shadow P Item} {most : ℕ} where
   pub handed_over : (n : ℕ) → live_in contents r'.stack ≡ live_in contents r.stack + n → weight_of r'.stack.levels ≡ weight_of r.stack.levels + n
-      → ((k : ℕ) → parts_at k r.stack ≤ parts_at k r'.stack) → n ≤ most → HandsOver contents most r r'
-  handed_over n live weight no_less few = record { no_fewer = omega arith; at_most = omega arith; weight = omega arith; no_less = no_less }
+      → n ≤ most → HandsOver contents most r r'
+  handed_over n live weight few = record { no_fewer = omega arith; at_most = omega arith; weight = omega arith }
 
   -- a stack that gets items weighs no less
   pub lighter : {bound : ℕ} → HandsOver contents most r r' → weight_of r'.stack.levels < bound → weight_of r.stack.levels < bound
@@ -105,8 +112,7 @@ module _ {P Item : Type 0} {contents : P → Contents Item} {r r' : Shadow P Ite
 
   -- some items, and then some more
   pub handed_then : {a b : ℕ} {mid : Shadow P Item} → HandsOver contents a r mid → HandsOver contents b mid r' → a + b ≤ most → HandsOver contents most r r'
-  handed_then first second few =
-      record { no_fewer = omega arith; at_most = omega arith; weight = omega arith; no_less = λ k. omega (arith, first.no_less k, second.no_less k) }
+  handed_then first second few = record { no_fewer = omega arith; at_most = omega arith; weight = omega arith }
 
 -- a shadow that is in time
 module _ {P Item : Type 0} {contents : P → Contents Item} {main : Stacked P Item} {r : Shadow P Item} (t : IsInTime contents 0 main r) where

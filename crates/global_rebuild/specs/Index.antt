@@ -5,21 +5,25 @@ use Rattle.query_laws.specs.Permuted.{Permuted}
 use Rattle.builder_trait.specs.Parts.{Contents}
 use Rattle.id_chain.specs.Chain.{Entry, HandlesDiffer, is_linked, item_at, IsCursor, before_cursor}
 use Rattle.id_chain.specs.StampsRise.{StampsRise}
-use Rattle.log_levels.specs.Slots.{Slots, one_if}
+use Rattle.part_store.specs.Shelves.{kept_at, lent_at}
+use Rattle.part_store.specs.Store.{Stored, KeepsBoth}
+use Rattle.log_levels.specs.Slots.{Slots}
 use Rattle.log_levels.specs.Levels.{live_items, all_items, weight_of, waiting_of, parts_asked}
 use Rattle.log_levels.specs.Marking.{noted}
-use Rattle.log_method.specs.Stack.{Stacked, held_by_level, memory_of}
-use Rattle.log_method.specs.Rooms.{rooms_of, forecast_of}
-use Rattle.log_method.specs.Retired.{parts_at, top_of, complete_at}
+use Rattle.log_levels.specs.Trades.{used_at, built_at, due_at, wanted_at, IsQuiet as StaysQuiet}
+use Rattle.log_method.specs.Stack.{Stacked}
+use Rattle.log_method.specs.Retired.{used_of}
+use Rattle.global_rebuild.specs.Memory.{HoldsNoLess, FreesOneOf}
 
 -- the stack that is being made, and the cursor of the walk along the chain: the handle of the item that comes next
 pub record Shadow (P Item : Type 0) : Type 0 where
   pub stack : Stacked P Item
   pub cursor : Option ℕ
 
--- An index: the stack that answers; the shadow, while a rebuild runs; and what is left of the stacks that earlier rebuilds put out of use, oldest
--- first.
+-- An index: the store that has all its memory; the stack that answers; the shadow, while a rebuild runs; and what is left of the stacks that earlier
+-- rebuilds put out of use, oldest first.
 pub record Indexed (P Item : Type 0) : Type 0 where
+  pub store : Stored
   pub main : Stacked P Item
   pub shadow : Option (Shadow P Item)
   pub retired : List (Stacked P Item)
@@ -35,37 +39,56 @@ module _ {Item : Type 0} (stamp : Item → ℕ) where
   stamp_at None es stamps = stamps
   stamp_at (Some handle) es stamps = option_map_or stamp (item_at handle es) stamps
 
--- how many parts of retired stacks are still in memory
-abbrev pub retired_parts : {P Item : Type 0} → Indexed P Item → ℕ
-retired_parts i = sum_by memory_of i.retired
+module _ {P Item : Type 0} where
+  -- how much the main stack and the shadow have of something
+  abbrev pub in_both : (List (Slots P Item) → ℕ) → Stacked P Item → Option (Shadow P Item) → ℕ
+  in_both count main shadow = count main.levels + option_map_or (λ r. count r.stack.levels) shadow 0
 
--- how many parts of level k are in memory, of whichever stack
-abbrev pub parts_in : {P Item : Type 0} → ℕ → Indexed P Item → ℕ
-parts_in k i = parts_at k i.main + option_map_or (λ r. parts_at k r.stack) i.shadow 0 + sum_by (parts_at k) i.retired
+  -- how much stacks have that are out of use
+  abbrev pub in_retired : (List (Slots P Item) → ℕ) → List (Stacked P Item) → ℕ
+  in_retired count retired = sum_by (λ s. count s.levels) retired
+
+  -- how many parts of retired stacks are still in memory
+  abbrev pub retired_parts : Indexed P Item → ℕ
+  retired_parts i = in_retired used_of i.retired
+
+  -- All that is lent is had by main stack, shadow or retired stacks, and they have no more. Of each level the store keeps, and the two stacks have,
+  -- ten builders together at most.
+  --
+  -- Of one stack these are five, with those that it may want. Over a thousand lists of updates, at random and in bursts, with memory refused in many,
+  -- both stacks together had and wanted ten builders of a level at once, and the tables of four constructions, and no more; of retired stacks one at
+  -- most was left, of thirty parts at most, which came back before the next rebuild began. So ten are never too few in steady churn: there memory is
+  -- what is in use at its peak, nothing is freed, and from the third rebuild on nothing is taken where the oldest or the newest item is dropped each
+  -- time; where any one is, now and then a room, as the peak differs. A layer that went from 65,536 items to ten has memory for 377 then, and for 185
+  -- a hundred updates later.
+  --
+  -- Each move keeps it. What a tick takes is kept no longer; a swap lowers the sum; memory is taken only where a stack wants more than is kept. Only a
+  -- retired part that comes back raises it, by one: where it is then the eleventh, one is freed at once. What is kept of the retired stacks' own parts
+  -- isn't in the sum, so that it holds before they come back.
+  pub record OwnsMemory (i : Indexed P Item) : Type 0 where
+    pub lent : (k : ℕ) → lent_at k i.store.builders ≡ in_both (used_at k) i.main i.shadow + in_retired (used_at k) i.retired
+    pub lent_tables : (k : ℕ) → lent_at k i.store.tables ≡ in_both (built_at k) i.main i.shadow + in_retired (built_at k) i.retired
+    pub few : (k : ℕ) → kept_at k i.store.builders + in_both (used_at k) i.main i.shadow ≤ 10
+
+  -- of each level as much is in memory, lent or not, and no stack that is out of use gave anything back
+  pub record HoldsAsMuch (old new : Indexed P Item) : Type 0 where
+    pub store : KeepsBoth old.store new.store
+    pub retired : new.retired ≡ old.retired
+
+  -- so many ticks of both stacks find in a store what they may take
+  pub record AreStocked (ticks : ℕ) (main : Stacked P Item) (shadow : Option (Shadow P Item)) (store : Stored) : Type 0 where
+    pub builders : (k : ℕ) → in_both (wanted_at ticks k) main shadow ≤ kept_at k store.builders
+    pub tables : (k : ℕ) → in_both (due_at ticks k) main shadow ≤ kept_at k store.tables
+    pub quiet : StaysQuiet ticks main.levels
+    pub quiet_too : (r : Shadow P Item) → shadow ≡ Some r → StaysQuiet ticks r.stack.levels
 
 -- the weight of the shadow, 0 where none is being made
 abbrev pub shadow_weight : {P Item : Type 0} → Indexed P Item → ℕ
 shadow_weight i = option_map_or (λ r. weight_of r.stack.levels) i.shadow 0
 
--- the weight of the rooms that the shadow holds, 0 where none is being made
-abbrev pub shadow_rooms : {P Item : Type 0} → Indexed P Item → ℕ
-shadow_rooms i = option_map_or (λ r. rooms_of r.stack) i.shadow 0
-
 -- the items that wait to be marked, in the constructions of either stack
 abbrev pub waiting_of_both : {P Item : Type 0} → Indexed P Item → ℕ
 waiting_of_both i = waiting_of i.main.levels + option_map_or (λ r. waiting_of r.stack.levels) i.shadow 0
-
--- no memory was taken and none was freed: each stack holds what it held on each level, a shadow that is new holds none, and the
--- retired stacks are as they were
-pub record HoldsAsMuch {P Item : Type 0} (old new : Indexed P Item) : Type 0 where
-  pub main : held_by_level new.main ≡ held_by_level old.main
-  pub shadow : (r r' : Shadow P Item) → old.shadow ≡ Some r → new.shadow ≡ Some r' → held_by_level r'.stack ≡ held_by_level r.stack
-  pub fresh : old.shadow ≡ None → (r' : Shadow P Item) → new.shadow ≡ Some r' → held_by_level r'.stack ≡ record { parts = 0; tables = 0 } ∷ []
-  pub retired : new.retired ≡ old.retired
-
--- a stack holds no more rooms than may be wanted within two ticks
-abbrev pub IsForecast : {P Item : Type 0} → Stacked P Item → Type 0
-IsForecast s = rooms_of s ≤ 2 + forecast_of s.levels
 
 module _ {P Item : Type 0} (contents : P → Contents Item) where
   -- how many items are live in a stack
@@ -79,12 +102,11 @@ module _ {P Item : Type 0} (contents : P → Contents Item) where
     pub items : all_items contents r'.stack.levels ≡ all_items contents r.stack.levels
     pub weight : weight_of r'.stack.levels ≡ weight_of r.stack.levels
 
-  -- a walk handed over so many items at most: each is live and weighs one, and of each level no less is in memory
+  -- a walk handed over so many items at most: each is live and weighs one
   pub record HandsOver (most : ℕ) (old new : Shadow P Item) : Type 0 where
     pub no_fewer : live_in old.stack ≤ live_in new.stack
     pub at_most : live_in new.stack ≤ live_in old.stack + most
     pub weight : weight_of new.stack.levels + live_in old.stack ≡ weight_of old.stack.levels + live_in new.stack
-    pub no_less : (k : ℕ) → parts_at k old.stack ≤ parts_at k new.stack
 
   -- how much of the weight is dead
   abbrev pub dead_in : Stacked P Item → ℕ
@@ -106,10 +128,10 @@ module _ {P Item : Type 0} (contents : P → Contents Item) where
   abbrev pub shadow_weight_on : Indexed P Item → ℕ
   shadow_weight_on i = option_map_or (λ w. if nat_le w 4 then 0 else shadow_weight i + 4) (unwalked i) 0
 
-  -- how many parts of retired stacks are in memory then, of which one is given up
+  -- how many parts of retired stacks are in memory then, of which one is given back
   abbrev pub retired_parts_on : Indexed P Item → ℕ
   retired_parts_on i =
-      option_map_or (λ w. if nat_le w 4 then memory_of i.main + retired_parts i else retired_parts i) (unwalked i) (retired_parts i) - 1
+      option_map_or (λ w. if nat_le w 4 then used_of i.main.levels + retired_parts i else retired_parts i) (unwalked i) (retired_parts i) - 1
 
   -- what a preparation makes of a walk and of the weights: the walk goes on by four, and ends the rebuild where it comes by all
   pub record IsWalkedOn (old new : Indexed P Item) : Type 0 where
@@ -118,23 +140,23 @@ module _ {P Item : Type 0} (contents : P → Contents Item) where
     pub shadow_weight : shadow_weight new ≡ shadow_weight_on old
     pub retired : retired_parts new ≡ retired_parts_on old
 
-  -- a walk that pauses: some items were handed over, so many at most, and nothing else changed
+  -- a walk that pauses: some items were handed over, so many at most, memory may have been taken, and nothing else changed
   pub record HasPaused (most : ℕ) (old new : Indexed P Item) : Type 0 where
     pub main : new.main ≡ old.main
     pub retired : new.retired ≡ old.retired
+    pub no_less : HoldsNoLess old.store new.store
     pub none : old.shadow ≡ None → new.shadow ≡ None
     pub going : (r : Shadow P Item) → old.shadow ≡ Some r → (r' : Shadow P Item) × (new.shadow ≡ Some r') × HandsOver most r r'
 
-  -- one part was freed at most, of the highest level t of these levels, and none of another level. None that was complete there had more than 2 ^ t items.
-  pub record FreesOneOf (levels : List (Slots P Item)) (old new : Indexed P Item) : Type 0 where
-    pub at : (k : ℕ) → parts_in k old ≤ parts_in k new + one_if (k == top_of levels)
-    pub sizes : All (λ p. length (contents p).items ≤ 2 ^ top_of levels) (complete_at (top_of levels) levels)
+  -- memory of a level may be freed: as much is there as both stacks may have at once, or the level is above the greatest of an index of its size
+  pub data IsSpare (level : ℕ) (main : Stacked P Item) (shadow : Option (Shadow P Item)) (store : Stored) : Type 0 where
+    enough : 10 ≤ kept_at level store.builders + in_both (used_at level) main shadow → IsSpare level main shadow store
+    too_high : 2 * live_in main + 10 < 2 ^ level → IsSpare level main shadow store
 
-  -- of each level no less is in memory; or one part was freed, of the main stack, whose rebuild ends, or of a stack that is out of use
-  pub data FreesOne (old new : Indexed P Item) : Type 0 where
-    none : ((k : ℕ) → parts_in k old ≤ parts_in k new) → FreesOne old new
-    of_main : is_some old.shadow ≡ true → is_some new.shadow ≡ false → FreesOneOf old.main.levels old new → FreesOne old new
-    of_retired : (s : Stacked P Item) → Contains old.retired s → FreesOneOf s.levels old new → FreesOne old new
+  -- of each level no less is in memory; or a builder or tables of one level were freed, which were spare
+  pub data FreesOne (old : Stored) (main : Stacked P Item) (shadow : Option (Shadow P Item)) (new : Stored) : Type 0 where
+    none : HoldsNoLess old new → FreesOne old main shadow new
+    one : (level : ℕ) → FreesOneOf level old new → IsSpare level main shadow new → FreesOne old main shadow new
 
   -- more of a stack's weight is dead than half of what is live, and eight
   abbrev pub is_heavy : Stacked P Item → Bool
@@ -152,15 +174,15 @@ module _ {P Item : Type 0} (contents : P → Contents Item) where
 
   -- an index that is ready for an update: memory is there for a delete, and while a rebuild runs it is four items ahead, and some are left
   pub record IsPrepared (i : Indexed P Item) : Type 0 where
-    pub main : 1 ≤ i.main.spare
-    pub shadow : (r : Shadow P Item) → i.shadow ≡ Some r
-        → (1 ≤ r.stack.spare) × IsInTime 4 i.main r × (1 ≤ live_in i.main - live_in r.stack)
+    pub stocked : AreStocked 1 i.main i.shadow i.store
+    pub shadow : (r : Shadow P Item) → i.shadow ≡ Some r → IsInTime 4 i.main r × (1 ≤ live_in i.main - live_in r.stack)
 
   -- What holds of an index between any two calls: the inequalities at the head of src/lib.rt.
   pub record IsIndex (i : Indexed P Item) : Type 0 where
     pub quiet : i.shadow ≡ None → IsQuiet i.main
     pub in_time : (r : Shadow P Item) → i.shadow ≡ Some r → IsInTime 0 i.main r
-    pub left : All (λ s. 0 < memory_of s) i.retired
+    pub left : All (λ s. 0 < used_of s.levels) i.retired
+    pub memory : OwnsMemory i
 
   module _ (stamp : Item → ℕ) where
     -- what a delete asks of a stack that has the item: a mark of each part up to the one in which it lives, and of each construction in which it comes to wait

@@ -1,21 +1,41 @@
--- Stacks that are put out of use, and one of their parts that is given up.
-use Rattle.std.specs.Prelude.{◌≡◌, ℕ, ◌+◌, ◌^◌, ◌≤◌, ◌==◌, ◌++◌, ◌∷◌, [], List, All, if◌then◌else◌, nat_lt, length, sum_by}
+-- Stacks that are put out of use, and one of their parts that is given back.
+use Rattle.std.specs.Prelude.{◌≡◌, ℕ, ◌+◌, ◌-◌, ◌≤◌, ◌==◌, ◌++◌, ◌∷◌, [], List, Option, if◌then◌else◌, nat_lt}
+use Rattle.part_store.specs.Shelves.{one_if, kept_at, lent_at}
+use Rattle.part_store.specs.Store.{Stored, KeepsBoth}
 use Rattle.builder_trait.specs.Parts.{Contents}
-use Rattle.log_levels.specs.Slots.{one_if}
-use Rattle.log_method.specs.Stack.{Stacked, memory_of}
-use Rattle.log_method.specs.Retired.{parts_at, top_of, complete_at}
+use Rattle.log_levels.specs.Trades.{used_at, built_at}
+use Rattle.log_method.specs.Stack.{Stacked}
+use Rattle.log_method.specs.Retired.{used_of}
+use Rattle.global_rebuild.specs.Index.{Shadow, in_both, in_retired, IsSpare}
+use Rattle.global_rebuild.specs.Memory.{FreesOneAt}
 
 module _ {P Item : Type 0} where
   -- a stack is put out of use after others, where a part of it is in memory
   abbrev pub with_retired : List (Stacked P Item) → Stacked P Item → List (Stacked P Item)
-  with_retired retired s = if nat_lt 0 (memory_of s) then retired ++ record s { spare = 0 } ∷ [] else retired
+  with_retired retired s = if nat_lt 0 (used_of s.levels) then retired ++ s ∷ [] else retired
 
-  -- of the last of some retired stacks a part is given up, which another stack may keep
-  pub data IsGivenUp (contents : P → Contents Item) (main : Stacked P Item) (retired : List (Stacked P Item)) (main' : Stacked P Item)
-      (retired' : List (Stacked P Item)) : Type 0 where
-    empty : retired ≡ [] → retired' ≡ [] → main' ≡ main → IsGivenUp contents main retired main' retired'
-    given : (before : List (Stacked P Item)) (last : Stacked P Item) → retired ≡ before ++ last ∷ []
-        → sum_by memory_of retired' + 1 ≡ sum_by memory_of retired
-        → ((k : ℕ) → parts_at k main + sum_by (parts_at k) retired ≤ parts_at k main' + sum_by (parts_at k) retired' + one_if (k == top_of last.levels))
-        → All (λ p. length (contents p).items ≤ 2 ^ top_of last.levels) (complete_at (top_of last.levels) last.levels)
-        → IsGivenUp contents main retired main' retired'
+  -- a part of a level is given back to the store by retired stacks, where they have any: of that level alone more builders may be kept, by one
+  pub record GivesBack (level : ℕ) (retired : List (Stacked P Item)) (store : Stored) (retired' : List (Stacked P Item)) (store' : Stored) : Type 0 where
+    pub one : in_retired used_of retired' ≡ in_retired used_of retired - 1
+    pub keeps : KeepsBoth store store'
+    pub lent : (k : ℕ) → lent_at k store'.builders + in_retired (used_at k) retired ≡ lent_at k store.builders + in_retired (used_at k) retired'
+    pub lent_tables : (k : ℕ) → lent_at k store'.tables + in_retired (built_at k) retired ≡ lent_at k store.tables + in_retired (built_at k) retired'
+    pub kept : (k : ℕ) → kept_at k store'.builders ≤ kept_at k store.builders + one_if (k == level)
+
+  -- nothing changes, or spare memory of one level is freed
+  pub data FreesSpare (contents : P → Contents Item) (main : Stacked P Item) (shadow : Option (Shadow P Item)) (old new : Stored) : Type 0 where
+    none : new ≡ old → FreesSpare contents main shadow old new
+    one : (level : ℕ) → FreesOneAt level old new → IsSpare contents level main shadow new → FreesSpare contents main shadow old new
+
+  -- memory is taken for both stacks, which have as much of the store: of each level no less is kept, and with what they have no more than ten
+  -- builders, where there weren't more
+  pub record TakeMemory (main : Stacked P Item) (shadow : Option (Shadow P Item)) (store : Stored) (main' : Stacked P Item)
+      (shadow' : Option (Shadow P Item)) (store' : Stored) : Type 0 where
+    pub used : (k : ℕ) → in_both (used_at k) main' shadow' ≡ in_both (used_at k) main shadow
+    pub built : (k : ℕ) → in_both (built_at k) main' shadow' ≡ in_both (built_at k) main shadow
+    pub lent : (k : ℕ) → lent_at k store'.builders ≡ lent_at k store.builders
+    pub lent_tables : (k : ℕ) → lent_at k store'.tables ≡ lent_at k store.tables
+    pub kept : (k : ℕ) → kept_at k store.builders ≤ kept_at k store'.builders
+    pub kept_tables : (k : ℕ) → kept_at k store.tables ≤ kept_at k store'.tables
+    pub few : (k : ℕ) → let before = kept_at k store.builders + in_both (used_at k) main shadow in
+        kept_at k store'.builders + in_both (used_at k) main' shadow' ≤ before + (10 - before)

@@ -1,23 +1,26 @@
 //! The index.
-ghost use Rattle.std.specs.Prelude.{◌≡◌, ℕ, ◌+◌, ◌-◌, ◌*◌, ◌^◌, ◌<◌, ◌≤◌, ◌⊎◌, ◌++◌, ◌∷◌, [], All, List, None, Some, true, false, if◌then◌else◌, IfOk, IsTrue, IsErr, OnErr, length, min, vec_capacity, map};
-ghost use Rattle.std.specs.Option.{option_map, option_map_or};
+ghost use Rattle.std.specs.Prelude.{◌≡◌, ◌==◌, ℕ, ◌+◌, ◌-◌, ◌*◌, ◌^◌, ◌<◌, ◌≤◌, ◌⊎◌, ◌++◌, ◌∷◌, [], All, List, None, Some, true, false, if◌then◌else◌, IfOk, IfSome, IsTrue, IsErr, OnErr, length, min, vec_capacity, map};
+ghost use Rattle.std.specs.Option.{option_map};
 ghost use Rattle.query_laws.specs.StepLedger.{Consults};
 ghost use Rattle.query_laws.specs.declared.item.Order.TheVariants.{First};
 ghost use Rattle.id_chain.specs.Chain.{Entry, HandlesDiffer, is_linked, item_at, IsCursor, before_cursor, without_handle};
 ghost use Rattle.log_levels.specs.Levels.{live_items, all_items, waiting_of, weight_of, parts_of, touches_of};
-ghost use Rattle.log_method.specs.Stack.{memory_of};
-ghost use Rattle.log_method.specs.Rooms.{rooms_of};
-ghost use Rattle.log_method.specs.Retired.{parts_at};
+ghost use Rattle.part_store.specs.Shelves.{one_if, kept_at, lent_at};
+ghost use Rattle.log_levels.specs.Trades.{used_at, built_at, wanted_at};
+ghost use Rattle.log_method.specs.Retired.{used_of};
+ghost use Rattle.log_method.specs.Preparing.{AreKept, AreEnough, HasTaken, HasRoomsBelow};
+ghost use Rattle.log_method.specs.Few.{HaveFew};
 ghost use Rattle.log_method.specs.Height.{HaveAtMost, AreFew, size_of};
 ghost use Rattle.log_levels.specs.Cost.{IsWithin, quotas};
 ghost use Rattle.log_levels.specs.Towers.{AreOnTime, TakeTicks};
-ghost use Rattle.global_rebuild.specs.Index.{Shadow as Walked, live_in, unwalked, to_walk, shadow_weight, shadow_rooms, is_heavy, IsForecast, IsKept, IsInTime, IsIndex, IsIndexOf, IsPrepared, HoldsAsMuch, HandsOver, IsWalkedOn, HasPaused, FreesOne, waiting_of_both, asked_of_both};
-ghost use Rattle.global_rebuild.specs.Retiring.{with_retired, IsGivenUp};
+ghost use Rattle.global_rebuild.specs.Index.{Shadow as Walked, live_in, unwalked, to_walk, shadow_weight, is_heavy, IsKept, IsInTime, IsIndex, IsIndexOf, IsPrepared, AreStocked, OwnsMemory, HoldsAsMuch, IsWalkedOn, HasPaused, FreesOne, in_both, in_retired, waiting_of_both, asked_of_both};
+ghost use Rattle.global_rebuild.specs.Retiring.{with_retired, GivesBack, FreesSpare, TakeMemory};
 
 use crate::shadow::Shadow;
 use builder_trait::{Answers, Asking, Builder, Part, Profiled};
 use id_chain::{Chain, Handle};
 use log_method::{Retired, Stack};
+use part_store::Store;
 use query_laws::step_ledger::Steps;
 use query_laws::{Item, NoMemory, Question};
 use std::alloc::Global;
@@ -25,16 +28,24 @@ use std::marker::Model;
 use std::mem;
 use std::sync::ledger::Ledger;
 
+/// The most levels of a stack.
+const LEVELS: u32 = 32;
+
+/// As many builders of a level as both stacks may have, with those that their next two ticks may take.
+const BUILDERS: usize = 10;
+
 /// A stack of the items of a chain, which is made anew while it answers, before too much of it is dead (Overmars 1983).
 ///
 /// Beside the stack there may be a shadow: a second stack that gets the items of the chain four an update, from the first one on. When it has
-/// all of them it takes the place of the first, whose memory is then given up a part an update, those of the highest level first.
+/// all of them it takes the place of the first, which gives its memory back a part an update, those of the highest level first. All memory is
+/// lent by one store: what the one stack gives back the other lends.
 ///
 /// An update is a [`prepare`](Index::prepare), which may be refused memory, and then a commit, which can't fail: an insert after the item was
 /// appended to the chain, a delete before it is unlinked.
 #[derive(Drop)]
 pub struct Index<B: Builder> {
     alloc: Global,
+    store: Store<B>,
     main: Stack<B>,
     shadow: Option<Shadow<B>>,
     retired: Vec<Retired<B>>,
@@ -45,19 +56,20 @@ impl<B: Builder> Model for Index<B> {
 
     ghost Value = { Indexed B.Part B.Item };
 
-    ghost view = { λ i. record { main = i.main; shadow = i.shadow; retired = i.retired.items } };
+    ghost view = { λ i. record { store = i.store; main = i.main; shadow = i.shadow; retired = i.retired.items } };
 
-    ghost invariant = { λ i. IsIndex B.Part.Part.contents (record { main = i.main; shadow = i.shadow; retired = i.retired.items }) };
+    ghost invariant = { λ i. IsIndex B.Part.Part.contents (record { store = i.store; main = i.main; shadow = i.shadow; retired = i.retired.items }) };
 }
 
 impl<B: Builder> Index<B> {
     /// An index of no items. It takes no memory; [`Index::prepare`] takes its from `alloc`.
     pub fn new(alloc: Global) -> Index<B>
-        ensures empty { result ≡ record { main = record { levels = []; spare = 0; starters = 0 }; shadow = None; retired = [] } }
+        ensures empty { result ≡ record { store = record { builders = []; tables = [] }; main = record { levels = [] }; shadow = None; retired = [] } }
         ensures chain { IsIndexOf B.Part.Part.contents B.Item.stamp result [] 0 }
     {
         Index {
             alloc,
+            store: Store::new(alloc),
             main: Stack::new(alloc),
             shadow: None,
             retired: Vec::new(alloc),
@@ -65,8 +77,8 @@ impl<B: Builder> Index<B> {
     }
 
     /// Readies the next update. While a rebuild runs, it hands four items over to the shadow, or all that are left, each an insert, and puts
-    /// it in the place of the main stack when it has all. Then it gives up a part of the stack that was put out of use last, and takes the
-    /// memory of two ticks of each stack, of which an update is one.
+    /// it in the place of the main stack when it has all. Then the stack that was put out of use last gives a part back, spare memory of one
+    /// level is freed, if there is some, and what two ticks of each stack may want is taken where it isn't kept. An update is one of these.
     ///
     /// `NoMemory` where it isn't given. The items are as before; some may be handed over, and the rebuild may have ended. Refused or not, no
     /// more than one part is freed.
@@ -80,13 +92,12 @@ impl<B: Builder> Index<B> {
         ensures chain { (stamps : ℕ) → IsIndexOf B.Part.Part.contents B.Item.stamp self.old chain.now.entries stamps
             → IsIndexOf B.Part.Part.contents B.Item.stamp self.new chain.now.entries stamps }
         ensures prepared { IfOk result (λ _. IsPrepared B.Part.Part.contents self.new) }
-        ensures ready { IfOk result (λ _. (2 ≤ self.new.main.spare) × IsForecast self.new.main
-            × ((r : Walked B.Part B.Item) → self.new.shadow ≡ Some r → (2 ≤ r.stack.spare) × IsForecast r.stack)) }
+        ensures ready { IfOk result (λ _. AreStocked 2 self.new.main self.new.shadow self.new.store) }
         ensures walked { IfOk result (λ _. IsWalkedOn B.Part.Part.contents self.old self.new) }
 
         // No rebuild begins, and none that runs is given up.
         ensures refused { OnErr result (IsWalkedOn B.Part.Part.contents self.old self.new ⊎ HasPaused B.Part.Part.contents 4 self.old self.new) }
-        ensures frees { FreesOne B.Part.Part.contents self.old self.new }
+        ensures frees { FreesOne B.Part.Part.contents self.old.store self.new.main self.new.shadow self.new.store }
 
         // A tick for each item that is handed over, and a part is made of it.
         ensures some_turns { let ticks = to_walk B.Part.Part.contents self.old - to_walk B.Part.Part.contents self.new in
@@ -101,8 +112,13 @@ impl<B: Builder> Index<B> {
             self.retired.reserve(1)?;
             swap(&mut self.main, &mut self.shadow, &mut self.retired);
         }
-        give_up(&mut self.main, &mut self.retired);
-        take_memory(&mut self.main, &mut self.shadow)
+        settle(
+            &mut self.main,
+            &mut self.shadow,
+            &mut self.retired,
+            &mut self.store,
+            self.alloc,
+        )
     }
 
     /// Takes in the last item of a chain, which has a stamp that no item had before: an insert. The shadow gets it later.
@@ -131,7 +147,7 @@ impl<B: Builder> Index<B> {
             → IsWithin (quotas B.SLOPE B.BASE 0 g) (2 * g) (B.Part.Part.mark_touches g) steps.old steps.new }
     {
         let item = chain.item(handle);
-        self.main.insert(item, steps);
+        self.main.insert(item, &mut self.store, steps);
     }
 
     /// Lets go of a linked item, which the caller unlinks next: a delete from the main stack, and one from the shadow where it was handed
@@ -162,7 +178,7 @@ impl<B: Builder> Index<B> {
             → IsWithin (2 * quotas B.SLOPE B.BASE 1 g) (2 * (5 * g + 3)) (B.Part.Part.mark_touches g) steps.old steps.new }
     {
         let item = chain.item(handle);
-        self.main.delete(&item, steps);
+        self.main.delete(&item, &mut self.store, steps);
         let Some(shadow) = &mut self.shadow else {
             if 2 * self.main.weight() > 3 * self.main.live() + 16 {
                 start(
@@ -174,7 +190,7 @@ impl<B: Builder> Index<B> {
         };
         let was_handed_over = shadow.has_walked_by(chain, handle);
         if was_handed_over {
-            shadow.delete(&item, steps);
+            shadow.delete(&item, &mut self.store, steps);
         } else if shadow.cursor() == Some(handle) {
             shadow.go_to(chain.next(handle));
         }
@@ -260,25 +276,13 @@ impl<B: Builder> Index<B> {
         self.main.parts()
     }
 
-    /// The stacks that rebuilds put out of use, as far as they are still in memory, oldest first. Each preparation gives up one part of the
-    /// last.
+    /// The stacks that rebuilds put out of use, as far as they are still in memory, oldest first. In each preparation the last gives a part
+    /// back.
     pub fn retired(&self) -> &[Retired<B>]
         ensures value { result.now ≡ self.now.retired }
-        ensures left { All (λ s. 0 < memory_of s) self.now.retired }
+        ensures left { All (λ s. 0 < used_of s.levels) self.now.retired }
     {
         &self.retired
-    }
-
-    /// The weight of the rooms that are held and not begun, in both stacks: a room of level i weighs `2^i`, and a builder for a single
-    /// item 1.
-    pub fn rooms(&self) -> u64
-        ensures { result ≡ rooms_of self.now.main + shadow_rooms self.now }
-    {
-        let shadow = match &self.shadow {
-            Some(shadow) => shadow.rooms(),
-            None => 0,
-        };
-        self.main.rooms() + shadow
     }
 
     /// Hands so many items over, or all that are left, where a rebuild runs.
@@ -306,7 +310,8 @@ impl<B: Builder> Index<B> {
         let Some(shadow) = &mut self.shadow else {
             return Ok(());
         };
-        shadow.walk(chain, most, steps)
+        self.main.tell_few();
+        shadow.walk(chain, most, &mut self.store, steps)
     }
 
     /// Whether a rebuild runs, and all items are handed over.
@@ -341,45 +346,175 @@ fn swap<B: Builder>(
     }
 }
 
-/// Gives up a part of the stack that was retired last, if one is left, to those that another keeps, where that has a place for it.
-fn give_up<B: Builder>(main: &mut Stack<B>, retired: &mut Vec<Retired<B>>)
-    requires left { All (λ s. 0 < memory_of s) retired.old.items }
-    ensures left { All (λ s. 0 < memory_of s) retired.new.items }
-    ensures given { IsGivenUp B.Part.Part.contents main.old retired.old.items main.new retired.new.items }
+/// Has the stack that was retired last give a part back, where one is left, frees spare memory of one level, where there is some, and takes
+/// the memory of two ticks.
+///
+/// `NoMemory` where some isn't given; what was taken is kept.
+fn settle<B: Builder>(
+    main: &mut Stack<B>,
+    shadow: &mut Option<Shadow<B>>,
+    retired: &mut Vec<Retired<B>>,
+    store: &mut Store<B>,
+    alloc: Global,
+) -> Result<(), NoMemory>
+    requires left { All (λ s. 0 < used_of s.levels) retired.old.items }
+    requires owns { OwnsMemory (record { store = store.old; main = main.old; shadow = shadow.old; retired = retired.old.items }) }
+    ensures left { All (λ s. 0 < used_of s.levels) retired.new.items }
+    ensures owns { OwnsMemory (record { store = store.new; main = main.new; shadow = shadow.new; retired = retired.new.items }) }
+    ensures one { in_retired used_of retired.new.items ≡ in_retired used_of retired.old.items - 1 }
     ensures live { live_items B.Part.Part.contents main.new.levels ≡ live_items B.Part.Part.contents main.old.levels }
     ensures items { all_items B.Part.Part.contents main.new.levels ≡ all_items B.Part.Part.contents main.old.levels }
     ensures weight { weight_of main.new.levels ≡ weight_of main.old.levels }
+    ensures none { shadow.old ≡ None → shadow.new ≡ None }
+    ensures some { (r : Walked B.Part B.Item) → shadow.old ≡ Some r
+        → (r' : Walked B.Part B.Item) × (shadow.new ≡ Some r') × IsKept B.Part.Part.contents r r' }
+    ensures frees { FreesOne B.Part.Part.contents store.old main.new shadow.new store.new }
+    ensures stocked { IfOk result (λ _. weight_of main.new.levels < 2 ^ 31
+        → ((r : Walked B.Part B.Item) → shadow.new ≡ Some r → weight_of r.stack.levels < 2 ^ 31) → AreStocked 2 main.new shadow.new store.new) }
+{
+    let back = give_back(retired, store);
+    free_spare(back, main, shadow, store);
+    take_memory(main, shadow, store, alloc)
+}
+
+/// Has the stack that was retired last give a part back, where one is left. It tells the level of the part.
+fn give_back<B: Builder>(retired: &mut Vec<Retired<B>>, store: &mut Store<B>) -> u32
+    requires left { All (λ s. 0 < used_of s.levels) retired.old.items }
+    requires lent { (k : ℕ) → in_retired (used_at k) retired.old.items ≤ lent_at k store.old.builders }
+    requires lent_tables { (k : ℕ) → in_retired (built_at k) retired.old.items ≤ lent_at k store.old.tables }
+    ensures left { All (λ s. 0 < used_of s.levels) retired.new.items }
+    ensures given { GivesBack result retired.old.items store.old retired.new.items store.new }
 {
     let Some(mut last) = retired.pop() else {
-        return;
+        return 0;
     };
-    main.take_over(&mut last);
+    let level = last.top();
+    last.give_up(store);
     if !last.is_empty() {
         retired.push_reserved(last);
     }
+    level
 }
 
-/// Takes the memory of two ticks, for a stack and its shadow. What they hold stays.
+/// How many builders of a level both stacks have.
+fn used<B: Builder>(main: &Stack<B>, shadow: &Option<Shadow<B>>, level: u32) -> usize
+    ensures value { result ≡ in_both (used_at level) main.now shadow.now }
+    ensures few { result ≤ 10 }
+{
+    match shadow {
+        Some(shadow) => main.used(level) + shadow.used(level),
+        None => main.used(level),
+    }
+}
+
+/// How many builders of a level the next two ticks of both stacks may take.
+fn wanted<B: Builder>(main: &Stack<B>, shadow: &Option<Shadow<B>>, level: u32) -> usize
+    ensures value { result ≡ in_both (wanted_at 2 level) main.now shadow.now }
+{
+    match shadow {
+        Some(shadow) => main.wanted(level) + shadow.wanted(level),
+        None => main.wanted(level),
+    }
+}
+
+/// Frees spare memory of one level: a builder of the level to which a part came back, where there are more than both stacks may have at
+/// once, or else the highest that is kept, where no level so high is wanted.
+fn free_spare<B: Builder>(
+    back: u32,
+    main: &Stack<B>,
+    shadow: &Option<Shadow<B>>,
+    store: &mut Store<B>,
+)
+    requires { (k : ℕ) → kept_at k store.old.builders + in_both (used_at k) main.now shadow.now ≤ 10 + one_if (k == back) }
+    ensures few { (k : ℕ) → kept_at k store.new.builders + in_both (used_at k) main.now shadow.now ≤ 10 }
+    ensures frees { FreesSpare B.Part.Part.contents main.now shadow.now store.old store.new }
+{
+    let there = store.builders(back) + used(main, shadow, back);
+    if there > BUILDERS {
+        store.give_up(back);
+        return;
+    }
+    let Some(level) = too_high(main, shadow, store) else {
+        return;
+    };
+    store.give_up(level);
+}
+
+/// The highest level of which something is kept, where that is above the greatest of an index of so many items, and more is kept than the
+/// next two ticks may take.
+fn too_high<B: Builder>(
+    main: &Stack<B>,
+    shadow: &Option<Shadow<B>>,
+    store: &Store<B>,
+) -> Option<u32>
+    ensures { IfSome result (λ level. 2 * live_in B.Part.Part.contents main.now + 10 < 2 ^ level) }
+{
+    let level = store.highest()?;
+    let wanted = wanted(main, shadow, level);
+    if level >= LEVELS || (wanted > 0 && wanted >= store.builders(level)) {
+        return None;
+    }
+    if (1u64 << level).saturating_sub(10) / 2 <= main.live() {
+        return None;
+    }
+    Some(level)
+}
+
+/// Takes the memory of two ticks, for a stack and its shadow, where the store doesn't keep it.
+///
+/// `NoMemory` where some isn't given; what was taken is kept.
 fn take_memory<B: Builder>(
     main: &mut Stack<B>,
     shadow: &mut Option<Shadow<B>>,
+    store: &mut Store<B>,
+    alloc: Global,
 ) -> Result<(), NoMemory>
     ensures live { live_items B.Part.Part.contents main.new.levels ≡ live_items B.Part.Part.contents main.old.levels }
     ensures items { all_items B.Part.Part.contents main.new.levels ≡ all_items B.Part.Part.contents main.old.levels }
     ensures weight { weight_of main.new.levels ≡ weight_of main.old.levels }
-    ensures no_less { (k : ℕ) → parts_at k main.old + option_map_or (λ r. parts_at k r.stack) shadow.old 0
-        ≤ parts_at k main.new + option_map_or (λ r. parts_at k r.stack) shadow.new 0 }
     ensures none { shadow.old ≡ None → shadow.new ≡ None }
     ensures some { (r : Walked B.Part B.Item) → shadow.old ≡ Some r
         → (r' : Walked B.Part B.Item) × (shadow.new ≡ Some r') × IsKept B.Part.Part.contents r r' }
-    ensures spare { IfOk result (λ _. (2 ≤ main.new.spare) × IsForecast main.new) }
-    ensures spare_too { IfOk result (λ _. (r : Walked B.Part B.Item) → shadow.new ≡ Some r → (2 ≤ r.stack.spare) × IsForecast r.stack) }
+    ensures memory { TakeMemory main.old shadow.old store.old main.new shadow.new store.new }
+    ensures stocked { IfOk result (λ _. weight_of main.new.levels < 2 ^ 31
+        → ((r : Walked B.Part B.Item) → shadow.new ≡ Some r → weight_of r.stack.levels < 2 ^ 31) → AreStocked 2 main.new shadow.new store.new) }
 {
-    main.prepare()?;
-    let Some(shadow) = shadow else {
-        return Ok(());
-    };
-    shadow.prepare()
+    main.add_levels()?;
+    add_levels(shadow)?;
+    stock(main, shadow, store, alloc)
+}
+
+/// Makes the levels that the next two ticks of a shadow may want, where there is one.
+fn add_levels<B: Builder>(shadow: &mut Option<Shadow<B>>) -> Result<(), NoMemory>
+    ensures none { shadow.old ≡ None → shadow.new ≡ None }
+    ensures some { (r : Walked B.Part B.Item) → shadow.old ≡ Some r → (r' : Walked B.Part B.Item) × (shadow.new ≡ Some r')
+        × IsKept B.Part.Part.contents r r' × AreKept r.stack.levels r'.stack.levels }
+    ensures few { (r : Walked B.Part B.Item) → shadow.new ≡ Some r → HaveFew r.stack.levels }
+    ensures enough { IfOk result (λ _. (r : Walked B.Part B.Item) → shadow.new ≡ Some r → weight_of r.stack.levels < 2 ^ 31
+        → AreEnough r.stack.levels) }
+{
+    match shadow {
+        Some(shadow) => shadow.add_levels(),
+        None => Ok(()),
+    }
+}
+
+/// Has the store keep, level by level, what two ticks of both stacks may take.
+///
+/// `NoMemory` where some isn't given; what was taken is kept.
+fn stock<B: Builder>(
+    main: &Stack<B>,
+    shadow: &Option<Shadow<B>>,
+    store: &mut Store<B>,
+    alloc: Global,
+) -> Result<(), NoMemory>
+    ensures stocked { IfOk result (λ _. HasRoomsBelow 32 (λ k. in_both (wanted_at 2 k) main.now shadow.now) store.new) }
+    ensures taken { HasTaken (λ k. in_both (wanted_at 2 k) main.now shadow.now) store.old store.new }
+{
+    for level in 0..LEVELS {
+        store.stock(level, wanted(main, shadow, level), alloc)?;
+    }
+    Ok(())
 }
 
 /// Starts a rebuild, where none runs.

@@ -38,7 +38,13 @@
 //! `6 * (q(0) + .. + q(g))` turns, q being the quota of a level, and `18 * g + 6` marks. A question is put to at most `3 * (g + 1)` parts.
 //!
 //! A caller keeps the chain, and one relation to it, with a number that it counts itself, above every stamp in the index: `IsIndexOf`.
-//! Memory is freed by preparations alone, one part at most in each, of the highest level of a stack that is put out of use.
+//!
+//! All memory is lent by one store. A stack that is put out of use gives back a part a preparation, of its highest level first, and its
+//! successor's successor is made of it: in a layer of steady size the third rebuild takes next to none. Of each level the store
+//! keeps, and the two stacks have, ten builders together at most (`OwnsMemory`). Memory is freed by preparations alone, in each one part at
+//! most: a builder that would be the eleventh, or else one of the highest level that is kept, where `2^k` is above `2n + 10`, as no stack
+//! comes to such a level, and where more is kept than the next two ticks may take. So a layer that shrank frees a part an update, until
+//! only levels of its size are left. A commit neither takes nor frees any.
 //!
 //! The index keeps no number above its stamps: the relation to the chain has one, which the owner of the chain counts anyway. How many
 //! items are left to walk by is the difference of two live counts, and no field. Stacks out of use stand in a list, since a small index

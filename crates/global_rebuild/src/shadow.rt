@@ -8,14 +8,17 @@ ghost use Rattle.id_chain.specs.StampsRise.{StampsRise};
 ghost use Rattle.log_levels.specs.Slots.{IsPartOf};
 ghost use Rattle.log_levels.specs.Levels.{weight_of, waiting_of, live_items, all_items};
 ghost use Rattle.log_levels.specs.Cost.{IsWithin, quotas};
-ghost use Rattle.log_method.specs.Stack.{held_by_level};
-ghost use Rattle.log_method.specs.Rooms.{rooms_of};
-ghost use Rattle.log_method.specs.Retired.{parts_at};
-ghost use Rattle.global_rebuild.specs.Index.{live_in, IsForecast, HandsOver, IsShadowOf, asked_of};
+ghost use Rattle.log_levels.specs.Trades.{used_at, wanted_at, AreLent, Ticks};
+ghost use Rattle.log_method.specs.Stack.{MayTick, Deletes};
+ghost use Rattle.log_method.specs.Preparing.{AreKept, AreEnough};
+ghost use Rattle.log_method.specs.Few.{HaveFew};
+ghost use Rattle.global_rebuild.specs.Index.{live_in, IsKept, HandsOver, IsShadowOf, asked_of};
+ghost use Rattle.global_rebuild.specs.Memory.{LendsFew};
 
 use builder_trait::{Builder, Part};
 use id_chain::{Chain, Handle};
 use log_method::Stack;
+use part_store::Store;
 use query_laws::step_ledger::Steps;
 use query_laws::{Item, NoMemory};
 use std::alloc::Global;
@@ -40,7 +43,7 @@ impl<B: Builder> Model for Shadow<B> {
 impl<B: Builder> Shadow<B> {
     /// An empty stack, and the walk at a cursor. It takes no memory.
     pub fn new(alloc: Global, cursor: Option<Handle>) -> Shadow<B>
-        ensures { result ≡ record { stack = record { levels = []; spare = 0; starters = 0 }; cursor = cursor } }
+        ensures { result ≡ record { stack = record { levels = [] }; cursor = cursor } }
     {
         Shadow {
             stack: Stack::new(alloc),
@@ -54,8 +57,10 @@ impl<B: Builder> Shadow<B> {
     pub fn take_next<L: Ledger>(
         &mut self,
         chain: &Chain<B::Item>,
+        store: &mut Store<B>,
         steps: &mut Steps<L>,
     ) -> Result<(), NoMemory>
+        requires lent { AreLent self.old.stack.levels store.old }
         requires light { weight_of self.old.stack.levels < 2 ^ 31 }
         requires shadow { (stamps : ℕ) × IsShadowOf B.Part.Part.contents B.Item.stamp self.old chain.now.entries stamps
             × StampsRise B.Item.stamp 0 chain.now.entries stamps }
@@ -63,6 +68,7 @@ impl<B: Builder> Shadow<B> {
             → IsShadowOf B.Part.Part.contents B.Item.stamp self.old chain.now.entries stamps
             → IsShadowOf B.Part.Part.contents B.Item.stamp self.new chain.now.entries stamps }
         ensures ended { self.old.cursor ≡ None → self.new ≡ self.old }
+        ensures memory { LendsFew self.old.stack.levels store.old self.new.stack.levels store.new }
         ensures taken { IfOk result (λ _. (self.new.cursor ≡ None) ⊎ (live_in B.Part.Part.contents self.new.stack
             ≡ live_in B.Part.Part.contents self.old.stack + 1)) }
         ensures handed { HandsOver B.Part.Part.contents 1 self.old self.new }
@@ -75,8 +81,8 @@ impl<B: Builder> Shadow<B> {
         let Some(handle) = self.cursor else {
             return Ok(());
         };
-        self.stack.prepare()?;
-        self.stack.insert(chain.item(handle), steps);
+        self.stack.prepare(store)?;
+        self.stack.insert(chain.item(handle), store, steps);
         self.cursor = chain.next(handle);
         Ok(())
     }
@@ -88,8 +94,10 @@ impl<B: Builder> Shadow<B> {
         &mut self,
         chain: &Chain<B::Item>,
         most: u64,
+        store: &mut Store<B>,
         steps: &mut Steps<L>,
     ) -> Result<(), NoMemory>
+        requires lent { AreLent self.old.stack.levels store.old }
         requires light { weight_of self.old.stack.levels + most ≤ 2 ^ 31 }
         requires shadow { (stamps : ℕ) × IsShadowOf B.Part.Part.contents B.Item.stamp self.old chain.now.entries stamps
             × StampsRise B.Item.stamp 0 chain.now.entries stamps }
@@ -99,6 +107,7 @@ impl<B: Builder> Shadow<B> {
         ensures taken { IfOk result (λ _. (self.new.cursor ≡ None) ⊎ (live_in B.Part.Part.contents self.new.stack
             ≡ live_in B.Part.Part.contents self.old.stack + most)) }
         ensures handed { HandsOver B.Part.Part.contents most self.old self.new }
+        ensures memory { LendsFew self.old.stack.levels store.old self.new.stack.levels store.new }
         ensures some_turns { let ticks = live_in B.Part.Part.contents self.new.stack - live_in B.Part.Part.contents self.old.stack in
             steps.old.turns + 3 * ticks ≤ steps.new.turns }
         ensures cost { (g : ℕ) → weight_of self.new.stack.levels < 2 ^ (g + 1)
@@ -106,28 +115,24 @@ impl<B: Builder> Shadow<B> {
             IsWithin (ticks * quotas B.SLOPE B.BASE 0 g) (ticks * (2 * g)) (B.Part.Part.mark_touches g) steps.old steps.new }
     {
         for _taken in 0..most {
-            self.take_next(chain, steps)?;
+            self.take_next(chain, store, steps)?;
         }
         Ok(())
     }
 
     /// Deletes an item that was handed over: a tick.
-    pub fn delete<L: Ledger>(&mut self, item: &B::Item, steps: &mut Steps<L>)
-        requires spare { 1 ≤ self.old.stack.spare }
-        requires light { weight_of self.old.stack.levels < 2 ^ 31 }
+    pub fn delete<L: Ledger>(&mut self, item: &B::Item, store: &mut Store<B>, steps: &mut Steps<L>)
+        requires ready { MayTick self.old.stack.levels store.old }
         requires live { Contains (live_items B.Part.Part.contents self.old.stack.levels) item.now }
-        ensures live { Permuted (live_items B.Part.Part.contents self.new.stack.levels)
-            (without B.Item.stamp (B.Item.stamp item.now) (live_items B.Part.Part.contents self.old.stack.levels)) }
+        ensures deletes { Deletes B.Part.Part.contents B.Item.stamp (B.Item.stamp item.now) self.old.stack.levels self.new.stack.levels }
+        ensures trades { Ticks self.old.stack.levels store.old self.new.stack.levels store.new }
         ensures waiting { waiting_of self.new.stack.levels + steps.new.marks ≡ waiting_of self.old.stack.levels
             + asked_of B.Part.Part.contents B.Item.stamp (B.Item.before First) item.now self.old.stack + steps.old.marks }
-        ensures items { IsPartOf (all_items B.Part.Part.contents self.new.stack.levels) (all_items B.Part.Part.contents self.old.stack.levels) }
-        ensures weight { weight_of self.new.stack.levels ≡ weight_of self.old.stack.levels }
         ensures cursor { self.new.cursor ≡ self.old.cursor }
-        ensures each_level { held_by_level self.new.stack ≡ held_by_level self.old.stack }
         ensures cost { (g : ℕ) → weight_of self.new.stack.levels < 2 ^ (g + 1)
             → IsWithin (quotas B.SLOPE B.BASE 1 g) (5 * g + 3) (B.Part.Part.mark_touches g) steps.old steps.new }
     {
-        self.stack.delete(item, steps);
+        self.stack.delete(item, store, steps);
     }
 
     /// Where the next item is.
@@ -144,19 +149,32 @@ impl<B: Builder> Shadow<B> {
         self.cursor = cursor;
     }
 
-    /// Takes memory for two ticks.
+    /// Makes the levels that the next two ticks may want.
     ///
-    /// `NoMemory` where it isn't given.
-    pub fn prepare(&mut self) -> Result<(), NoMemory>
-        ensures spare { IfOk result (λ _. 2 ≤ self.new.stack.spare) }
-        ensures live { live_items B.Part.Part.contents self.new.stack.levels ≡ live_items B.Part.Part.contents self.old.stack.levels }
-        ensures items { all_items B.Part.Part.contents self.new.stack.levels ≡ all_items B.Part.Part.contents self.old.stack.levels }
-        ensures weight { weight_of self.new.stack.levels ≡ weight_of self.old.stack.levels }
-        ensures no_less { (k : ℕ) → parts_at k self.old.stack ≤ parts_at k self.new.stack }
-        ensures cursor { self.new.cursor ≡ self.old.cursor }
-        ensures rooms { IfOk result (λ _. IsForecast self.new.stack) }
+    /// `NoMemory` where memory for one isn't given; those made so far stay.
+    pub fn add_levels(&mut self) -> Result<(), NoMemory>
+        ensures kept { IsKept B.Part.Part.contents self.old self.new }
+        ensures each { AreKept self.old.stack.levels self.new.stack.levels }
+        ensures few { HaveFew self.new.stack.levels }
+        ensures enough { IfOk result (λ _. weight_of self.new.stack.levels < 2 ^ 31 → AreEnough self.new.stack.levels) }
     {
-        self.stack.prepare()
+        self.stack.add_levels()
+    }
+
+    /// How many builders of a level the next two ticks may take.
+    pub fn wanted(&self, level: u32) -> usize
+        ensures value { result ≡ wanted_at 2 level self.now.stack.levels }
+        ensures few { result ≤ 2 }
+    {
+        self.stack.wanted(level)
+    }
+
+    /// How many builders of a level the stack has.
+    pub fn used(&self, level: u32) -> usize
+        ensures value { result ≡ used_at level self.now.stack.levels }
+        ensures few { HaveFew self.now.stack.levels }
+    {
+        self.stack.used(level)
     }
 
     /// Whether the walk is past the last item.
@@ -172,14 +190,6 @@ impl<B: Builder> Shadow<B> {
         ensures { result ≡ self.stack }
     {
         self.stack
-    }
-
-    /// The weight of the rooms that the stack holds.
-    pub fn rooms(&self) -> u64
-        ensures value { result ≡ rooms_of self.now.stack }
-        ensures few { result < 2 ^ 33 }
-    {
-        self.stack.rooms()
     }
 
     /// The weight of the stack.

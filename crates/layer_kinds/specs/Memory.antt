@@ -1,39 +1,29 @@
 -- What updates keep of the memory of a layer's indexes, and of their rebuilds.
-use Rattle.std.specs.Prelude.{◌≡◌, ℕ, ◌+◌, ◌≤◌, ◌==◌, List, [], ◌∷◌, ◌++◌, get_or, map, sum_by, Option, None, Some, Result, Ok, Err}
+use Rattle.std.specs.Prelude.{◌≡◌, ℕ, ◌+◌, ◌≤◌, ◌==◌, List, [], ◌∷◌, get_or, map, Option, None, Some, Result, Ok, Err}
 use Rattle.std.specs.Option.{option_map, option_to_list}
 use Rattle.builder_trait.specs.Parts.{Contents}
-use Rattle.log_levels.specs.Slots.{one_if}
-use Rattle.log_method.specs.Stack.{Stacked, held_by_level}
+use Rattle.part_store.specs.Shelves.{one_if}
 use Rattle.global_rebuild.specs.Index.{Indexed, unwalked}
 use Rattle.layer_kinds.specs.declared.faults.UpdateFault.{UpdateFault}
 use Rattle.layer_kinds.specs.declared.faults.UpdateFault.TheVariants.{Duplicate, Unknown, Full, NoMemory}
 
--- the memory of an index: how many parts of each level each of its stacks has, in whatever use, and how many items its rebuild hasn't come by,
--- where one runs
+-- the memory of an index: how many parts of each level it has, in whatever use, and how many items its rebuild hasn't come by, where one runs
 pub record Memory : Type 0 where
-  pub stacks : List (List ℕ)
+  pub parts : List ℕ
   pub unwalked : Option ℕ
 
 -- how many parts of level k there are
 abbrev pub parts_of_level : ℕ → Memory → ℕ
-parts_of_level k m = sum_by (λ parts. get_or parts k 0) m.stacks
+parts_of_level k m = get_or m.parts k 0
 
-module _ {P Item : Type 0} where
-  -- how many parts of each level a stack has
-  abbrev pub by_level : Stacked P Item → List ℕ
-  by_level s = map (λ h. h.parts) (held_by_level s)
+module _ {P Item : Type 0} (contents : P → Contents Item) where
+  -- the memory of an index: what its store keeps, and what that lends
+  abbrev pub memory_in : Indexed P Item → Memory
+  memory_in i = record { parts = map (λ s. s.kept + s.lent) i.store.builders; unwalked = unwalked contents i }
 
-  module _ (contents : P → Contents Item) where
-    -- the memory of an index, with its shadow and what is put out of use
-    abbrev pub memory_in : Indexed P Item → Memory
-    memory_in i = record {
-      stacks = map by_level (i.main ∷ (option_to_list (option_map (λ r. r.stack) i.shadow) ++ i.retired));
-      unwalked = unwalked contents i;
-    }
-
-    -- the same, where the index is there
-    abbrev pub memories_of : Option (Indexed P Item) → List Memory
-    memories_of index = option_to_list (option_map memory_in index)
+  -- the same, where the index is there
+  abbrev pub memories_of : Option (Indexed P Item) → List Memory
+  memories_of index = option_to_list (option_map memory_in index)
 
 -- of each level there are as many parts
 abbrev pub KeepsAll : (old new : Memory) → Type 0

@@ -5,7 +5,9 @@ pub mod Publishing
 pub mod Clocks
 pub mod Paying
 pub mod Neighbouring
+pub mod Trading
 pub mod Towers
+pub mod Ticking
 pub mod Marks
 pub mod Noting
 pub mod MarkedLevels

@@ -13,56 +13,19 @@ use Rattle.builder_trait.specs.Builders.{PartProfile}
 use Rattle.builder_trait.specs.Parts.{Contents, OwnsStamp, has_stamp, without, live_of}
 use Rattle.ordered_merge.proofs.Fronts.{All-permuted}
 use Rattle.partial_build.proofs.Stamps.{same_place}
-use Rattle.log_levels.specs.Slots.{Slots, IsPartOf, ticks_of, live_in, items_in, asked_in, held_in, tables_in, in_memory, one_if, read_by}
+use Rattle.log_levels.specs.Slots.{Slots, IsPartOf, live_in, items_in, asked_in, read_by}
 use Rattle.log_levels.specs.Levels.{live_items, all_items, parts_asked}
 use Rattle.log_levels.specs.Neighbours.{stays}
-use Rattle.log_levels.specs.Towers.{IsTower, IsDue, IsDueSoon, HaveRooms, HaveRoomsAbove, AreLevels, AreAllLevels, AreHalfway, HaveRoomsNow, HaveRoomsNext}
+use Rattle.log_levels.specs.Towers.{IsTower, AreLevels, AreAllLevels, AreHalfway}
+use Rattle.log_levels.specs.Trades.{IsQuiet}
 use Rattle.log_levels.specs.Marking.{AreMarkedAt, AreNoted, IsSameBelow, read_into, noted_above}
-use Rattle.log_levels.proofs.Clocks.{same_ticks, same_runs}
-use Rattle.log_levels.proofs.Held.{memory-same}
+use Rattle.log_levels.proofs.Clocks.{same_runs}
 use Rattle.log_levels.proofs.Distinct.{AllStampsDiffer-part, IsPartOf-append, IsPartOf-permuted, none_same}
 use Rattle.log_levels.proofs.Publishing.{doubled, higher}
 use Rattle.log_levels.proofs.Marks.{stands, without-lacking, lacking-first, first-marked}
-use Rattle.log_levels.proofs.Towers.{below-same, halfway-from_tower, rooms_above, ahead-from_soon}
+use Rattle.log_levels.proofs.Towers.{below-same, halfway-from_tower}
 
 module _ {P Item : Type 0} where
-  -- what is due depends on parts, level and ticks alone
-  abbrev pub Follows : (Slots P Item → Type 0) → Type 0
-  Follows due = (a b : Slots P Item) → length b.parts ≡ length a.parts → b.level ≡ a.level → ticks_of b ≡ ticks_of a → due b → due a
-
-  pub Follows-due : Follows IsDue
-  Follows-due a b parts level ticks h = (sym parts ∙ h.0, omega (arith, h.1, ticks, ap (λ k. 2 ^ k) level))
-
-  pub Follows-soon : Follows IsDueSoon
-  Follows-soon a b parts level ticks h = omega (arith, h, ticks, ap (λ k. 2 ^ k) level)
-
-  module _ (due : Slots P Item → Type 0) (follows : Follows due) where
-    pub rooms-below : (l l' : Slots P Item) (above : List (Slots P Item)) → length l'.parts ≡ length l.parts → l'.level ≡ l.level → ticks_of l' ≡ ticks_of l
-        → HaveRooms due l above → HaveRooms due l' above
-    rooms-below l l' [] parts level ticks rooms = λ h. rooms (follows l l' parts level ticks h)
-    rooms-below l l' (next ∷ above) parts level ticks rooms = (λ h. rooms.0 (follows l l' parts level ticks h), rooms.1)
-
-    pub rooms-noted : (l : Slots P Item) (above above' : List (Slots P Item)) → AreNoted above above' → HaveRooms due l above → HaveRooms due l above'
-    rooms-noted l [] above' noted rooms = subst (HaveRooms due l) (sym noted) rooms
-    rooms-noted l (next ∷ rest) above' noted rooms =
-        subst (HaveRooms due l) (sym noted.1) (
-          λ h. ap (λ v. v.has_room) noted.2 ∙ rooms.0 h,
-          rooms-below next noted.0 rest (ap (λ v. length v.parts) noted.2) (ap (λ v. v.level) noted.2) (same_ticks next noted.0 noted.3) rooms.1,
-        )
-
-    pub rooms-over : (l : Slots P Item) (above above' : List (Slots P Item)) → IsSameBelow above above'
-        → (HaveRoomsAbove due above → HaveRoomsAbove due above') → HaveRooms due l above → HaveRooms due l above'
-    rooms-over l [] above' same later rooms = subst (HaveRooms due l) (sym same) rooms
-    rooms-over l (next ∷ rest) above' same later rooms =
-        subst (HaveRooms due l) (sym same.2)
-        (λ h. ap (λ v. v.has_room) same.3 ∙ rooms.0 h, subst (HaveRoomsAbove due) same.2 (later rooms.1))
-
-    -- an item of the level was marked, and noted above it
-    pub rooms-marked : (l l' : Slots P Item) (above above' : List (Slots P Item)) → length l'.parts ≡ length l.parts → l' ≡ record l { parts = l'.parts }
-        → AreNoted above above' → HaveRooms due l above → HaveRooms due l' above'
-    rooms-marked l l' above above' parts same noted rooms =
-        rooms-below l l' above' parts (ap (λ v. v.level) same) (ap ticks_of same) (rooms-noted l above above' noted rooms)
-
   -- what sees of a construction only whether there is one
   pub same-noted : {A : Type 0} (f : List (Slots P Item) → A)
       → ((l l' : Slots P Item) (rest : List (Slots P Item)) → l' ≡ record l { construction = l'.construction }
@@ -70,12 +33,6 @@ module _ {P Item : Type 0} where
       → (above above' : List (Slots P Item)) → AreNoted above above' → f above' ≡ f above
   same-noted f sees [] above' noted = ap f noted
   same-noted f sees (l ∷ rest) above' noted = ap f noted.1 ∙ sees l noted.0 rest noted.2 (same_runs l noted.0 noted.3)
-
-  pub held-noted : (l l' : Slots P Item) (rest : List (Slots P Item)) → l' ≡ record l { construction = l'.construction }
-      → is_some l'.construction ≡ is_some l.construction → map in_memory (l' ∷ rest) ≡ map in_memory (l ∷ rest)
-  held-noted l l' rest same runs =
-      ap (λ n. n ∷ map in_memory rest)
-      (memory-same l l' (omega (arith, ap held_in same, ap one_if runs)) (omega (arith, ap tables_in same, ap one_if runs)))
 
   module _ (contents : P → Contents Item) (profile : PartProfile Item) where
     pub tower-over : (l : Slots P Item) (above above' : List (Slots P Item)) → IsTower contents profile l above
@@ -192,24 +149,16 @@ module _ {Item : Type 0} where
       levels-from_all (l ∷ above) h = h.2
 
       pub halfway-marked : (levels levels' : List (Slots P Item)) → AreAllLevels contents profile levels → 0 < length levels → IsSameBelow levels levels'
-          → AreLevels contents profile levels' → HaveRoomsAbove IsDue levels' → AreHalfway contents profile levels'
-      halfway-marked [] levels' h some same tower rooms = absurd (omega (arith, some))
-      halfway-marked (l ∷ above) levels' h some same tower rooms =
+          → AreLevels contents profile levels' → IsQuiet 1 levels' → AreHalfway contents profile levels'
+      halfway-marked [] levels' h some same tower quiet = absurd (omega (arith, some))
+      halfway-marked (l ∷ above) levels' h some same tower quiet =
           let l' = same.0 in
           subst (AreHalfway contents profile) (sym same.2) (
             ap (λ v. v.level) same.3 ∙ h.0,
             ap (λ v. v.construction) same.3 ∙ h.1,
-            halfway-from_tower contents profile l' l' same.1 (subst (AreLevels contents profile) same.2 tower) (subst (HaveRoomsAbove IsDue) same.2 rooms)
+            halfway-from_tower contents profile l' l' same.1 (subst (AreLevels contents profile) same.2 tower) (subst (IsQuiet 1) same.2 quiet)
                 (stays refl (omega arith)) refl,
           )
-
-  pub rooms_now : {P : Type 0} (levels : List (Slots P Item)) → HaveRoomsAbove IsDue levels → HaveRoomsNow levels
-  rooms_now [] rooms = tt
-  rooms_now (l ∷ above) rooms = rooms_above IsDue l above rooms
-
-  pub rooms_next : {P : Type 0} (levels : List (Slots P Item)) → HaveRoomsAbove IsDueSoon levels → HaveRoomsNext levels
-  rooms_next [] rooms = tt
-  rooms_next (l ∷ above) rooms = ahead-from_soon l l above rooms (omega arith) refl
 
 pub some_live : {P Item : Type 0} (contents : P → Contents Item) (levels : List (Slots P Item)) (x : Item) → Contains (live_items contents levels) x
     → 0 < length levels

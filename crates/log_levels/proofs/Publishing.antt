@@ -1,5 +1,5 @@
 -- The items of two neighbouring levels, where a part is published.
-use Rattle.std.proofs.Common.{◌≡◌, ℕ, suc, ◌+◌, ◌*◌, ◌^◌, ◌≤◌, ◌∙◌, List, [], ◌∷◌, ◌++◌, length, get_or, drop, refl, ap, ap₂, sym, subst, arith, append_assoc}
+use Rattle.std.proofs.Common.{◌≡◌, ℕ, suc, ◌+◌, ◌*◌, ◌^◌, ◌≤◌, ◌∙◌, None, List, [], ◌∷◌, ◌++◌, length, get_or, drop, refl, ap, ap₂, sym, subst, arith, append_assoc}
 use Rattle.std.specs.List.{flat_map}
 use Rattle.std.proofs.lemmas.Grind.{pow_more}
 use Rattle.std.proofs.Math.Pow.{pow_mono}
@@ -50,10 +50,10 @@ module _ {P Item : Type 0} (contents : P → Contents Item) {old lower new lower
       → R (flat_map f new.parts ++ flat_map f lower'.parts) (flat_map f old.parts ++ flat_map f lower.parts)
   of_parts f R related =
       let upper : flat_map f new.parts ++ flat_map f lower'.parts ≡ flat_map f old.parts ++ (f h.fresh ++ flat_map f lower'.parts) =
-      ap (λ ps. flat_map f ps ++ flat_map f lower'.parts) h.arrived ∙ ap (λ l. l ++ flat_map f lower'.parts) (sym (flat_map_more f [] old.parts h.fresh))
+      ap (λ l. flat_map f l.parts ++ flat_map f lower'.parts) h.arrived ∙ ap (λ l. l ++ flat_map f lower'.parts) (sym (flat_map_more f [] old.parts h.fresh))
       ∙ append_assoc (flat_map f old.parts) (f h.fresh) (flat_map f lower'.parts) in
       let under : flat_map f lower.parts ≡ (f h.first ++ f h.second) ++ flat_map f lower'.parts =
-      ap (flat_map f) h.retired ∙ sym (append_assoc (f h.first) (f h.second) (flat_map f lower'.parts)) in
+      ap (λ l. flat_map f l.parts) h.retired ∙ sym (append_assoc (f h.first) (f h.second) (flat_map f lower'.parts)) in
       subst (λ l. R l (flat_map f old.parts ++ flat_map f lower.parts)) (sym upper)
       (subst (λ l. R (flat_map f old.parts ++ (f h.fresh ++ flat_map f lower'.parts)) (flat_map f old.parts ++ l)) (sym under) related)
 
@@ -70,21 +70,40 @@ module _ {P Item : Type 0} (contents : P → Contents Item) {old lower new lower
       (IsPartOf-append (items_in contents old) (items_in contents old) (f h.fresh ++ rest) ((f h.first ++ f h.second) ++ rest)
       (IsPartOf-refl (items_in contents old)) (IsPartOf-append (f h.fresh) (f h.first ++ f h.second) rest rest h.items (IsPartOf-refl rest)))
 
-  pub weight-published : old.level ≡ lower.level + 1 → new.level ≡ old.level → lower'.level ≡ lower.level
-      → weight_in new + weight_in lower' ≡ weight_in old + weight_in lower
-  weight-published above same same' =
+  pub weight-published : old.level ≡ lower.level + 1 → weight_in new + weight_in lower' ≡ weight_in old + weight_in lower
+  weight-published above =
       let n = length old.parts in
       let m = length lower'.parts in
       let w = 2 ^ lower.level in
-      let one_more : length new.parts ≡ n + 1 = ap length h.arrived ∙ length-append old.parts (h.fresh ∷ []) in
-      let two_fewer : length lower.parts ≡ suc (suc m) = ap length h.retired in
+      let one_more : length new.parts ≡ n + 1 = ap (λ l. length l.parts) h.arrived ∙ length-append old.parts (h.fresh ∷ []) in
+      let two_fewer : length lower.parts ≡ suc (suc m) = ap (λ l. length l.parts) h.retired in
       let double : 2 ^ (lower.level + 1) ≡ 2 * w = doubled lower.level in
-      let upper : 2 ^ new.level ≡ 2 * w = ap (λ k. 2 ^ k) (same ∙ above) ∙ double in
+      let upper : 2 ^ new.level ≡ 2 * w = ap (λ k. 2 ^ k) (ap (λ l. l.level) h.arrived ∙ above) ∙ double in
       let upper' : 2 ^ old.level ≡ 2 * w = ap (λ k. 2 ^ k) above ∙ double in
-      let under : 2 ^ lower'.level ≡ w = ap (λ k. 2 ^ k) same' in
+      let under : 2 ^ lower'.level ≡ w = ap (λ l. 2 ^ l.level) (sym h.retired) in
       ap₂ (λ a b. a + b) (ap₂ (λ a b. a * b) one_more upper) (ap (λ a. m * a) under)
       ∙ balanced n m w
       ∙ sym (ap₂ (λ a b. a + b) (ap (λ a. n * a) upper') (ap (λ a. a * w) two_fewer))
 
 pub higher : (k g : ℕ) → k ≤ g → 2 ^ k ≤ 2 ^ g
 higher k g few = pow_mono few
+
+module _ {P Item : Type 0} (contents : P → Contents Item) where
+  -- a part arrived where the construction was taken, and two parts were retired one by one
+  pub publication-of : {old taken new lower lower₁ lower₂ : Slots P Item} (first second fresh : P) (rest : List P)
+      → lower.parts ≡ first ∷ second ∷ rest → taken ≡ record old { construction = None } → new ≡ record taken { parts = taken.parts ++ fresh ∷ [] }
+      → lower₁ ≡ record lower { parts = drop 1 lower.parts } → lower₂ ≡ record lower₁ { parts = drop 1 lower₁.parts }
+      → Permuted (live_of (contents fresh)) (live_of (contents first) ++ live_of (contents second))
+      → IsPartOf (contents fresh).items ((contents first).items ++ (contents second).items) → IsPublication contents old lower new lower₂
+  publication-of {old} {taken} {new} {lower} {lower₁} {lower₂} first second fresh rest are took came once twice live items =
+      let gone : lower₂ ≡ record lower { parts = drop 1 (drop 1 lower.parts) } = twice ∙ ap {A = Slots P Item} (λ v. record v { parts = drop 1 v.parts }) once in
+      record {
+        fresh = fresh;
+        first = first;
+        second = second;
+        arrived = came ∙ ap {A = Slots P Item} (λ v. record v { parts = v.parts ++ fresh ∷ [] }) took;
+        retired = ap (λ ps. record lower { parts = ps }) (are ∙ ap (λ ps. first ∷ second ∷ drop 1 (drop 1 ps)) (sym are))
+            ∙ ap {A = Slots P Item} (λ v. record v { parts = first ∷ second ∷ v.parts }) (sym gone);
+        live = live;
+        items = items;
+      }

@@ -6,6 +6,7 @@ use Rattle.std.proofs.lemmas.Bool.{cases_lt}
 use Rattle.std.proofs.lemmas.List.Sums.{sum_by-cons}
 use Rattle.query_laws.specs.StepLedger.{Counts, Spends}
 use Rattle.query_laws.proofs.Counting.{Spends-then, Spends-within}
+use Rattle.builder_trait.specs.Builders.{IsQuota}
 use Rattle.partial_build.specs.Quota.{quota}
 use Rattle.log_levels.specs.Cost.{IsWithin, quotas}
 
@@ -45,6 +46,11 @@ IsWithin-then {turns} {marks} {more_turns} {more_marks} {touches} {old} {mid} {n
     let shared : (m + n) * touches ≡ m * touches + n * touches = grind arith in
     IsWithin-of (Spends-then first.spent second.spent) (omega (arith, first.few_turns, second.few_turns))
     (omega (arith, first.few_marks, second.few_marks)) (omega (arith, shared))
+
+-- a part of one item is made
+pub IsWithin-one : (slope base left : ℕ) {touches : ℕ} {old new : Counts} → IsQuota slope base 0 1 left → Spends old new (2 + left) 0 (16 + 16 * left)
+    → IsWithin (quota slope base 0) 0 touches old new
+IsWithin-one slope base left h spent = IsWithin-of spent (omega (arith, h.bounded)) (omega arith) (omega arith)
 
 -- some ticks, and then some more
 pub IsWithin-ticks : (m n turns marks : ℕ) {touches : ℕ} {old mid new : Counts} → IsWithin (m * turns) (m * marks) touches old mid
@@ -88,3 +94,12 @@ module _ (slope base : ℕ) where
       → IsWithin (quotas slope base (k + 1 + 1) g) (2 * (g - (k + 1))) touches old new
       → IsWithin (quotas slope base (k + 1) g) (2 * (g - k)) touches old new
   IsWithin-above k g rest = IsWithin-more rest (quotas-fewer (k + 1) g) (omega arith) (omega arith)
+
+-- a part of level 0 is made, and then the levels above are visited
+pub IsWithin-first : (slope base g : ℕ) {touches : ℕ} {old mid new : Counts} → IsWithin (quota slope base 0) 0 touches old mid
+    → IsWithin (quotas slope base 1 g) (2 * g) touches mid new → IsWithin (quotas slope base 0 g) (2 * g) touches old new
+IsWithin-first slope base g {touches} {old} {mid} {new} first rest =
+    let sum : quota slope base 0 + quotas slope base 1 g ≡ quotas slope base 0 g = sym (quotas-first slope base 0 g (omega arith)) in
+    let marks : 0 + 2 * g ≡ 2 * g = omega arith in
+    subst (λ n. IsWithin n (2 * g) touches old new) sum
+    (subst (λ m. IsWithin (quota slope base 0 + quotas slope base 1 g) m touches old new) marks (IsWithin-then first rest))

@@ -1,5 +1,5 @@
 -- The levels above one, through a tick.
-use Rattle.std.proofs.Common.{◌≡◌, ℕ, ◌+◌, ◌-◌, ◌*◌, ◌^◌, ◌<◌, ◌≤◌, ◌⊎◌, ◌∙◌, List, [], ◌∷◌, ◌++◌, Some, None, length, ⊎_elim, refl, ap, ap₂, sym, subst, arith, append_assoc}
+use Rattle.std.proofs.Common.{◌≡◌, ℕ, ◌+◌, ◌-◌, ◌*◌, ◌^◌, ◌<◌, ◌≤◌, ◌⊎◌, ◌∙◌, true, false, List, [], ◌∷◌, ◌++◌, Some, None, length, ⊎_elim, refl, ap, ap₂, sym, subst, arith, append_assoc}
 use Rattle.std.specs.List.{flat_map}
 use Rattle.std.specs.Option.{option_map_or}
 use Rattle.std.proofs.lemmas.Bool.{cases_lt}
@@ -11,10 +11,12 @@ use Rattle.builder_trait.specs.Parts.{Contents}
 use Rattle.log_levels.specs.Slots.{Slots, IsPartOf, ticks_of, weight_in, live_in, items_in}
 use Rattle.log_levels.specs.Levels.{weight_of, live_items, all_items}
 use Rattle.log_levels.specs.Neighbours.{IsBelow, IsVisited, IsFed, Advances, stays, arrives}
-use Rattle.log_levels.specs.Towers.{IsTower, IsHalfway, IsDue, IsDueSoon, HaveRooms, HaveRoomsAbove, HaveRoomsAhead, AreAllLevels}
+use Rattle.log_levels.specs.Towers.{IsTower, IsHalfway, AreAllLevels}
+use Rattle.log_levels.specs.Trades.{IsQuietAbove}
 use Rattle.log_levels.proofs.Distinct.{IsPartOf-refl, IsPartOf-append, IsPartOf-then, IsPartOf-front}
 use Rattle.log_levels.proofs.Publishing.{doubled}
 use Rattle.log_levels.proofs.Neighbouring.{none_ticks}
+use Rattle.log_levels.proofs.Trading.{due-one}
 
 module _ {P Item : Type 0} (contents : P → Contents Item) (profile : PartProfile Item) where
   -- no part arrives at a full level
@@ -59,22 +61,21 @@ module _ {P Item : Type 0} (contents : P → Contents Item) (profile : PartProfi
         clock = λ two. omega (arith, weight, later, ticks, h.clock (omega (arith, two, as_long)));
       }
 
-  pub halfway-from_tower : (l l' : Slots P Item) (above : List (Slots P Item)) → IsTower contents profile l above → HaveRooms IsDue l above
+  pub halfway-from_tower : (l l' : Slots P Item) (above : List (Slots P Item)) → IsTower contents profile l above → IsQuietAbove 1 l above
       → Advances l l' → l'.level ≡ l.level → IsHalfway contents profile l' above
-  halfway-from_tower l l' [] tower rooms (stays parts ticks) level = subst (λ ps. length ps < 2) (sym parts) tower
-  halfway-from_tower l l' [] tower rooms (arrives fresh parts none ending) level =
+  halfway-from_tower l l' [] tower quiet (stays parts ticks) level = subst (λ ps. length ps < 2) (sym parts) tower
+  halfway-from_tower l l' [] tower quiet (arrives fresh parts none ending) level =
       let longer : length l'.parts ≡ length l.parts + 1 = ap length parts ∙ length-append l.parts (fresh ∷ []) in
       ⊎_elim (λ less. omega (arith, less, longer))
-      (λ some. absurd (rooms (omega (arith, some, tower), omega (arith, ending))))
+      (λ some. let wrong : false ≡ true = sym quiet ∙ due-one contents profile l (omega (arith, some, tower)) ending in absurd cc)
       (cases_lt (length l.parts) 1)
-  halfway-from_tower l l' (next ∷ above) tower rooms (stays parts ticks) level =
+  halfway-from_tower l l' (next ∷ above) tower quiet (stays parts ticks) level =
       let h = tower.0 in
       let as_long : length l'.parts ≡ length l.parts = ap length parts in (
         below-kept l l' next next h level as_long (omega (arith, ticks)) refl (λ none. none) refl (λ a b rest are. h.fed a b rest (sym parts ∙ are)),
-        (λ two none. absurd (omega (arith, none_ticks next none, h.clock (omega (arith, two, as_long))))),
         tower.1,
       )
-  halfway-from_tower l l' (next ∷ above) tower rooms (arrives fresh parts none ending) level =
+  halfway-from_tower l l' (next ∷ above) tower quiet (arrives fresh parts none ending) level =
       let h = tower.0 in
       let longer : length l'.parts ≡ length l.parts + 1 = ap length parts ∙ length-append l.parts (fresh ∷ []) in
       let fits : length l.parts < 3 = place l (next ∷ above) tower (sym ending) in (
@@ -96,12 +97,12 @@ module _ {P Item : Type 0} (contents : P → Contents Item) (profile : PartProfi
               omega (arith, once, none, ending, h.clock more))
               (cases_lt (length l.parts) 2);
         },
-        (λ two empty. ⊎_elim
-            (λ less. rooms.0 (omega (arith, two, less, longer), omega (arith, ending)))
-            (λ more. absurd (omega (arith, none_ticks next empty, h.clock more)))
-            (cases_lt (length l.parts) 2)),
         tower.1,
       )
+
+  pub first_below : (l : Slots P Item) (above : List (Slots P Item)) → IsTower contents profile l above → (next : Slots P Item) (rest : List (Slots P Item))
+      → above ≡ next ∷ rest → IsBelow contents profile 1 l next
+  first_below l above tower next rest is = (subst (IsTower contents profile l) is tower).0
 
   -- the lower level's parts may change above, not the construction
   pub below-same : {ahead : ℕ} (lower l l' : Slots P Item) → IsBelow contents profile ahead lower l → l'.level ≡ l.level
@@ -109,34 +110,6 @@ module _ {P Item : Type 0} (contents : P → Contents Item) (profile : PartProfi
   below-same lower l l' h level same =
       below-kept lower lower l l' h refl refl (omega arith) level (λ none. same ∙ none) (ap (λ o. option_map_or (λ c. c.ticks) o 0) same)
       (λ a b rest are c is. h.fed a b rest are c (sym same ∙ is))
-
-module _ {P Item : Type 0} where
-  pub ahead-from_soon : (l l' : Slots P Item) (above : List (Slots P Item)) → HaveRooms IsDueSoon l above → ticks_of l' ≤ ticks_of l + 1
-      → l'.level ≡ l.level → HaveRoomsAhead l' above
-  ahead-from_soon l l' [] rooms later level = λ due. rooms (omega (arith, due, later, ap (λ k. 2 ^ k) level))
-  ahead-from_soon l l' (next ∷ above) rooms later level = (λ due. rooms.0 (omega (arith, due, later, ap (λ k. 2 ^ k) level)), rooms.1)
-
-  pub rooms_above : (due : Slots P Item → Type 0) (l : Slots P Item) (above : List (Slots P Item)) → HaveRooms due l above → HaveRoomsAbove due above
-  rooms_above due l [] rooms = tt
-  rooms_above due l (next ∷ above) rooms = rooms.1
-
-  one_tick : {l l' : Slots P Item} → Advances l l' → ticks_of l' ≤ ticks_of l + 1
-  one_tick (stays parts ticks) = ticks
-  one_tick (arrives fresh parts none ending) = omega (arith, none)
-
-  -- the rooms for the next tick
-  pub rooms-walked : (lower lower' old new new' : Slots P Item) (above above' : List (Slots P Item)) → Advances old new → new.level ≡ old.level
-      → 2 ≤ length lower'.parts ⊎ new.has_room ≡ old.has_room
-      → lower'.level ≡ lower.level → ticks_of lower' ≡ ticks_of lower → new'.has_room ≡ new.has_room
-      → (HaveRoomsAhead new above → HaveRooms IsDue new' above')
-      → HaveRoomsAhead lower (old ∷ above) → HaveRooms IsDue lower' (new' ∷ above')
-  rooms-walked lower lower' old new new' above above' advances level rooms below ticks same rest ahead = (
-    λ due. ⊎_elim
-        (λ two. absurd (omega (arith, two, due.0)))
-        (λ kept. same ∙ kept ∙ ahead.0 (omega (arith, due.1, ticks, ap (λ k. 2 ^ k) below)))
-        rooms,
-    rest (ahead-from_soon old new above ahead.1 (one_tick advances) level),
-  )
 
 regrouped : {A : Type 0} (xs ys zs ys' zs' : List A) → Permuted (ys' ++ zs') (ys ++ zs) → Permuted ((xs ++ ys') ++ zs') ((xs ++ ys) ++ zs)
 regrouped xs ys zs ys' zs' p = rw (append_assoc xs ys' zs', append_assoc xs ys zs) (Permuted-append_right xs p)

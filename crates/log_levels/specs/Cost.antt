@@ -36,9 +36,9 @@ module _ {P Item : Type 0} where
     pub drained : waiting_in new + after.marks ≡ waiting_in old + before.marks
     pub within : IsWithin (quota profile.slope profile.base old.level) 2 (touches old.level) before after
 
-  -- what an insert costs, whichever bound g there is, with the quotas from a level up: the marks are those of items that waited and wait no longer
-  pub record IsCostOfInsert (slope base from : ℕ) (touches : ℕ → ℕ) (old new : List (Slots P Item)) (before after : Counts) : Type 0 where
-    pub within : (g : ℕ) → weight_of new < 2 ^ (g + 1) → IsWithin (quotas slope base from g) (2 * g) (touches g) before after
+  -- what an insert costs, whichever bound g there is: the marks are those of items that waited and wait no longer
+  pub record IsCostOfInsert (slope base : ℕ) (touches : ℕ → ℕ) (old new : List (Slots P Item)) (before after : Counts) : Type 0 where
+    pub within : (g : ℕ) → weight_of new < 2 ^ (g + 1) → IsWithin (quotas slope base 0 g) (2 * g) (touches g) before after
     pub drained : waiting_of new + after.marks ≡ waiting_of old + before.marks
 
   -- What a delete costs in which so many parts are asked for the item, and so many constructions take note of it, whichever bound g there is: beside

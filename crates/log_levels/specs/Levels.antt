@@ -2,29 +2,9 @@
 use Rattle.std.specs.Prelude.{ℕ, ◌+◌, List, [], ◌∷◌, ◌++◌, if◌then◌else◌, length, sum_by}
 use Rattle.builder_trait.specs.Builders.{PartProfile}
 use Rattle.builder_trait.specs.Parts.{Contents, has_stamp}
-use Rattle.log_levels.specs.Slots.{Slots, InMemory, waiting_in, left_in, due_in, saved_in, held_in, tables_in, weight_in, live_in, items_in, asked_in}
-
--- a part more on the lowest of some levels
-abbrev pub one_more : List InMemory → List InMemory
-one_more [] = []
-one_more (m ∷ above) = record m { parts = m.parts + 1 } ∷ above
+use Rattle.log_levels.specs.Slots.{Slots, waiting_in, left_in, due_in, saved_in, weight_in, live_in, items_in, asked_in}
 
 module _ {P Item : Type 0} where
-  -- the parts in memory of the lowest level
-  abbrev pub lowest_held : List (Slots P Item) → ℕ
-  lowest_held [] = 0
-  lowest_held (l ∷ above) = held_in l
-
-  -- the parts in memory of all levels
-  abbrev pub held_of : List (Slots P Item) → ℕ
-  held_of [] = 0
-  held_of (l ∷ above) = held_in l + held_of above
-
-  -- the tables in memory of the lowest level
-  abbrev pub lowest_tables : List (Slots P Item) → ℕ
-  lowest_tables [] = 0
-  lowest_tables (l ∷ above) = tables_in l
-
   -- the weight of levels: 2 ^ i for each complete part of level i
   abbrev pub weight_of : List (Slots P Item) → ℕ
   weight_of [] = 0

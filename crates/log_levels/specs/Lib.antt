@@ -2,6 +2,7 @@ pub mod Slots
 pub mod Levels
 pub mod Asking
 pub mod Level
+pub mod Trades
 pub mod Neighbours
 pub mod Towers
 pub mod Cost

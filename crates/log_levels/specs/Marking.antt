@@ -3,7 +3,7 @@ use Rattle.std.specs.Prelude.{◌≡◌, ℕ, ◌+◌, Bool, Option, Some, None,
 use Rattle.std.specs.List.{flat_map}
 use Rattle.std.specs.Option.{option_map}
 use Rattle.builder_trait.specs.Parts.{Contents, has_stamp, without, marked, live_of}
-use Rattle.log_levels.specs.Slots.{Slots, work_of, in_memory, live_in, items_in, read_by}
+use Rattle.log_levels.specs.Slots.{Slots, work_of, live_in, items_in, read_by}
 use Rattle.log_levels.specs.Levels.{waiting_of, weight_of, live_items, all_items}
 
 module _ {Item : Type 0} where
@@ -61,13 +61,13 @@ module _ {P Item : Type 0} where
       pub items : items_in contents new ≡ items_in contents old
       pub as_many : length new.parts ≡ length old.parts
 
-    -- the item with a stamp isn't live in any of the levels; they have the same items, and the weight and what each holds are as they were,
-    -- and so are the constructions, but that so many items more wait
+    -- the item with a stamp isn't live in any of the levels; they have the same items, as many parts each and the same weight, and the constructions
+    -- are as they were, but that so many items more wait
     pub record AreMarked (more : ℕ) (old new : List (Slots P Item)) : Type 0 where
       pub live : live_items contents new ≡ without stamp dead (live_items contents old)
       pub items : all_items contents new ≡ all_items contents old
       pub weight : weight_of new ≡ weight_of old
-      pub held : map in_memory new ≡ map in_memory old
+      pub as_many : map (λ l. length l.parts) new ≡ map (λ l. length l.parts) old
       pub numbers : map (λ l. l.level) new ≡ map (λ l. l.level) old
       pub work : map work_of new ≡ map work_of old
       pub waiting : waiting_of new ≡ waiting_of old + more

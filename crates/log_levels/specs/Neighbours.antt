@@ -1,10 +1,11 @@
 -- Two neighbouring levels, and what runs between them (Overmars and van Leeuwen 1981).
-use Rattle.std.specs.Prelude.{◌≡◌, ℕ, ◌+◌, ◌-◌, ◌*◌, ◌^◌, ◌<◌, ◌≤◌, ◌⊎◌, List, [], ◌∷◌, ◌++◌, Option, Some, None, length}
+use Rattle.std.specs.Prelude.{◌≡◌, ℕ, ◌+◌, ◌-◌, ◌*◌, ◌^◌, ◌<◌, ◌≤◌, true, List, [], ◌∷◌, ◌++◌, Option, Some, None, length}
 use Rattle.query_laws.specs.Permuted.{Permuted}
 use Rattle.builder_trait.specs.Builders.{PartProfile}
 use Rattle.builder_trait.specs.Parts.{Contents, live_of}
 use Rattle.partial_build.specs.Construction.{Construction, Builds, IsOnTime}
 use Rattle.log_levels.specs.Slots.{Slots, IsPartOf, ticks_of, clock_of, weight_in, live_in, items_in}
+use Rattle.log_levels.specs.Trades.{will_begin}
 
 -- A tick of the construction into a level, by its clock before and after: none runs; one begins, with its first tick; it goes on by exactly one;
 -- or that was its last, and it ends.
@@ -30,11 +31,8 @@ module _ {P Item : Type 0} where
       pub fresh : P
       pub first : P
       pub second : P
-      pub arrived : new.parts ≡ old.parts ++ fresh ∷ []
-      pub none : new.construction ≡ None
-      pub retired : lower.parts ≡ first ∷ second ∷ lower'.parts
-      pub tables : new.tables ≡ old.tables + 1
-      pub kept : lower'.kept ≡ lower.kept + 2
+      pub arrived : new ≡ record old { parts = old.parts ++ fresh ∷ []; construction = None }
+      pub retired : lower ≡ record lower' { parts = first ∷ second ∷ lower'.parts }
       pub live : Permuted (live_of (contents fresh)) (live_of (contents first) ++ live_of (contents second))
       pub items : IsPartOf (contents fresh).items ((contents first).items ++ (contents second).items)
 
@@ -65,4 +63,4 @@ module _ {P Item : Type 0} where
         pub live : Permuted (live_in contents new ++ live_in contents lower') (live_in contents old ++ live_in contents lower)
         pub items : IsPartOf (items_in contents new ++ items_in contents lower') (items_in contents old ++ items_in contents lower)
         pub weight : weight_in new + weight_in lower' ≡ weight_in old + weight_in lower
-        pub rooms : 2 ≤ length lower'.parts ⊎ new.has_room ≡ old.has_room
+        pub stay : will_begin lower old ≡ true → 2 ≤ length lower'.parts

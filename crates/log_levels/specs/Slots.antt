@@ -8,25 +8,13 @@ use Rattle.builder_trait.specs.Builders.{PartProfile}
 use Rattle.ordered_merge.specs.Merging.{is_passed}
 use Rattle.partial_build.specs.Construction.{Construction, read_of, turns_left}
 use Rattle.partial_build.specs.Quota.{quota}
+use Rattle.part_store.specs.Shelves.{one_if}
 
--- A level: its complete parts, oldest first; the construction of its next part, which is made of the two oldest parts of the level below; whether
--- there is room for the one after that; how many builders are kept, each made of a part that was retired; and the tables of how many constructions
--- that ended.
+-- A level: its complete parts, oldest first; and the construction of its next part, which is made of the two oldest parts of the level below.
 pub record Slots (P Item : Type 0) : Type 0 where
   pub level : ℕ
   pub parts : List P
   pub construction : Option (Construction Item)
-  pub has_room : Bool
-  pub kept : ℕ
-  pub tables : ℕ
-
--- what is in memory: so many parts, in whatever use, and the tables of so many constructions
-pub record InMemory : Type 0 where
-  pub parts : ℕ
-  pub tables : ℕ
-
-abbrev pub one_if : Bool → ℕ
-one_if b = if b then 1 else 0
 
 -- every item of the first list is one of the second, and none more often
 abbrev pub IsPartOf : {Item : Type 0} → List Item → List Item → Type 0
@@ -86,32 +74,6 @@ module _ {P Item : Type 0} where
   abbrev pub saved_in : PartProfile Item → (old new : Slots P Item) → ℕ
   saved_in profile old new =
       saved_by (option_map_or (open_turns profile) old.construction (option_map_or (most_turns profile) new.construction 0)) new.construction
-
-  -- the parts of a level that are in memory: the complete ones, the one under construction, and empty ones, in the room and in the
-  -- builders that are kept
-  abbrev pub held_in : Slots P Item → ℕ
-  held_in l = length l.parts + one_if (is_some l.construction) + one_if l.has_room + l.kept
-
-  -- the tables of a level that are in memory: those of the construction, those in the room, and those that are kept
-  abbrev pub tables_in : Slots P Item → ℕ
-  tables_in l = l.tables + one_if (is_some l.construction) + one_if l.has_room
-
-  -- what is in memory of a level: parts in whatever use, and tables of constructions
-  abbrev pub in_memory : Slots P Item → InMemory
-  in_memory l = record { parts = held_in l; tables = tables_in l }
-
-  -- of a level at most five parts are in memory, and the tables of two constructions
-  pub record HoldsFew (l : Slots P Item) : Type 0 where
-    pub parts : held_in l ≤ 5
-    pub tables : tables_in l ≤ 2
-
-  -- what is in memory of a level after a forecast: what was, and where a room is held now that wasn't, a part more if no builder was kept for it, and
-  -- tables more if none were
-  abbrev pub memory_by_forecast : Slots P Item → Bool → InMemory
-  memory_by_forecast l has_room = record {
-    parts = held_in l + (one_if has_room - (l.kept + one_if l.has_room));
-    tables = tables_in l + (one_if has_room - (l.tables + one_if l.has_room));
-  }
 
   -- a part of level i weighs 2^i
   abbrev pub weight_in : Slots P Item → ℕ

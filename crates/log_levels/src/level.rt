@@ -1,5 +1,5 @@
 //! One level.
-ghost use Rattle.std.specs.Prelude.{◌≡◌, ℕ, ◌+◌, ◌-◌, ◌*◌, ◌^◌, ◌<◌, ◌≤◌, true, false, List, [], ◌∷◌, ◌++◌, Some, None, IfOk, IfSome, IsNone, All, drop, length, map};
+ghost use Rattle.std.specs.Prelude.{◌≡◌, ℕ, ◌+◌, ◌-◌, ◌*◌, ◌^◌, ◌<◌, ◌≤◌, true, false, List, [], ◌∷◌, ◌++◌, Some, None, IfOk, IfSome, IsNone, All, drop, length};
 ghost use Rattle.std.specs.List.{flat_map};
 ghost use Rattle.std.specs.Option.{is_some};
 ghost use Rattle.query_laws.specs.Orders.{AllStampsDiffer};
@@ -8,18 +8,21 @@ ghost use Rattle.query_laws.specs.declared.item.Order.TheVariants.{First};
 ghost use Rattle.builder_trait.specs.Parts.{OwnsStamp, has_stamp, marked, live_of};
 ghost use Rattle.partial_build.specs.Construction.{IsBegun};
 ghost use Rattle.partial_build.specs.Quota.{quota};
-ghost use Rattle.log_levels.specs.Slots.{ticks_of, waiting_in, read_by, turns_to_go, work_of, left_in, held_in, tables_in, in_memory, live_in, items_in, asked_in, IsIdle};
+ghost use Rattle.part_store.specs.Shelves.{lent_at};
+ghost use Rattle.part_store.specs.Store.{TakesPart};
+ghost use Rattle.log_levels.specs.Slots.{ticks_of, waiting_in, read_by, turns_to_go, work_of, left_in, live_in, items_in, asked_in, IsIdle};
 ghost use Rattle.log_levels.specs.Level.{IsOfLevel};
+ghost use Rattle.log_levels.specs.Trades.{is_due, AreLent, Trades, HasRoom, Begins};
 ghost use Rattle.log_levels.specs.Neighbours.{IsConstructionOf, IsFed, IsPunctual, IsPublication};
 ghost use Rattle.log_levels.specs.Marking.{IsLiveIn, AreMarkedAt};
 ghost use Rattle.log_levels.specs.Cost.{IsWithin, IsPaid};
 
 mod giving;
-mod rooms;
 mod visiting;
 
 use builder_trait::{Builder, Part, Profiled};
-use partial_build::{Build, Room, Tables};
+use part_store::Store;
+use partial_build::Build;
 use query_laws::step_ledger::Steps;
 use query_laws::{Item, NoMemory};
 use std::alloc::Global;
@@ -29,67 +32,49 @@ use std::sync::ledger::Ledger;
 /// The most complete parts of a level.
 const PARTS: usize = 3;
 
-/// The most builders that are kept for a level: as many as there are of its parts in memory at most, three that are complete, one under
-/// construction, and the room for the next one.
-const BUILDERS: usize = 5;
-
-/// The most tables that are kept for a level: as many as there are in memory at most, those of its construction and those of the room for
-/// the next one.
-const TABLES: usize = 2;
-
 /// A level: at most three complete parts of up to `2^level` items, oldest first, and the construction of the next one.
 ///
-/// What the next constructions can use is kept: the tables of those that ended, and builders on the memory of retired parts.
+/// All their memory is lent by a store, and goes back to it.
 #[derive(Drop)]
 pub struct Level<B: Builder> {
     level: u32,
     parts: Vec<B::Part>,
     construction: Option<Build<B>>,
-    room: Option<Room<B>>,
-    builders: Vec<B>,
-    tables: Vec<Tables<B>>,
 }
 
 impl<B: Builder> Model for Level<B> {
-    ghost use Rattle.std.specs.Prelude.{length, vec_capacity};
-    ghost use Rattle.std.specs.Option.{is_some};
+    ghost use Rattle.std.specs.Prelude.{vec_capacity};
     ghost use Rattle.log_levels.specs.Slots.{Slots};
     ghost use Rattle.log_levels.specs.Level.{IsLevel};
 
     ghost Value = { Slots B.Part B.Item };
 
-    ghost view = { λ l. record {
-      level = l.level;
-      parts = l.parts.items;
-      construction = l.construction;
-      has_room = is_some l.room;
-      kept = length l.builders.items;
-      tables = length l.tables.items;
-    } };
+    ghost view = { λ l. record { level = l.level; parts = l.parts.items; construction = l.construction } };
 
-    ghost invariant = { λ l. IsLevel B.Part.Part.contents B.progress l.level l.parts.items (vec_capacity l.parts) l.construction l.room
-        l.builders.items (vec_capacity l.builders) l.tables.items (vec_capacity l.tables) };
+    ghost invariant = { λ l. IsLevel B.Part.Part.contents l.level l.parts.items (vec_capacity l.parts) l.construction };
 }
 
 impl<B: Builder> Level<B> {
     /// A level without parts.
     ///
-    /// `NoMemory` where memory for its lists isn't given.
+    /// `NoMemory` where memory for the list of its parts isn't given.
     pub fn new(alloc: Global, level: u32) -> Result<Level<B>, NoMemory>
         requires { level < 32 }
-        ensures { IfOk result (λ made. made ≡ record { level = level; parts = []; construction = None; has_room = false; kept = 0; tables = 0 }) }
+        ensures { IfOk result (λ made. made ≡ record { level = level; parts = []; construction = None }) }
     {
         let parts = Vec::with_capacity(alloc, PARTS)?;
-        let builders = Vec::with_capacity(alloc, BUILDERS)?;
-        let tables = Vec::with_capacity(alloc, TABLES)?;
         Ok(Level {
             level,
             parts,
             construction: None,
-            room: None,
-            builders,
-            tables,
         })
+    }
+
+    /// The number of the level.
+    pub fn number(&self) -> u32
+        ensures { result ≡ self.now.level }
+    {
+        self.level
     }
 
     /// The complete parts, oldest first.
@@ -109,73 +94,68 @@ impl<B: Builder> Level<B> {
         self.parts.is_empty() && self.construction.is_none()
     }
 
+    /// Whether a construction runs into the level.
+    pub fn is_building(&self) -> bool
+        ensures { result ≡ is_some self.now.construction }
+    {
+        self.construction.is_some()
+    }
+
+    /// Whether a part may arrive here within two ticks, so that a construction into the next level may begin.
+    pub fn is_due_soon(&self) -> bool
+        ensures { result ≡ is_due 2 self.now }
+    {
+        (1u64 << self.level).saturating_sub(2) <= self.ticks()
+    }
+
+    /// How many ticks are done of the construction, 0 where none runs.
+    fn ticks(&self) -> u64
+        ensures { result ≡ ticks_of self.now }
+    {
+        match &self.construction {
+            Some(construction) => construction.ticks(),
+            None => 0,
+        }
+    }
+
     /// Takes in a part as the newest.
     pub fn arrive(&mut self, part: B::Part)
         requires place { length self.old.parts < 3 }
-        requires room { held_in self.old < 5 }
         requires of_level { IsOfLevel self.old.level (B.Part.Part.contents part) }
         ensures { self.new ≡ record self.old { parts = self.old.parts ++ part ∷ [] } }
     {
         self.parts.push_reserved(part);
     }
 
-    /// Retires so many parts, the oldest ones: their memory is kept as builders.
-    #[tactic(auto, using(crate::proofs::Held::drop_more))]
-    pub fn retire(&mut self, count: usize)
-        requires { count ≤ length self.old.parts }
-        ensures retired { self.new.parts ≡ drop count self.old.parts }
-        ensures same { self.new ≡ record self.old { parts = self.new.parts; kept = self.old.kept + count } }
-        ensures held { in_memory self.new ≡ in_memory self.old }
+    /// Retires the oldest part: its memory goes back to the store.
+    fn retire_oldest(&mut self, store: &mut Store<B>)
+        requires some { 0 < length self.old.parts }
+        requires lent { 0 < lent_at self.old.level store.old.builders }
+        ensures retired { self.new ≡ record self.old { parts = drop 1 self.old.parts } }
+        ensures back { TakesPart self.old.level store.old store.new }
     {
-        for _done in 0..count {
-            self.retire_oldest();
-        }
+        let part = self.parts.remove(0);
+        store.take_back(self.level, part);
     }
 
-    /// Retires the oldest part.
-    fn retire_oldest(&mut self)
-        requires { 0 < length self.old.parts }
-        ensures retired { self.new.parts ≡ drop 1 self.old.parts }
-        ensures same { self.new ≡ record self.old { parts = self.new.parts; kept = self.old.kept + 1 } }
-        ensures held { in_memory self.new ≡ in_memory self.old }
-    {
-        let builder = B::recycle(self.parts.remove(0));
-        self.builders.push_reserved(builder);
-    }
-
-    /// Begins the construction of a part of a and b into this level, where none runs.
-    pub fn begin(&mut self, a: &B::Part, b: &B::Part)
+    /// Begins the construction of a part of a and b into this level, where none runs, in a room that the store lends.
+    pub fn begin(&mut self, a: &B::Part, b: &B::Part, store: &mut Store<B>)
         requires fits { length (B.Part.Part.contents a.now).items ≤ 2 ^ (self.old.level - 1) }
         requires other_fits { length (B.Part.Part.contents b.now).items ≤ 2 ^ (self.old.level - 1) }
         requires apart { AllStampsDiffer B.Item.stamp ((B.Part.Part.contents a.now).items ++ (B.Part.Part.contents b.now).items) }
-        requires roomy { self.old.construction ≡ None → self.old.has_room ≡ true }
+        requires kept { self.old.construction ≡ None → HasRoom self.old.level store.old }
         requires fed { IsConstructionOf B.Part.Part.contents ⟦<B as Profiled>⟧.profile a.now b.now self.old }
         ensures fed { IsConstructionOf B.Part.Part.contents ⟦<B as Profiled>⟧.profile a.now b.now self.new }
         ensures runs { is_some self.new.construction ≡ true }
-        ensures same { self.new ≡ record self.old { construction = self.new.construction; has_room = self.new.has_room } }
-        ensures ticks { ticks_of self.new ≡ ticks_of self.old }
-        ensures waiting { waiting_in self.new ≡ waiting_in self.old }
-        ensures running { is_some self.old.construction ≡ true → self.new ≡ self.old }
-        ensures begun { self.old.construction ≡ None → IfSome self.new.construction IsBegun }
-        ensures held { in_memory self.new ≡ in_memory self.old }
+        ensures same { self.new ≡ record self.old { construction = self.new.construction } }
+        ensures running { is_some self.old.construction ≡ true → (self.new ≡ self.old) × (store.new ≡ store.old) }
+        ensures begun { self.old.construction ≡ None → Begins self.old store.old self.new store.new }
     {
         if self.construction.is_some() {
             return;
         }
-        match self.room.take() {
-            Some(room) => self.start(room.begin(a, b)),
-            None => unreachable!(),
-        }
-    }
-
-    /// Takes in a construction.
-    fn start(&mut self, construction: Build<B>)
-        requires of_level { construction.level ≡ self.old.level }
-        requires room { held_in self.old < 5 }
-        requires room_for_tables { tables_in self.old < 2 }
-        ensures { self.new ≡ record self.old { construction = Some construction } }
-    {
-        self.construction = Some(construction);
+        let room = store.lend(self.level);
+        self.construction = Some(room.begin(a, b));
     }
 
     /// One tick of the construction of a part of a and b.
@@ -203,28 +183,28 @@ impl<B: Builder> Level<B> {
         }
     }
 
-    /// Publishes the part under construction, where all its ticks are done, and retires the two that it was made of.
-    pub fn publish(&mut self, lower: &mut Level<B>)
+    /// Publishes the part under construction, where all its ticks are done, and retires the two that it was made of: the store has back
+    /// the memory of these, and the tables.
+    pub fn publish(&mut self, lower: &mut Level<B>, store: &mut Store<B>)
         requires runs { is_some self.old.construction ≡ true }
         requires two { 2 ≤ length lower.old.parts }
         requires within { ticks_of self.old ≤ 2 ^ self.old.level }
         requires place { ticks_of self.old ≡ 2 ^ self.old.level → length self.old.parts < 3 }
         requires punctual { IsPunctual ⟦<B as Profiled>⟧.profile self.old }
         requires fed { IsFed B.Part.Part.contents ⟦<B as Profiled>⟧.profile lower.old self.old }
+        requires lent { AreLent (lower.old ∷ self.old ∷ []) store.old }
         ensures waits { ticks_of self.old < 2 ^ self.old.level → (self.new ≡ self.old) × (lower.new ≡ lower.old) }
         ensures ends { ticks_of self.old ≡ 2 ^ self.old.level → IsPublication B.Part.Part.contents self.old lower.old self.new lower.new }
-        ensures same { self.new ≡ record self.old { parts = self.new.parts; construction = self.new.construction; tables = self.new.tables } }
-        ensures same_below { lower.new ≡ record lower.old { parts = lower.new.parts; kept = lower.new.kept } }
-        ensures held { in_memory self.new ≡ in_memory self.old }
-        ensures held_below { in_memory lower.new ≡ in_memory lower.old }
+        ensures trades { Trades (lower.old ∷ self.old ∷ []) store.old (lower.new ∷ self.new ∷ []) store.new }
         ensures waiting { waiting_in self.new ≡ waiting_in self.old }
         ensures left { left_in ⟦<B as Profiled>⟧.profile self.new ≡ left_in ⟦<B as Profiled>⟧.profile self.old }
     {
         if let Some(construction) = self.take_ended() {
             let (part, tables) = construction.publish();
             self.arrive(part);
-            self.keep_tables(tables);
-            lower.retire(2);
+            store.take_back_tables(self.level, tables);
+            lower.retire_oldest(store);
+            lower.retire_oldest(store);
         }
     }
 
@@ -232,8 +212,6 @@ impl<B: Builder> Level<B> {
     fn take_ended(&mut self) -> Option<Build<B>>
         ensures ended { IfSome result (λ c. (self.old.construction ≡ Some c) × (c.level ≡ self.old.level) × (2 ^ c.level ≤ c.ticks)) }
         ensures taken { IfSome result (λ _. self.new ≡ record self.old { construction = None }) }
-        ensures few { IfSome result (λ _. held_in self.new < 5) }
-        ensures few_tables { IfSome result (λ _. tables_in self.new < 2) }
         ensures waits { IsNone result → self.new ≡ self.old }
         ensures unended { IsNone result → is_some self.old.construction ≡ true → ticks_of self.old < 2 ^ self.old.level }
     {
@@ -253,15 +231,6 @@ impl<B: Builder> Level<B> {
             Some(construction) => construction.ticks() >= 1 << self.level,
             None => false,
         }
-    }
-
-    /// Keeps tables.
-    fn keep_tables(&mut self, tables: Tables<B>)
-        requires of_level { tables ≡ self.old.level }
-        requires place { tables_in self.old < 2 }
-        ensures { self.new ≡ record self.old { tables = self.old.tables + 1 } }
-    {
-        self.tables.push_reserved(tables);
     }
 
     /// Marks an item as dead in the part that has it, and gives the place of that part: each part is asked, the oldest first, up to

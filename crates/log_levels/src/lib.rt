@@ -32,11 +32,21 @@
 //!   where at most one part is left. If two parts stood here, the construction above them has done at least `2^k` ticks, since the clock here
 //!   was at `2^k - 1`: that is the inequality without the `+ 1` for three parts.
 //!
-//! What a level retires it keeps, as memory for its next parts: in whatever use, at most five parts of a level are in memory.
+//! The memory of all parts and constructions is lent by a store (`part_store`), which a call is passed beside the steps, and goes back to it:
 //!
-//! Five are all that may ever be retired there; to keep fewer would free the others in some update. Inserts alone use five: after 17
-//! into an empty stack level 2 has three complete parts, a construction, and a room for the next. The levels are a crate of their own,
-//! so that a wrong tick breaks a public contract.
+//! ```text
+//!                         level i + 1                               the store
+//!
+//!  a construction begins:   under construction into i + 1    <---   a builder and tables of level i + 1
+//!  it ends:                 its part is complete             --->   the tables
+//!                           A and B of level i are retired   --->   two builders of level i
+//!
+//!  an item comes:           a part of level 0                <---   a builder of level 0
+//! ```
+//!
+//! So a tick takes and frees no memory. How much of each level the next two ticks may want is told by the clocks (`wanted_at` of
+//! `specs/Trades.antt`); of a stack it is one room a level and two builders of level 0 at most. Clauses say what more is lent, so they hold for
+//! whatever else the store has lent. The levels are a crate of their own, so that a wrong tick breaks a public contract.
 #![tactic(auto)]
 
 mod asking;

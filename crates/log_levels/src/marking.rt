@@ -1,20 +1,22 @@
 //! The item of a delete: it is marked as dead, and a construction that reads its part takes note.
-ghost use Rattle.std.specs.Prelude.{◌≡◌, ℕ, ◌+◌, ◌-◌, ◌*◌, ◌^◌, ◌<◌, ◌≤◌, false, List, ◌∷◌, All, Contains, map};
+ghost use Rattle.std.specs.Prelude.{◌≡◌, ℕ, ◌+◌, ◌-◌, ◌*◌, ◌^◌, ◌<◌, ◌≤◌, false, List, ◌∷◌, All, Contains};
 ghost use Rattle.query_laws.specs.Orders.{AllStampsDiffer};
 ghost use Rattle.query_laws.specs.Permuted.{Permuted};
 ghost use Rattle.query_laws.specs.StepLedger.{Spends};
 ghost use Rattle.query_laws.specs.declared.item.Order.TheVariants.{First};
 ghost use Rattle.builder_trait.specs.Parts.{OwnsStamp, has_stamp, without, marked};
-ghost use Rattle.log_levels.specs.Slots.{Slots, IsPartOf, ticks_of, in_memory, live_in, items_in, asked_in};
+ghost use Rattle.log_levels.specs.Slots.{Slots, IsPartOf, ticks_of, live_in, items_in, asked_in};
 ghost use Rattle.log_levels.specs.Levels.{weight_of, waiting_of, live_items, all_items, parts_asked};
 ghost use Rattle.log_levels.specs.Neighbours.{IsConstructionOf, IsPunctual};
-ghost use Rattle.log_levels.specs.Towers.{IsDue, IsDueSoon, IsTower, HaveRoomsAbove, AreLevels, AreOnTime, TakeTicks};
+ghost use Rattle.log_levels.specs.Towers.{IsTower, AreLevels, AreOnTime, TakeTicks};
+ghost use Rattle.log_levels.specs.Trades.{AreLent, IsStocked, Ticks};
 ghost use Rattle.log_levels.specs.Cost.{IsCostOfDelete, ArePaid};
 ghost use Rattle.log_levels.specs.Marking.{IsLiveIn, AreNoted, IsMarked, IsSameBelow, AreMarked, read_into, noted_above, noted};
 
 use crate::level::Level;
 use crate::visiting::take_tick;
 use builder_trait::{Builder, Part, Profiled};
+use part_store::Store;
 use query_laws::Item;
 use query_laws::step_ledger::Steps;
 use std::sync::ledger::Ledger;
@@ -92,8 +94,6 @@ fn mark_in<B: Builder, L: Ledger>(
     ensures found { result ≡ has_stamp B.Item.stamp (B.Item.stamp item.now) (live_items B.Part.Part.contents levels.old) }
     ensures unfound { result ≡ false → All (IsPunctual ⟦<B as Profiled>⟧.profile) levels.new }
     ensures same { IsSameBelow levels.old levels.new }
-    ensures rooms { HaveRoomsAbove IsDue levels.old → HaveRoomsAbove IsDue levels.new }
-    ensures rooms_ahead { HaveRoomsAbove IsDueSoon levels.old → HaveRoomsAbove IsDueSoon levels.new }
     ensures marked { AreMarked B.Part.Part.contents B.Item.stamp (B.Item.stamp item.now)
         (noted (B.Item.before First) item.now B.Part.Part.contents B.Item.stamp levels.old) levels.old levels.new }
     ensures cost { (g : ℕ) → weight_of levels.old < 2 ^ (g + 1)
@@ -115,10 +115,12 @@ fn mark_in<B: Builder, L: Ledger>(
 pub fn take_out<B: Builder, L: Ledger>(
     levels: &mut [Level<B>],
     item: &B::Item,
+    store: &mut Store<B>,
     steps: &mut Steps<L>,
 )
     requires on_time { AreOnTime B.Part.Part.contents ⟦<B as Profiled>⟧.profile levels.old }
-    requires rooms { HaveRoomsAbove IsDue levels.old }
+    requires stocked { IsStocked levels.old store.old 1 }
+    requires lent { AreLent levels.old store.old }
     requires apart { AllStampsDiffer B.Item.stamp (all_items B.Part.Part.contents levels.old) }
     requires live { Contains (live_items B.Part.Part.contents levels.old) item.now }
     ensures on_time { AreOnTime B.Part.Part.contents ⟦<B as Profiled>⟧.profile levels.new }
@@ -127,13 +129,12 @@ pub fn take_out<B: Builder, L: Ledger>(
     ensures items { IsPartOf (all_items B.Part.Part.contents levels.new) (all_items B.Part.Part.contents levels.old) }
     ensures weight { weight_of levels.new ≡ weight_of levels.old }
     ensures each { TakeTicks levels.old levels.new }
-    ensures held { map in_memory levels.new ≡ map in_memory levels.old }
-    ensures rooms { HaveRoomsAbove IsDueSoon levels.old → HaveRoomsAbove IsDue levels.new }
+    ensures trades { Ticks levels.old store.old levels.new store.new }
     ensures cost { IsCostOfDelete B.SLOPE B.BASE B.Part.Part.mark_touches
         (parts_asked B.Part.Part.contents B.Item.stamp (B.Item.stamp item.now) levels.old)
         (noted (B.Item.before First) item.now B.Part.Part.contents B.Item.stamp levels.old) levels.old levels.new steps.old steps.new }
     ensures paid { ArePaid ⟦<B as Profiled>⟧.profile levels.old levels.new steps.old steps.new }
 {
     mark_in(levels, item, steps);
-    take_tick(levels, steps);
+    take_tick(levels, store, steps);
 }

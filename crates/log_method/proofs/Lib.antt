@@ -1,7 +1,8 @@
-pub mod HeldByLevel
 pub mod Stacks
 pub mod FewParts
 pub mod Forecasting
-pub mod TakingOver
-pub mod TakingMemory
-pub mod GivingUp
+pub mod Taking
+pub mod FewHeld
+pub mod GivingBack
+pub mod Fewness
+pub mod Topmost

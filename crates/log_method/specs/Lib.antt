@@ -1,5 +1,5 @@
 pub mod Stack
-pub mod Rooms
 pub mod Height
 pub mod Preparing
 pub mod Retired
+pub mod Few

@@ -1,28 +1,23 @@
 //! The stack.
-ghost use Rattle.std.specs.Prelude.{◌≡◌, ◌≢◌, ℕ, ◌+◌, ◌-◌, ◌*◌, ◌^◌, ◌<◌, ◌≤◌, true, false, [], ◌∷◌, All, Contains, IsTrue, IfOk, IsErr, OnOk, OnErr, length};
-ghost use Rattle.query_laws.specs.Permuted.{Permuted};
+ghost use Rattle.std.specs.Prelude.{◌≡◌, ◌≢◌, ℕ, ◌+◌, ◌*◌, ◌^◌, ◌<◌, ◌≤◌, true, false, [], All, Contains, IsTrue, IfOk, IsErr, OnErr, length};
 ghost use Rattle.query_laws.specs.StepLedger.{Consults};
 ghost use Rattle.query_laws.specs.declared.item.Order.TheVariants.{First};
-ghost use Rattle.builder_trait.specs.Parts.{without, live_of};
-ghost use Rattle.builder_trait.specs.Builders.{begun};
-ghost use Rattle.partial_build.specs.Quota.{quota};
-ghost use Rattle.log_levels.specs.Slots.{IsPartOf, HoldsFew};
 ghost use Rattle.log_levels.specs.Levels.{live_items, all_items, weight_of, parts_of, parts_asked, touches_of};
-ghost use Rattle.log_method.specs.Stack.{Stacked, HaveSameItems, held_by_level};
-ghost use Rattle.log_method.specs.Preparing.{AreKept, KeepMore, TakeMemory};
-ghost use Rattle.log_method.specs.Retired.{IsTakenOver};
-ghost use Rattle.log_method.specs.Height.{IsHeight, HaveAtMost, HaveFewParts, size_of};
 ghost use Rattle.log_levels.specs.Asking.{AreThreeAtMost, HasAsked};
-ghost use Rattle.log_levels.specs.Level.{IsOfLevel};
-ghost use Rattle.log_levels.specs.Cost.{IsWithin, IsCostOfInsert, IsCostOfDelete, ArePaid};
-ghost use Rattle.log_levels.specs.Towers.{AreOnTime, TakeTicks};
+ghost use Rattle.log_levels.specs.Cost.{IsCostOfInsert, IsCostOfDelete, ArePaid};
+ghost use Rattle.log_levels.specs.Towers.{AreOnTime};
 ghost use Rattle.log_levels.specs.Marking.{noted};
-ghost use Rattle.log_method.specs.Rooms.{rooms_of, kept_in, forecast_of};
+ghost use Rattle.log_levels.specs.Trades.{used_at, wanted_at, IsStocked, Ticks};
+ghost use Rattle.log_method.specs.Few.{HaveFew};
+ghost use Rattle.log_method.specs.Stack.{HaveSameItems, MayTick, Inserts, Deletes};
+ghost use Rattle.log_method.specs.Height.{IsHeight, HaveAtMost, HaveFewParts, size_of};
+ghost use Rattle.log_method.specs.Preparing.{AreKept, AreEnough, HasTaken, LendsOnly, HoldsFew, rooms_of};
 
-use crate::preparing::{builders_kept, rooms_held, take_memory};
-use crate::retired::{Retired, keep};
-use builder_trait::{Answers, Asking, Builder, Part, Profiled, part_of_one};
+use crate::preparing::{add_levels, forecast, stock_levels, wanted};
+use crate::retired::Retired;
+use builder_trait::{Answers, Asking, Builder, Part, Profiled};
 use log_levels::{Level, ask_levels, take_in, take_out};
+use part_store::Store;
 use query_laws::step_ledger::Steps;
 use query_laws::{Item, NoMemory, Question};
 use std::alloc::Global;
@@ -32,91 +27,73 @@ use std::sync::ledger::Ledger;
 /// A dynamic set of items with different stamps, in static parts.
 ///
 /// Each insert and each delete is one tick: it spends a quota of turns at each level where a construction runs, so that none of
-/// them stalls. Memory is taken by [`Stack::prepare`] alone. A deleted item stays, dead, until the part that has it is made anew:
-/// the weight of a stack is the number of inserts since it was made.
+/// them stalls. What it takes is lent by a store, which [`Stack::prepare`] stocks. A deleted item stays, dead, until the part that has
+/// it is made anew: the weight of a stack is the number of inserts since it was made.
 #[derive(Drop)]
 pub struct Stack<B: Builder> {
     alloc: Global,
     levels: Vec<Level<B>>,
-    starters: Vec<B>,
-    spare: u32,
     weight: u64,
     live: u64,
 }
 
 impl<B: Builder> Model for Stack<B> {
-    ghost use Rattle.std.specs.Prelude.{◌≡◌, ◌≤◌, All, length};
-    ghost use Rattle.builder_trait.specs.Builders.{begun};
+    ghost use Rattle.std.specs.Prelude.{◌≡◌, ◌≤◌, length};
     ghost use Rattle.log_levels.specs.Levels.{live_items, weight_of};
     ghost use Rattle.log_method.specs.Stack.{Stacked};
     ghost use Rattle.log_method.specs.Stack.{IsStack};
 
     ghost Value = { Stacked B.Part B.Item };
 
-    ghost view = { λ s. record { levels = s.levels.items; spare = s.spare; starters = length s.starters.items } };
+    ghost view = { λ s. record { levels = s.levels.items } };
 
     ghost invariant = { λ s.
         IsStack B.Part.Part.contents (record { stamp = B.Item.stamp; before = B.Item.before; slope = B.SLOPE; base = B.BASE })
-        (record { levels = s.levels.items; spare = s.spare; starters = length s.starters.items })
+        (record { levels = s.levels.items })
         × (s.weight ≡ weight_of s.levels.items)
         × (s.live ≡ length (live_items B.Part.Part.contents s.levels.items))
-        × All (λ b. B.progress b ≡ begun 0) s.starters.items × (s.live ≤ s.weight) };
+        × (s.live ≤ s.weight) };
 }
 
 impl<B: Builder> Stack<B> {
-    /// A stack without items. It takes no memory; [`Stack::prepare`] takes its from `alloc`.
+    /// A stack without items. It takes no memory; [`Stack::add_levels`] takes that of its levels from `alloc`.
     pub fn new(alloc: Global) -> Stack<B>
-        ensures { result ≡ record { levels = []; spare = 0; starters = 0 } }
+        ensures { result ≡ record { levels = [] } }
     {
         Stack {
             alloc,
             levels: Vec::new(alloc),
-            starters: Vec::new(alloc),
-            spare: 0,
             weight: 0,
             live: 0,
         }
     }
 
     /// Inserts an item: one tick. Its stamp is that of no other item of the stack, dead ones included.
-    pub fn insert<L: Ledger>(&mut self, item: B::Item, steps: &mut Steps<L>)
-        requires spare { 1 ≤ self.old.spare }
-        requires light { weight_of self.old.levels < 2 ^ 31 }
+    pub fn insert<L: Ledger>(&mut self, item: B::Item, store: &mut Store<B>, steps: &mut Steps<L>)
+        requires ready { MayTick self.old.levels store.old }
         requires apart { All (λ x. B.Item.stamp x ≢ B.Item.stamp item) (all_items B.Part.Part.contents self.old.levels) }
-        ensures live { Permuted (live_items B.Part.Part.contents self.new.levels) (item ∷ live_items B.Part.Part.contents self.old.levels) }
-        ensures items { IsPartOf (all_items B.Part.Part.contents self.new.levels) (item ∷ all_items B.Part.Part.contents self.old.levels) }
-        ensures weight { weight_of self.new.levels ≡ weight_of self.old.levels + 1 }
-        ensures each_level { held_by_level self.new ≡ held_by_level self.old }
-        ensures ticks { TakeTicks self.old.levels self.new.levels }
-        ensures spare { self.old.spare ≤ self.new.spare + 1 }
+        ensures inserts { Inserts B.Part.Part.contents item self.old.levels self.new.levels }
+        ensures trades { Ticks self.old.levels store.old self.new.levels store.new }
 
         // A part is made of the item.
         ensures some_turns { steps.old.turns + 3 ≤ steps.new.turns }
 
         // Whichever bound g there is: the least is the greatest level with `2 ^ g` at most the weight. The marks are one for each item that waited
         // and waits no longer.
-        ensures cost { IsCostOfInsert B.SLOPE B.BASE 0 B.Part.Part.mark_touches self.old.levels self.new.levels steps.old steps.new }
+        ensures cost { IsCostOfInsert B.SLOPE B.BASE B.Part.Part.mark_touches self.old.levels self.new.levels steps.old steps.new }
         ensures paid { ArePaid ⟦<B as Profiled>⟧.profile self.old.levels self.new.levels steps.old steps.new }
     {
-        let part = part_of(&mut self.starters, item, steps);
-        take_in(&mut self.levels, part, steps);
-        self.spare -= 1;
+        take_in(&mut self.levels, item, store, steps);
         self.weight += 1;
         self.live += 1;
     }
 
     /// Deletes an item: one tick. The parts are asked for it, those of the highest level first, until one has it.
-    pub fn delete<L: Ledger>(&mut self, item: &B::Item, steps: &mut Steps<L>)
-        requires spare { 1 ≤ self.old.spare }
-        requires light { weight_of self.old.levels < 2 ^ 31 }
+    pub fn delete<L: Ledger>(&mut self, item: &B::Item, store: &mut Store<B>, steps: &mut Steps<L>)
+        requires ready { MayTick self.old.levels store.old }
         requires live { Contains (live_items B.Part.Part.contents self.old.levels) item.now }
-        ensures live { Permuted (live_items B.Part.Part.contents self.new.levels)
-            (without B.Item.stamp (B.Item.stamp item.now) (live_items B.Part.Part.contents self.old.levels)) }
-        ensures items { IsPartOf (all_items B.Part.Part.contents self.new.levels) (all_items B.Part.Part.contents self.old.levels) }
-        ensures weight { weight_of self.new.levels ≡ weight_of self.old.levels }
-        ensures each_level { held_by_level self.new ≡ held_by_level self.old }
-        ensures ticks { TakeTicks self.old.levels self.new.levels }
-        ensures spare { self.old.spare ≤ self.new.spare + 1 }
+        ensures deletes { Deletes B.Part.Part.contents B.Item.stamp (B.Item.stamp item.now) self.old.levels self.new.levels }
+        ensures trades { Ticks self.old.levels store.old self.new.levels store.new }
 
         // Whichever bound g there is, as for an insert. The marks are one for each part that is asked, and one for each item that waited and waits
         // no longer.
@@ -130,16 +107,8 @@ impl<B: Builder> Stack<B> {
         ensures few_asked { (g : ℕ) → weight_of self.new.levels < 2 ^ (g + 1)
             → parts_asked B.Part.Part.contents B.Item.stamp (B.Item.stamp item.now) self.old.levels ≤ 3 * (g + 1) }
     {
-        take_out(&mut self.levels, item, steps);
-        self.spare -= 1;
+        take_out(&mut self.levels, item, store, steps);
         self.live -= 1;
-    }
-
-    /// The number of ticks that need no more memory.
-    pub fn spare(&self) -> u32
-        ensures { result ≡ self.now.spare }
-    {
-        self.spare
     }
 
     /// The number of inserts since the stack was made: the sum of `2^i` over the complete parts of each level i.
@@ -223,91 +192,79 @@ impl<B: Builder> Stack<B> {
         height as u32
     }
 
-    /// Takes all memory that the next two ticks may want, by forecast: rooms are made only for constructions that may begin by then,
-    /// and the others are given back.
+    /// Makes the levels, as empty ones, that the next two ticks may want.
     ///
-    /// `NoMemory` where it isn't given; nothing but rooms, kept builders, those for single items and empty levels has changed then, and
-    /// the spare isn't lower.
-    pub fn prepare(&mut self) -> Result<(), NoMemory>
-        ensures spare { IfOk result (λ _. 2 ≤ self.new.spare) }
-        ensures no_lower { self.old.spare ≤ self.new.spare }
+    /// `NoMemory` where memory for one isn't given; those made so far stay.
+    pub fn add_levels(&mut self) -> Result<(), NoMemory>
+        ensures enough { IfOk result (λ _. weight_of self.new.levels < 2 ^ 31 → AreEnough self.new.levels) }
         ensures same { HaveSameItems B.Part.Part.contents self.old.levels self.new.levels }
         ensures each { AreKept self.old.levels self.new.levels }
-        ensures memory { TakeMemory self.old.starters self.old.levels self.new.starters self.new.levels }
-        ensures rooms { IfOk result (λ _. rooms_of self.new ≤ 2 + forecast_of self.new.levels) }
+        ensures has_few { HaveFew self.new.levels }
     {
-        take_memory(&mut self.levels, &mut self.starters, self.alloc)?;
-        self.spare = 2;
-        Ok(())
+        add_levels(&mut self.levels, self.alloc)
     }
 
-    /// The weight of the rooms that are held and not begun: a room of level i weighs `2^i`, and a builder for a single item 1.
+    /// How many builders of a level the next two ticks may take, and above level 0 as many tables.
+    pub fn wanted(&self, level: u32) -> usize
+        ensures value { result ≡ wanted_at 2 level self.now.levels }
+        ensures few { result ≤ 2 }
+    {
+        wanted(&self.levels, level)
+    }
+
+    /// It does no work, and says how much of each level the stack has and may want.
+    pub fn tell_few(&self)
+        ensures { HaveFew self.now.levels }
+    {
+        let _opened = self.weight;
+    }
+
+    /// How many builders of a level the stack has, one that a part is made in too.
+    pub fn used(&self, level: u32) -> usize
+        ensures value { result ≡ used_at level self.now.levels }
+        ensures has_few { HaveFew self.now.levels }
+    {
+        match self.levels.get(level as usize) {
+            Some(at) => at.parts().len() + usize::from(at.is_building()),
+            None => 0,
+        }
+    }
+
+    /// Takes all memory that the next two ticks may want, by forecast: levels, and what a store that serves no other stack has to keep.
+    ///
+    /// `NoMemory` where it isn't given; what was taken is kept.
+    pub fn prepare(&mut self, store: &mut Store<B>) -> Result<(), NoMemory>
+        ensures stocked { IfOk result (λ _. weight_of self.new.levels < 2 ^ 31 → IsStocked self.new.levels store.new 2) }
+        ensures same { HaveSameItems B.Part.Part.contents self.old.levels self.new.levels }
+        ensures each { AreKept self.old.levels self.new.levels }
+        ensures taken { HasTaken (λ k. wanted_at 2 k self.new.levels) store.old store.new }
+        ensures has_few { HaveFew self.new.levels }
+
+        // Of whichever level: three complete parts, one under construction, and what is wanted.
+        ensures few { LendsOnly self.old.levels store.old → HoldsFew store.old store.new }
+    {
+        add_levels(&mut self.levels, self.alloc)?;
+        stock_levels(&self.levels, store, self.alloc)
+    }
+
+    /// The weight of what the next two ticks may take: a builder for a construction into level i weighs `2^i`, and one for an item 1.
     pub fn rooms(&self) -> u64
         ensures value { result ≡ rooms_of self.now }
-        ensures few { result < 2 ^ 33 }
+        ensures few { result ≤ 2 ^ 33 }
     {
-        self.starters.len() as u64 + rooms_held(&self.levels)
+        2 + forecast(&self.levels, 0)
     }
 
-    /// The weight of the builders that are kept of retired parts: one of level i weighs `2^i`. Of each level at most five parts are in
-    /// memory, these included, and the tables of at most two constructions.
-    pub fn kept(&self) -> u64
-        ensures value { result ≡ kept_in self.now.levels }
-        ensures bounded { All HoldsFew self.now.levels }
-    {
-        builders_kept(&self.levels)
-    }
-
-    /// Gives up the items: what is left is the memory, to be taken over part by part, those of the highest level first.
+    /// Gives up the items: what is left is the memory, to be given back part by part.
     pub fn retire(self) -> Retired<B>
-        ensures { result ≡ record self { spare = 0 } }
+        ensures { result ≡ self }
     {
         let Stack {
             alloc: _,
             levels,
-            starters,
-            spare: _,
             weight: _,
             live: _,
         } = self;
-        Retired::new(levels, starters)
-    }
-
-    /// Takes one part out of a retired stack, if one is left there: one of its highest level. It is kept at that level for the next
-    /// construction where there is a place for it, and freed else; one that is under construction is freed whole.
-    pub fn take_over(&mut self, retired: &mut Retired<B>)
-        ensures taken { IsTakenOver B.Part.Part.contents retired.old retired.new self.old self.new }
-        ensures same { HaveSameItems B.Part.Part.contents self.old.levels self.new.levels }
-        ensures each { KeepMore self.old.levels self.new.levels }
-        ensures starters { self.new.starters ≡ self.old.starters }
-        ensures spare { self.new.spare ≡ self.old.spare }
-        ensures rooms { rooms_of self.new ≡ rooms_of self.old }
-    {
-        let Some((level, builder)) = retired.give_up() else {
-            return;
-        };
-        keep(&mut self.levels, level, builder, self.starters.len());
-    }
-}
-
-/// A part of one item, by a builder that stands ready.
-fn part_of<B: Builder, L: Ledger>(
-    starters: &mut Vec<B>,
-    item: B::Item,
-    steps: &mut Steps<L>,
-) -> B::Part
-    requires some { 0 < length starters.old.items }
-    requires begun { All (λ b. B.progress b ≡ begun 0) starters.old.items }
-    ensures begun { All (λ b. B.progress b ≡ begun 0) starters.new.items }
-    ensures one_fewer { length starters.new.items + 1 ≡ length starters.old.items }
-    ensures of_level { IsOfLevel 0 (B.Part.Part.contents result) }
-    ensures items { (B.Part.Part.contents result).items ≡ item ∷ [] }
-    ensures live { live_of (B.Part.Part.contents result) ≡ item ∷ [] }
-    ensures some_turns { steps.old.turns + 3 ≤ steps.new.turns }
-    ensures cost { (touches : ℕ) → IsWithin (quota B.SLOPE B.BASE 0) 0 touches steps.old steps.new }
-{
-    match starters.pop() {
-        Some(builder) => part_of_one(builder, item, steps),
-        None => unreachable!(),
+        Retired::new(levels)
     }
 }

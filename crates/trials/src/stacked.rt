@@ -3,6 +3,7 @@ use crate::bench::Bench;
 use crate::tried::Tried;
 use builder_trait::{Answers, Asking, Builder, Part};
 use log_method::Stack;
+use part_store::Store;
 use query_laws::step_ledger::Steps;
 use query_laws::{Item, NoMemory, Question};
 use samples::{Failure, Outcome};
@@ -13,22 +14,24 @@ use std::sync::ledger::Ledger;
 /// The most inserts.
 const MOST: u64 = 1 << 30;
 
-/// A stack, and the items that are live in it, in order of insert.
+/// A stack, a store for it, and the items that are live in it, in order of insert.
 #[derive(Drop)]
 pub struct Stacked<B: Builder> {
     stack: Stack<B>,
+    store: Store<B>,
     items: Vec<B::Item>,
 }
 
 impl<B: Builder> Model for Stacked<B> {
     ghost use Rattle.std.specs.Prelude.{List};
+    ghost use Rattle.log_levels.specs.Trades.{AreLent};
     ghost use Rattle.trials.specs.Stacks.{IsStackOf};
 
     ghost Value = { List B.Item };
 
     ghost view = { λ s. s.items.items };
 
-    ghost invariant = { λ s. IsStackOf B.Part.Part.contents B.Item.stamp s.stack.levels s.items.items };
+    ghost invariant = { λ s. IsStackOf B.Part.Part.contents B.Item.stamp s.stack.levels s.items.items × AreLent s.stack.levels s.store };
 }
 
 impl<B: Builder> Tried<B> for Stacked<B> {
@@ -41,6 +44,7 @@ impl<B: Builder> Tried<B> for Stacked<B> {
     fn new(alloc: Global, most: usize) -> Result<Stacked<B>, NoMemory> {
         Ok(Stacked {
             stack: Stack::new(alloc),
+            store: Store::new(alloc),
             items: Vec::with_capacity(alloc, most)?,
         })
     }
@@ -50,8 +54,8 @@ impl<B: Builder> Tried<B> for Stacked<B> {
             return Err(Failure::Unfit);
         }
         self.items.reserve(1)?;
-        self.stack.prepare()?;
-        self.stack.insert(item, steps);
+        self.stack.prepare(&mut self.store)?;
+        self.stack.insert(item, &mut self.store, steps);
         self.items.push_reserved(item);
         Ok(())
     }
@@ -60,9 +64,9 @@ impl<B: Builder> Tried<B> for Stacked<B> {
         if self.stack.weight() >= MOST || self.items.is_empty() {
             return Ok(None);
         }
-        self.stack.prepare()?;
+        self.stack.prepare(&mut self.store)?;
         let item = self.items[pick % self.items.len()];
-        self.stack.delete(&item, steps);
+        self.stack.delete(&item, &mut self.store, steps);
         self.items.retain(|other| other.stamp() != item.stamp());
         Ok(Some(item))
     }

@@ -1,5 +1,6 @@
 use Rattle.std.proofs.Common.{◌≡◌, ◌<◌, All, Contains}
 use Rattle.log_levels.specs.Levels.{weight_of, live_items, all_items}
+use Rattle.log_levels.specs.Trades.{AreLent}
 use Rattle.index_tests.proofs.stacks.insert_up_to.Given as goal
 
 abbrev pub invariant-loop-stamp : goal.invariant-loop-stamp
@@ -7,4 +8,5 @@ invariant-loop-stamp g l = record {
   weight : weight_of l.stack.levels ≡ l.stamp;
   below : All (λ x. x.stamp < l.stamp) (all_items g.B.Part.Part.contents l.stack.levels);
   first : 0 < l.stamp → Contains (live_items g.B.Part.Part.contents l.stack.levels) (record { x = 1; y = 2; stamp = 0 });
+  lent : AreLent l.stack.levels l.store;
 }

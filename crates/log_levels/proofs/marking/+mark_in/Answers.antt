@@ -8,17 +8,16 @@ use Rattle.query_laws.specs.StepLedger.{Spends}
 use Rattle.query_laws.proofs.Counting.{Spends-nothing, Spends-within}
 use Rattle.builder_trait.specs.Builders.{PartProfile}
 use Rattle.builder_trait.specs.Parts.{OwnsStamp, has_stamp, without, live_of}
-use Rattle.log_levels.specs.Slots.{Slots, one_if, work_of, waiting_in, held_in, tables_in, in_memory, weight_in, live_in, items_in, asked_in}
+use Rattle.log_levels.specs.Slots.{Slots, work_of, waiting_in, weight_in, live_in, items_in, asked_in}
 use Rattle.log_levels.specs.Levels.{waiting_of, weight_of, live_items, all_items, parts_asked}
 use Rattle.log_levels.specs.Neighbours.{IsPunctual}
-use Rattle.log_levels.specs.Towers.{IsDue, IsDueSoon, HaveRoomsAbove, AreLevels}
+use Rattle.log_levels.specs.Towers.{AreLevels}
 use Rattle.log_levels.specs.Marking.{IsSameBelow, noted_above}
 use Rattle.log_levels.proofs.Clocks.{work-noted}
 use Rattle.log_levels.proofs.Distinct.{AllStampsDiffer-front, AllStampsDiffer-back}
 use Rattle.log_levels.proofs.Publishing.{none_of}
-use Rattle.log_levels.proofs.Held.{memory-same}
 use Rattle.log_levels.proofs.Marks.{All-first, All-second, has_stamp-append, without-append, without-lacking, Spends-both}
-use Rattle.log_levels.proofs.MarkedLevels.{Follows-due, Follows-soon, rooms-over, rooms-marked, same-noted, held-noted, tower-over, lacks-below, parts_asked-above, parts_asked-both, light_level, levels_from_tower, read_into-same, noted-lacking}
+use Rattle.log_levels.proofs.MarkedLevels.{same-noted, tower-over, lacks-below, parts_asked-above, parts_asked-both, light_level, levels_from_tower, read_into-same, noted-lacking}
 use Rattle.log_levels.proofs.marking.+mark_in.Given.{Over}
 use Rattle.log_levels.proofs.marking.+mark_in.Goals as goal
 
@@ -65,14 +64,12 @@ returns-then-mark_in g p c =
           ∙ has_stamp-append stamp s (live_items contents above) (live_in contents level) ∙ ap (λ b. b || has_stamp stamp s (live_in contents level)) on);
       unfound = λ off. absurd cc;
       same = subst (λ ls. IsSameBelow ls (level ∷ new)) (sym split) (level, new, refl, refl);
-      rooms = λ rooms. rooms-over IsDue Follows-due level above new h.same h.rooms (subst (HaveRoomsAbove IsDue) split rooms);
-      rooms_ahead = λ rooms. rooms-over IsDueSoon Follows-soon level above new h.same h.rooms_ahead (subst (HaveRoomsAbove IsDueSoon) split rooms);
       marked = record {
         live = ap₂ (λ l m. l ++ m) h.marked.live (sym (without-lacking stamp s (live_in contents level) lacks))
             ∙ sym (ap (λ ls. without stamp s (live_items contents ls)) split ∙ without-append stamp s (live_items contents above) (live_in contents level));
         items = ap (λ l. l ++ items_in contents level) h.marked.items ∙ sym (ap (all_items contents) split);
         weight = ap (λ n. weight_in level + n) h.marked.weight ∙ sym (ap weight_of split);
-        held = ap (λ ns. in_memory level ∷ ns) h.marked.held ∙ sym (ap (map in_memory) split);
+        as_many = ap (λ ns. length level.parts ∷ ns) h.marked.as_many ∙ sym (ap (map (λ l. length l.parts)) split);
         numbers = ap (λ ns. level.level ∷ ns) h.marked.numbers ∙ sym (ap (map (λ l. l.level)) split);
         work = ap (λ os. work_of level ∷ os) h.marked.work ∙ sym (ap (map work_of) split);
         waiting = rw split (omega (arith, h.marked.waiting, noted-lacking before x contents stamp level above lacks));
@@ -119,7 +116,6 @@ returns-else-mark_in g p c =
     let m = n.marked in
     let off : has_stamp stamp s (live_items contents above) ≡ false = sym h.found ∙ c.if-mark_in.false in
     let marks = asked_in contents stamp s level.parts in
-    let held = memory-same level level' (omega (arith, ap held_in m.same, m.as_many)) (ap tables_in m.same) in
     let here : waiting_in level' ≡ waiting_in level = ap waiting_in m.same in
     let seen : noted_above before x contents stamp level mid ≡ noted_above before x contents stamp level above =
     ap (λ k. if has_stamp stamp s (flat_map (λ p. live_of (contents p)) (take 2 level.parts)) then k else 0) (read_into-same before x above mid h.same) in
@@ -131,10 +127,6 @@ returns-else-mark_in g p c =
           (λ c' is. All-head punctual level above (subst (All punctual) split c.requires.punctual) c' (sym (ap (λ v. v.construction) m.same) ∙ is))
           (subst (All punctual) (sym (n.unfound unfound)) (h.unfound c.if-mark_in.false));
       same = subst (λ ls. IsSameBelow ls (level' ∷ above')) (sym split) (level', above', refl, m.same);
-      rooms = λ rooms. rooms-marked IsDue Follows-due level level' mid above' m.as_many m.same n.noted
-          (rooms-over IsDue Follows-due level above mid h.same h.rooms (subst (HaveRoomsAbove IsDue) split rooms));
-      rooms_ahead = λ rooms. rooms-marked IsDueSoon Follows-soon level level' mid above' m.as_many m.same n.noted
-          (rooms-over IsDueSoon Follows-soon level above mid h.same h.rooms_ahead (subst (HaveRoomsAbove IsDueSoon) split rooms));
       marked = record {
         live = ap₂ (λ l k. l ++ k)
             (same-noted (live_items contents) (λ l l' rest same _. ap (λ v. live_items contents rest ++ live_in contents v) same) mid above' n.noted
@@ -147,7 +139,10 @@ returns-else-mark_in g p c =
         weight = ap₂ (λ l k. l + k) (ap₂ (λ l k. l * 2 ^ k) m.as_many (ap (λ v. v.level) m.same))
             (same-noted weight_of (λ l l' rest same _. ap (λ v. weight_in v + weight_of rest) same) mid above' n.noted ∙ h.marked.weight)
             ∙ sym (ap weight_of split);
-        held = ap₂ (λ l ns. l ∷ ns) held (same-noted (map in_memory) held-noted mid above' n.noted ∙ h.marked.held) ∙ sym (ap (map in_memory) split);
+        as_many = ap₂ (λ l ns. l ∷ ns) m.as_many
+            (same-noted (map (λ v. length v.parts)) (λ l l' rest same _. ap (λ v. length v.parts ∷ map (λ u. length u.parts) rest) same) mid above' n.noted
+            ∙ h.marked.as_many)
+            ∙ sym (ap (map (λ l. length l.parts)) split);
         numbers = ap₂ (λ l ns. l ∷ ns) (ap (λ v. v.level) m.same)
             (same-noted (map (λ v. v.level)) (λ l l' rest same _. ap (λ v. v.level ∷ map (λ u. u.level) rest) same) mid above' n.noted ∙ h.marked.numbers)
             ∙ sym (ap (map (λ l. l.level)) split);
@@ -172,7 +167,7 @@ returns-else-mark_in g p c =
 pub returns-in-None-clause-marked : goal.returns-in-None-clause-marked
 returns-in-None-clause-marked g p c =
     rw (none_of c.args.levels.now (omega (arith, c.in-None.ensures.cases)))
-    (record { live = refl; items = refl; weight = refl; held = refl; numbers = refl; work = refl; waiting = refl })
+    (record { live = refl; items = refl; weight = refl; as_many = refl; numbers = refl; work = refl; waiting = refl })
 
 pub returns-in-None-clause-cost : goal.returns-in-None-clause-cost
 returns-in-None-clause-cost g p c g' light =

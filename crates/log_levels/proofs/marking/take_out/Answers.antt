@@ -7,7 +7,8 @@ use Rattle.log_levels.specs.Cost.{IsWithin}
 use Rattle.log_levels.proofs.Clocks.{TakeTicks-from, clocks-worked}
 use Rattle.log_levels.proofs.Paying.{due_of-worked, saved_of-worked}
 use Rattle.log_levels.proofs.Spending.{below_power, IsWithin-more, IsWithin-of, IsWithin-then}
-use Rattle.log_levels.proofs.MarkedLevels.{owned_live, levels-from_all, halfway-marked, rooms_now, rooms_next, some_live}
+use Rattle.log_levels.proofs.MarkedLevels.{owned_live, levels-from_all, halfway-marked, some_live}
+use Rattle.log_levels.proofs.Ticking.{stocked-worked, lent-worked, ticks-worked, ready-idle, ticks-idle}
 use Rattle.log_levels.proofs.marking.take_out.Given.{Over}
 use Rattle.log_levels.proofs.marking.take_out.Goals as goal
 
@@ -24,10 +25,15 @@ pub take_tick-requires-clause-halfway : goal.take_tick-requires-clause-halfway
 take_tick-requires-clause-halfway g c =
     halfway-marked g.B.Part.Part.contents (profile g) c.args.levels.now c.mark_in.new.levels c.requires.on_time.levels
     (some_live g.B.Part.Part.contents c.args.levels.now c.args.item.now c.requires.live) c.mark_in.ensures.same c.mark_in.ensures.levels
-    (c.mark_in.ensures.rooms c.requires.rooms)
+    (let m = c.mark_in.ensures.marked in
+    stocked-worked c.args.levels.now c.mark_in.new.levels m.numbers m.as_many m.work c.requires.stocked).quiet
 
-pub take_tick-requires-clause-rooms : goal.take_tick-requires-clause-rooms
-take_tick-requires-clause-rooms g c = rooms_now c.mark_in.new.levels (c.mark_in.ensures.rooms c.requires.rooms)
+pub take_tick-requires-clause-ready : goal.take_tick-requires-clause-ready
+take_tick-requires-clause-ready g c =
+    let m = c.mark_in.ensures.marked in
+    ready-idle g.B.Part.Part.contents (profile g) c.mark_in.new.levels c.args.store.now c.mark_in.ensures.levels
+    (stocked-worked c.args.levels.now c.mark_in.new.levels m.numbers m.as_many m.work c.requires.stocked)
+    (lent-worked c.args.levels.now c.mark_in.new.levels m.numbers m.as_many m.work c.requires.lent)
 
 pub take_tick-requires-clause-apart : goal.take_tick-requires-clause-apart
 take_tick-requires-clause-apart g c = subst (AllStampsDiffer g.B.Item.Item.stamp) (sym c.mark_in.ensures.marked.items) c.requires.apart
@@ -36,8 +42,12 @@ pub returns-clause-items : goal.returns-clause-items
 returns-clause-items g c =
     subst (IsPartOf (all_items g.B.Part.Part.contents c.take_tick.new.levels)) c.mark_in.ensures.marked.items c.take_tick.ensures.ticked.items
 
-pub returns-clause-rooms : goal.returns-clause-rooms
-returns-clause-rooms g c soon = c.take_tick.ensures.rooms (rooms_next c.mark_in.new.levels (c.mark_in.ensures.rooms_ahead soon))
+pub returns-clause-trades : goal.returns-clause-trades
+returns-clause-trades g c =
+    let m = c.mark_in.ensures.marked in
+    ticks-worked c.args.levels.now c.mark_in.new.levels m.numbers m.as_many m.work
+    (ticks-idle g.B.Part.Part.contents (profile g) c.mark_in.new.levels c.take_tick.new.levels c.args.store.now c.take_tick.new.store c.mark_in.ensures.levels
+    c.take_tick.ensures.walk)
 
 pub returns-clause-each : goal.returns-clause-each
 returns-clause-each g c =

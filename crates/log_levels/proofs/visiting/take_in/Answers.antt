@@ -1,53 +1,83 @@
-use Rattle.std.proofs.Common.{◌++◌, ◌∙◌, arith}
+use Rattle.std.proofs.Common.{◌≡◌, ◌-◌, ◌∷◌, [], ◌∙◌, length, ap, sym, subst, arith}
 use Rattle.query_laws.specs.Permuted.{composed}
-use Rattle.builder_trait.specs.Builders.{PartProfile}
-use Rattle.log_levels.specs.Levels.{all_items}
+use Rattle.builder_trait.specs.Builders.{PartProfile, IsQuota, begun}
+use Rattle.builder_trait.specs.Parts.{live_of}
+use Rattle.log_levels.specs.Levels.{weight_of, all_items}
+use Rattle.log_levels.proofs.Clocks.{TakeTicks-from, clocks-worked}
 use Rattle.log_levels.proofs.Distinct.{AllStampsDiffer-part, IsPartOf-permuted, IsPartOf-then}
 use Rattle.log_levels.proofs.Paying.{due_of-worked, saved_of-worked}
+use Rattle.log_levels.proofs.Spending.{below_power, IsWithin-one, IsWithin-first}
+use Rattle.log_levels.proofs.Ticking.{HasArrived, has_arrived}
 use Rattle.log_levels.proofs.visiting.take_in.Given.{Over}
+use Rattle.log_levels.proofs.visiting.take_in.Goals.{After-arrive}
 use Rattle.log_levels.proofs.visiting.take_in.Goals as goal
 
 abbrev profile : (g : Over) → PartProfile g.row.B-Item.Denot
 profile g = record { stamp = g.B.Item.Item.stamp; before = g.B.Item.Item.before; slope = g.B.Builder.SLOPE; base = g.B.Builder.BASE }
 
-pub take_tick-requires-clause-apart : goal.take_tick-requires-clause-apart
-take_tick-requires-clause-apart g c =
+pub lend_builder-builder-requires : goal.lend_builder-builder-requires
+lend_builder-builder-requires g c = omega (arith, c.requires.stocked.builders 0)
+
+pub part_of_one-part-requires : goal.part_of_one-part-requires
+part_of_one-part-requires g c =
+    let b = c.lend_builder-builder.ensures.begun in b ∙ ap begun (sym (ap (λ p. p.at_level) b))
+
+pub arrive-requires : goal.arrive-requires
+arrive-requires g c =
+    let whole = c.part_of_one-part.ensures.whole in
+    record {
+      levels = c.requires.levels;
+      quiet = c.requires.stocked.quiet;
+      of_level = record {
+        at_level = ap (λ v. v.at_level) whole ∙ ap (λ p. p.at_level) c.lend_builder-builder.ensures.begun;
+        fits = omega (arith, ap (λ v. length v.items) whole);
+      };
+    }
+
+-- the part that has arrived
+arrival : (g : Over) (c : After-arrive g)
+    → HasArrived g.B.Part.Part.contents (profile g) c.args.item c.args.levels.now c.arrive.new.levels c.args.store.now c.lend_builder-builder.new.self
+arrival g c =
+    let whole = c.part_of_one-part.ensures.whole in
+    has_arrived g.B.Part.Part.contents (profile g) c.part_of_one-part.result (ap (λ v. v.items) whole) (ap live_of whole) c.args.levels.now c.arrive.new.levels
+    c.lend_builder-builder.ensures.lent c.requires.levels c.arrive.ensures c.requires.stocked c.requires.lent
+
+pub take_tick-requires : goal.take_tick-requires
+take_tick-requires g c =
     let contents = g.B.Part.Part.contents in
-    AllStampsDiffer-part g.B.Item.Item.stamp (all_items contents c.arrive.new.levels)
-    ((contents c.args.part).items ++ all_items contents c.args.levels.now)
-    (IsPartOf-permuted (all_items contents c.arrive.new.levels) c.arrive.ensures.arrived.items) c.requires.apart
+    let a = arrival g (goal.at.take_tick-requires g c).After-arrive in
+    record {
+      halfway = a.halfway;
+      ready = a.ready;
+      apart = AllStampsDiffer-part g.B.Item.Item.stamp (all_items contents c.arrive.new.levels) (c.args.item ∷ all_items contents c.args.levels.now)
+          (IsPartOf-permuted (all_items contents c.arrive.new.levels) a.items) c.requires.apart;
+    }
 
-pub returns-clause-live : goal.returns-clause-live
-returns-clause-live g c = composed c.take_tick.ensures.ticked.live c.arrive.ensures.arrived.live
-
-pub returns-clause-items : goal.returns-clause-items
-returns-clause-items g c =
+pub returns : goal.returns
+returns g c =
     let contents = g.B.Part.Part.contents in
-    IsPartOf-then (all_items contents c.take_tick.new.levels) (all_items contents c.arrive.new.levels)
-    ((contents c.args.part).items ++ all_items contents c.args.levels.now) c.take_tick.ensures.ticked.items
-    (IsPartOf-permuted (all_items contents c.arrive.new.levels) c.arrive.ensures.arrived.items)
-
-pub returns-clause-rooms : goal.returns-clause-rooms
-returns-clause-rooms g c soon = c.take_tick.ensures.rooms (c.arrive.ensures.rooms_ahead soon)
-
-pub returns-clause-held : goal.returns-clause-held
-returns-clause-held g c = c.take_tick.ensures.ticked.held ∙ c.arrive.ensures.arrived.held
-
-pub returns-clause-each : goal.returns-clause-each
-returns-clause-each g c = c.arrive.ensures.clocks c.take_tick.new.levels c.take_tick.ensures.each
-
-pub returns-clause-cost : goal.returns-clause-cost
-returns-clause-cost g c = record {
-  within = λ g' light. c.take_tick.ensures.cost g' (omega (arith, light, c.take_tick.ensures.ticked.weight));
-  drained = omega (arith, c.take_tick.ensures.waiting, c.arrive.ensures.arrived.waiting);
-}
-
-pub returns-clause-paid : goal.returns-clause-paid
-returns-clause-paid g c =
-    let work = c.arrive.ensures.arrived.work in
-    omega (
-      arith,
-      due_of-worked (profile g) c.args.levels.now c.arrive.new.levels c.take_tick.new.levels work,
-      saved_of-worked (profile g) c.args.levels.now c.arrive.new.levels c.take_tick.new.levels work,
-      c.take_tick.ensures.paid,
-    )
+    let slope = g.B.Builder.SLOPE in
+    let base = g.B.Builder.BASE in
+    let a = arrival g (goal.at.returns g c).After-arrive in
+    let t = c.take_tick.ensures in
+    let p = c.part_of_one-part.ensures in
+    let old = c.args.levels.now in
+    let mid = c.arrive.new.levels in
+    let new = c.take_tick.new.levels in
+    let left = c.part_of_one-part.new.steps.turns - c.args.steps.now.turns - 2 in
+    let quota : IsQuota slope base 0 1 left = subst (λ k. IsQuota slope base k 1 left) (ap (λ v. v.at_level) c.lend_builder-builder.ensures.begun) p.quota in
+    record {
+      on_time = t.on_time;
+      live = composed t.ticked.live a.live;
+      items = IsPartOf-then (all_items contents new) (all_items contents mid) (c.args.item ∷ all_items contents old) t.ticked.items
+          (IsPartOf-permuted (all_items contents mid) a.items);
+      weight = t.ticked.weight ∙ a.weight;
+      each = TakeTicks-from old mid new a.numbers (clocks-worked old mid a.work) t.each;
+      trades = a.ticks new c.take_tick.new.store t.walk;
+      some_turns = omega (arith, quota.enough, p.cost.turns_spent, (t.cost (weight_of mid) (below_power (weight_of mid))).spent.turns_spent);
+      cost = record {
+        within = λ g' light. IsWithin-first slope base g' (IsWithin-one slope base left quota p.cost) (t.cost g' (omega (arith, light, t.ticked.weight)));
+        drained = omega (arith, t.waiting, a.waiting, p.cost.marks_spent);
+      };
+      paid = omega (arith, due_of-worked (profile g) old mid new a.work, saved_of-worked (profile g) old mid new a.work, t.paid, p.cost.turns_spent);
+    }

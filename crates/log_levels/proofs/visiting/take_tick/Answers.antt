@@ -7,7 +7,8 @@ use Rattle.log_levels.specs.Slots.{waiting_in}
 use Rattle.log_levels.specs.Levels.{weight_of, all_items}
 use Rattle.log_levels.specs.Neighbours.{IsPunctual, rests}
 use Rattle.log_levels.specs.Cost.{IsWithin, quotas}
-use Rattle.log_levels.specs.Towers.{AreHalfway, HaveRoomsNext, TakeTicks}
+use Rattle.log_levels.specs.Towers.{AreHalfway, TakeTicks}
+use Rattle.log_levels.specs.Trades.{WalkAll}
 use Rattle.log_levels.proofs.Publishing.{none_of}
 use Rattle.log_levels.proofs.Paying.{due_in-same}
 use Rattle.log_levels.proofs.Spending.{IsWithin-more}
@@ -47,7 +48,7 @@ returns g c =
       paid =
           let due = due_in-same (profile g) c.in-Some.lowest.now c.walk.new.lower (ap (λ l. l.construction) w.same) in
           rw split (omega (arith, due, w.paid));
-      rooms = λ next. w.rooms (subst HaveRoomsNext split next);
+      walk = subst (λ ls. WalkAll ls c.args.store.now (c.walk.new.lower ∷ c.walk.new.above) c.walk.new.store) (sym split) w.walks;
       cost = λ g' light.
           let cost = λ (k : ℕ). IsWithin (quotas g.B.Builder.SLOPE g.B.Builder.BASE (k + 1) g') (2 * (g' - k)) (g.B.Part.Part.mark_touches g')
           c.args.steps.now c.walk.new.steps in

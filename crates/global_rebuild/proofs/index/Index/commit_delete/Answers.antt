@@ -1,11 +1,12 @@
-use Rattle.std.proofs.Common.{rules, ◌≡◌, ℕ, ◌+◌, ◌-◌, ◌*◌, ◌^◌, ◌<◌, ◌∙◌, nat_lt, true, false, Option, Some, None, [], ◌∷◌, ap, sym, arith}
+use Rattle.std.proofs.Common.{rules, ◌≡◌, ℕ, ◌+◌, ◌-◌, ◌*◌, ◌^◌, ◌<◌, ◌∙◌, nat_lt, true, false, Option, Some, None, [], ◌∷◌, ap, sym, subst, arith}
 use Rattle.std.proofs.lemmas.Bool.Decides.{nat_tests}
 use Rattle.id_chain.specs.Chain.{is_linked, before_cursor}
+use Rattle.part_store.specs.Store.{KeepsBoth}
 use Rattle.log_levels.specs.Levels.{weight_of}
 use Rattle.log_levels.specs.Cost.{IsWithin, quotas}
-use Rattle.log_method.specs.Stack.{held_by_level}
 use Rattle.global_rebuild.specs.Index.{Shadow, IsIndexOf, live_in, is_heavy}
 use Rattle.global_rebuild.proofs.Forgetting.{live_item}
+use Rattle.global_rebuild.proofs.Stocking.{main_ticks, shadow_ticks}
 use Rattle.global_rebuild.proofs.Weights.{main_few, main_light}
 use Rattle.global_rebuild.proofs.Dropping.{IsDropped, few_left, walked_light, walked_few_enough, walked_item, starts, stays_quiet, goes_on_without, goes_on_moved, goes_on_after, left_without, left_after, one_delete, at_most_two, both_deletes}
 use Rattle.global_rebuild.proofs.index.Index.commit_delete.Given.{Over}
@@ -16,16 +17,10 @@ use Rattle.global_rebuild.proofs.index.Index.commit_delete.Goals as goal
 is_over : (weight live : ℕ) → 3 * live + 16 < 2 * weight → nat_lt (live + 16) (2 * (weight - live)) ≡ true
 is_over weight live more = let dead : live + 16 < 2 * (weight - live) = omega (arith, more) in grind (arith, nat_tests, dead)
 
--- a stack without levels holds nothing
-fresh_holds_none : {P Item : Type 0} (cursor : Option ℕ) (r : Shadow P Item)
-    → Some (record { stack = record { levels = []; spare = 0; starters = 0 }; cursor = cursor }) ≡ Some r
-    → held_by_level r.stack ≡ record { parts = 0; tables = 0 } ∷ []
-fresh_holds_none {P} {Item} cursor r is =
-    let same : record { stack = record { levels = []; spare = 0; starters = 0 }; cursor = cursor } ≡ r = cc in
-    ap (λ (s : Shadow P Item). held_by_level s.stack) (sym same)
-
-pub delete-requires-clause-light : goal.delete-requires-clause-light
-delete-requires-clause-light g c = main_light c.self.view_is c.self.invariant c.requires.chain.1
+pub delete-requires-clause-ready : goal.delete-requires-clause-ready
+delete-requires-clause-ready g c =
+    let p = rw (← c.self.view_is) at c.requires.prepared in
+    main_ticks p.stocked c.self.invariant.memory (main_light c.self.view_is c.self.invariant c.requires.chain.1)
 
 pub delete-requires-clause-live : goal.delete-requires-clause-live
 delete-requires-clause-live g c =
@@ -33,8 +28,8 @@ delete-requires-clause-live g c =
     live_item c.args.handle c.item-item.result c.args.chain.now.entries h.live c.item-item.ensures.item
 
 dropped : (g : Over) (c : After-delete g) (stamps : ℕ) → IsIndexOf g.B.Part.Part.contents g.B.Item.Item.stamp c.args.self.now c.args.chain.now.entries stamps
-    → IsDropped g.B.Part.Part.contents g.B.Item.Item.stamp (record { main = c.self.inside.main; shadow = c.self.inside.shadow; retired = c.self.inside.retired.items })
-    c.args.self.now c.args.chain.now.entries stamps c.args.handle c.item-item.result c.delete.new.self
+    → IsDropped g.B.Part.Part.contents g.B.Item.Item.stamp (record { store = c.self.inside.store; main = c.self.inside.main; shadow = c.self.inside.shadow; retired = c.self.inside.retired.items })
+    c.args.self.now c.args.chain.now.entries stamps c.args.handle c.item-item.result c.delete.new.self c.delete.new.store
 dropped g c stamps h = record {
   view = c.self.view_is;
   valid = c.self.invariant;
@@ -42,20 +37,19 @@ dropped g c stamps h = record {
   chain = h;
   linked = c.requires.linked;
   is = c.item-item.ensures.item;
-  live = c.delete.ensures.live;
-  items = c.delete.ensures.items;
-  weight = c.delete.ensures.weight;
+  deletes = c.delete.ensures.deletes;
+  ticks = c.delete.ensures.trades;
 }
 
 -- the same, whatever number is above the stamps
 some_dropped : (g : Over) (c : After-delete g)
-    → IsDropped g.B.Part.Part.contents g.B.Item.Item.stamp (record { main = c.self.inside.main; shadow = c.self.inside.shadow; retired = c.self.inside.retired.items })
-    c.args.self.now c.args.chain.now.entries c.requires.chain.0 c.args.handle c.item-item.result c.delete.new.self
+    → IsDropped g.B.Part.Part.contents g.B.Item.Item.stamp (record { store = c.self.inside.store; main = c.self.inside.main; shadow = c.self.inside.shadow; retired = c.self.inside.retired.items })
+    c.args.self.now c.args.chain.now.entries c.requires.chain.0 c.args.handle c.item-item.result c.delete.new.self c.delete.new.store
 some_dropped g c = dropped g c c.requires.chain.0 c.requires.chain.1
 
 pub overflow_mul-weight : goal.overflow_mul-weight
 overflow_mul-weight g c =
-    let light = main_light c.self.view_is c.self.invariant c.requires.chain.1 in omega (arith, light, c.delete.ensures.weight, c.weight.ensures.value)
+    let light = main_light c.self.view_is c.self.invariant c.requires.chain.1 in omega (arith, light, c.delete.ensures.deletes.weight, c.weight.ensures.value)
 
 pub overflow_mul-live : goal.overflow_mul-live
 overflow_mul-live g c = let few = few_left (some_dropped g (goal.at.overflow_mul-live g c).After-delete) in omega (arith, few, c.live.ensures)
@@ -63,9 +57,11 @@ overflow_mul-live g c = let few = few_left (some_dropped g (goal.at.overflow_mul
 pub overflow_add-live : goal.overflow_add-live
 overflow_add-live g c = let few = few_left (some_dropped g (goal.at.overflow_add-live g c).After-delete) in omega (arith, few, c.live.ensures)
 
-pub delete-requires-then-was_handed_over-clause-light : goal.delete-requires-then-was_handed_over-clause-light
-delete-requires-then-was_handed_over-clause-light g c =
-    walked_light (some_dropped g (goal.at.delete-requires-then-was_handed_over-clause-light g c).After-delete) c.in-Some.shadow c.in-Some.is
+pub delete-requires-then-was_handed_over-clause-ready : goal.delete-requires-then-was_handed_over-clause-ready
+delete-requires-then-was_handed_over-clause-ready g c =
+    let p = rw (← c.self.view_is) at c.requires.prepared in
+    shadow_ticks p.stocked c.self.invariant.memory c.delete.new.self c.delete.new.store c.in-Some.shadow c.delete.ensures.trades c.in-Some.is
+    (walked_light (some_dropped g (goal.at.delete-requires-then-was_handed_over-clause-ready g c).After-delete) c.in-Some.shadow c.in-Some.is)
 
 pub delete-requires-then-was_handed_over-clause-live : goal.delete-requires-then-was_handed_over-clause-live
 delete-requires-then-was_handed_over-clause-live g c =
@@ -96,13 +92,13 @@ pub invariant_of-self-then-was_handed_over : goal.invariant_of-self-then-was_han
 invariant_of-self-then-was_handed_over g c =
     let f = some_dropped g (goal.at.invariant_of-self-then-was_handed_over g c).After-delete in
     let e = c.delete-then-was_handed_over.ensures in
-    (goes_on_without f c.in-Some.shadow c.in-Some.is c.delete-then-was_handed_over.new.self e.cursor (search rules) e.live e.items e.weight).0
+    (goes_on_without f c.in-Some.shadow c.in-Some.is c.delete-then-was_handed_over.new.self c.delete-then-was_handed_over.new.store e.cursor (search rules) e.deletes e.trades.trades).0
 
 pub returns-then-was_handed_over-clause-chain : goal.returns-then-was_handed_over-clause-chain
 returns-then-was_handed_over-clause-chain g c stamps h =
     let f = dropped g (goal.at.returns-then-was_handed_over-clause-chain g c).After-delete stamps h in
     let e = c.delete-then-was_handed_over.ensures in
-    (goes_on_without f c.in-Some.shadow c.in-Some.is c.delete-then-was_handed_over.new.self e.cursor (search rules) e.live e.items e.weight).1
+    (goes_on_without f c.in-Some.shadow c.in-Some.is c.delete-then-was_handed_over.new.self c.delete-then-was_handed_over.new.store e.cursor (search rules) e.deletes e.trades.trades).1
 
 pub invariant_of-self-then-eq : goal.invariant_of-self-then-eq
 invariant_of-self-then-eq g c =
@@ -126,7 +122,7 @@ main_delete : (g : Over) (c : After-delete g) (g' : ℕ) → 2 * live_in g.B.Par
     → IsWithin (quotas g.B.Builder.SLOPE g.B.Builder.BASE 1 g') (5 * g' + 3) (g.B.Part.Part.mark_touches g') c.args.steps.now c.delete.new.steps
 main_delete g c g' light =
     let lighter : weight_of c.delete.new.self.levels < 2 ^ (g' + 1) =
-    omega (arith, main_few c.self.view_is c.self.invariant g' light, c.delete.ensures.weight) in
+    omega (arith, main_few c.self.view_is c.self.invariant g' light, c.delete.ensures.deletes.weight) in
     one_delete g' (c.delete.ensures.cost.within g' lighter) (c.delete.ensures.few_asked g' lighter)
 
 pub returns-then-weight-live-clause-cost : goal.returns-then-weight-live-clause-cost
@@ -145,13 +141,13 @@ pub returns-then-was_handed_over-clause-cost : goal.returns-then-was_handed_over
 returns-then-was_handed_over-clause-cost g c g' light =
     let d = (goal.at.returns-then-was_handed_over-clause-cost g c).After-delete in
     let lighter : weight_of c.delete-then-was_handed_over.new.self.stack.levels < 2 ^ (g' + 1) =
-    omega (arith, walked_few_enough (some_dropped g d) c.in-Some.shadow c.in-Some.is g' light, c.delete-then-was_handed_over.ensures.weight) in
+    omega (arith, walked_few_enough (some_dropped g d) c.in-Some.shadow c.in-Some.is g' light, c.delete-then-was_handed_over.ensures.deletes.weight) in
     both_deletes (main_delete g d g' light) (c.delete-then-was_handed_over.ensures.cost g' lighter)
 
 pub returns-then-was_handed_over-clause-goes_on : goal.returns-then-was_handed_over-clause-goes_on
 returns-then-was_handed_over-clause-goes_on g c r there =
     let f = some_dropped g (goal.at.returns-then-was_handed_over-clause-goes_on g c).After-delete in
-    left_without f c.in-Some.shadow c.in-Some.is r there c.delete-then-was_handed_over.new.self.stack (search rules) c.delete-then-was_handed_over.ensures.live
+    left_without f c.in-Some.shadow c.in-Some.is r there c.delete-then-was_handed_over.new.self.stack (search rules) c.delete-then-was_handed_over.ensures.deletes.live
 
 pub returns-then-eq-clause-goes_on : goal.returns-then-eq-clause-goes_on
 returns-then-eq-clause-goes_on g c r there =
@@ -163,14 +159,10 @@ returns-else-eq-clause-goes_on g c r there =
     left_after (some_dropped g (goal.at.returns-else-eq-clause-goes_on g c).After-delete) c.in-Some.shadow c.in-Some.is r there (search rules)
 
 pub returns-then-weight-live-clause-held : goal.returns-then-weight-live-clause-held
-returns-then-weight-live-clause-held g c =
-    let none : c.self.inside.shadow ≡ None = search rules in
-    rw (c.start.ensures.started, c.new.ensures) (record {
-      main = c.delete.ensures.each_level ∙ ap (λ i. held_by_level i.main) c.self.view_is;
-      shadow = λ r r' was now. let wrong : None ≡ Some r = sym none ∙ ap (λ i. i.shadow) c.self.view_is ∙ was in absurd cc;
-      fresh = λ _ r' now. fresh_holds_none c.first_but.result r' now;
-      retired = ap (λ i. i.retired) c.self.view_is;
-    })
+returns-then-weight-live-clause-held g c = record {
+  store = subst (λ i. KeepsBoth i.store c.delete.new.store) c.self.view_is c.delete.ensures.trades.trades.keeps;
+  retired = ap (λ i. i.retired) c.self.view_is;
+}
 
 pub returns-then-weight-live-clause-starts : goal.returns-then-weight-live-clause-starts
 returns-then-weight-live-clause-starts g c none =

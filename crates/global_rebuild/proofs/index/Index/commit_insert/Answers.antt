@@ -3,6 +3,7 @@ use Rattle.id_chain.specs.Chain.{Entry, HandlesDiffer, is_linked}
 use Rattle.id_chain.proofs.Cursors.{linked-append}
 use Rattle.log_levels.specs.Levels.{waiting_of}
 use Rattle.global_rebuild.proofs.Appending.{appended, last_item}
+use Rattle.global_rebuild.proofs.Stocking.{main_ticks}
 use Rattle.global_rebuild.proofs.Weights.{IsSoundOf, main_few, main_light}
 use Rattle.global_rebuild.proofs.index.Index.commit_insert.Given.{Over}
 use Rattle.global_rebuild.proofs.index.Index.commit_insert.Goals.{After-item-item}
@@ -13,8 +14,10 @@ item-item-requires g c =
     let last = c.requires.last in
     subst (λ es. is_linked c.args.handle es ≡ true) (sym last.2) (linked-append last.0 (record { handle = c.args.handle; item = last.1 }))
 
-pub insert-requires-clause-light : goal.insert-requires-clause-light
-insert-requires-clause-light g c = main_light c.self.view_is c.self.invariant c.requires.last.3
+pub insert-requires-clause-ready : goal.insert-requires-clause-ready
+insert-requires-clause-ready g c =
+    let p = rw (← c.self.view_is) at c.requires.prepared in
+    main_ticks p.stocked c.self.invariant.memory (main_light c.self.view_is c.self.invariant c.requires.last.3)
 
 is_last : (g : Over) (c : After-item-item g) → c.item-item.result ≡ c.requires.last.1
 is_last g c =
@@ -30,7 +33,7 @@ insert-requires-clause-apart g c k d within same =
 
 -- what the fields are afterwards
 sound : (g : Over) (c : goal.After-insert g) → IsSoundOf g.B.Part.Part.contents g.B.Item.Item.stamp
-    (record { main = c.insert.new.self; shadow = c.self.inside.shadow; retired = c.self.inside.retired.items }) c.args.chain.now.entries
+    (record { store = c.insert.new.store; main = c.insert.new.self; shadow = c.self.inside.shadow; retired = c.self.inside.retired.items }) c.args.chain.now.entries
     (g.B.Item.Item.stamp c.item-item.result + 1)
 sound g c =
     let contents = g.B.Part.Part.contents in
@@ -42,10 +45,10 @@ sound g c =
     last.2 ∙ ap (λ x. last.0 ++ record { handle = c.args.handle; item = x } ∷ []) (sym one) in
     let h = rw (← c.self.view_is, ← one) at last.3 in
     let p = rw (← c.self.view_is) at c.requires.prepared in
-    subst (λ es. IsSoundOf contents stamp (record { main = c.insert.new.self; shadow = c.self.inside.shadow; retired = c.self.inside.retired.items }) es (stamp e.item + 1))
+    subst (λ es. IsSoundOf contents stamp (record { store = c.insert.new.store; main = c.insert.new.self; shadow = c.self.inside.shadow; retired = c.self.inside.retired.items }) es (stamp e.item + 1))
     (sym is)
-    (appended contents stamp _ last.0 e h c.self.invariant p c.insert.new.self c.insert.ensures.live c.insert.ensures.items
-    c.insert.ensures.weight (subst HandlesDiffer is c.requires.differ) (subst (λ es. length es < 2 ^ 29) is c.requires.few))
+    (appended contents stamp _ last.0 e h c.self.invariant p c.insert.new.self c.insert.new.store c.insert.ensures.trades.trades
+    c.insert.ensures.inserts.live c.insert.ensures.inserts.items c.insert.ensures.inserts.weight (subst HandlesDiffer is c.requires.differ) (subst (λ es. length es < 2 ^ 29) is c.requires.few))
 
 pub invariant_of-self : goal.invariant_of-self
 invariant_of-self g c = (sound g c).0
@@ -57,7 +60,7 @@ returns-clause-chain g c item at =
 
 pub returns-clause-cost : goal.returns-clause-cost
 returns-clause-cost g c g' light =
-    c.insert.ensures.cost.within g' (omega (arith, main_few c.self.view_is c.self.invariant g' light, c.insert.ensures.weight))
+    c.insert.ensures.cost.within g' (omega (arith, main_few c.self.view_is c.self.invariant g' light, c.insert.ensures.inserts.weight))
 
 pub returns-clause-waiting : goal.returns-clause-waiting
 returns-clause-waiting g c = omega (arith, c.insert.ensures.cost.drained, ap (λ i. waiting_of i.main.levels) c.self.view_is)

@@ -3,6 +3,7 @@ use Rattle.log_levels.specs.Cost.{IsWithin, quotas}
 use Rattle.log_method.proofs.Forecasting.{when_ok}
 use Rattle.global_rebuild.specs.Index.{IsInTime, live_in, to_walk}
 use Rattle.global_rebuild.proofs.Weights.{IsIndex-shadow, paused, as_many, walked_few, live-walked, shadow_light, shadow_within, in_time-ahead, in_time-walked}
+use Rattle.global_rebuild.proofs.Owning.{lent_to_shadow, owns-walked}
 use Rattle.global_rebuild.proofs.index.Index.walk.Given.{Over}
 use Rattle.global_rebuild.proofs.index.Index.walk.Goals as goal
 
@@ -15,6 +16,9 @@ walk-requires-clause-light g c =
 pub walk-requires-clause-shadow : goal.walk-requires-clause-shadow
 walk-requires-clause-shadow g c =
     let h = rw (← c.self.view_is) at c.requires.chain.1 in (c.requires.chain.0, h.shadow c.in-Some.shadow c.in-Some.is, h.rise)
+
+pub walk-requires-clause-lent : goal.walk-requires-clause-lent
+walk-requires-clause-lent g c = lent_to_shadow c.self.invariant.memory c.in-Some.shadow c.in-Some.is
 
 -- no more is live in the shadow than in the main stack, before the walk and after it
 walked : (g : Over) (c : goal.After-walk g) → live_in g.B.Part.Part.contents c.walk.new.self.stack - live_in g.B.Part.Part.contents c.in-Some.shadow.stack
@@ -39,7 +43,7 @@ returns-clause-cost g c g' light =
     (omega (arith, light, ap (λ i. live_in g.B.Part.Part.contents i.main) c.self.view_is))))
 
 pub returns-clause-paused : goal.returns-clause-paused
-returns-clause-paused g c = rw (← c.self.view_is) (paused _ _ c.in-Some.shadow c.walk.new.self c.in-Some.is c.walk.ensures.handed)
+returns-clause-paused g c = rw (← c.self.view_is) (paused _ _ c.in-Some.shadow c.walk.new.self c.walk.new.store c.in-Some.is c.walk.ensures.handed c.walk.ensures.memory.no_less)
 
 pub returns-clause-in_time : goal.returns-clause-in_time
 returns-clause-in_time g c =
@@ -58,5 +62,6 @@ pub invariant_of-self-2 : goal.invariant_of-self-2
 invariant_of-self-2 g c =
     let h = rw (← c.self.view_is) at c.requires.chain.1 in
     let own = c.walk.ensures.shadow c.requires.chain.0 h.rise (h.shadow c.in-Some.shadow c.in-Some.is) in
-    IsIndex-shadow _ _ c.walk.new.self c.self.invariant (in_time-walked (c.self.invariant.in_time c.in-Some.shadow c.in-Some.is) c.walk.ensures.handed
-    (live-walked _ _ _ _ h c.walk.new.self own))
+    IsIndex-shadow _ _ c.walk.new.self c.walk.new.store c.self.invariant
+    (in_time-walked (c.self.invariant.in_time c.in-Some.shadow c.in-Some.is) c.walk.ensures.handed (live-walked _ _ _ _ h c.walk.new.self own))
+    (owns-walked c.self.invariant.memory c.in-Some.shadow c.in-Some.is c.walk.new.self c.walk.new.store c.tell_few.ensures c.walk.ensures.memory)

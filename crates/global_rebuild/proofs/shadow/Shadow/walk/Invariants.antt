@@ -3,6 +3,7 @@ use Rattle.id_chain.specs.StampsRise.{StampsRise}
 use Rattle.log_levels.specs.Levels.{weight_of}
 use Rattle.log_levels.specs.Cost.{IsWithin, quotas}
 use Rattle.global_rebuild.specs.Index.{live_in, HandsOver, IsShadowOf}
+use Rattle.global_rebuild.specs.Memory.{LendsFew}
 use Rattle.global_rebuild.proofs.shadow.Shadow.walk.Given as goal
 
 abbrev pub invariant-loop-taken : goal.invariant-loop-taken
@@ -14,6 +15,7 @@ invariant-loop-taken g l =
           → IsShadowOf contents stamp l.initial.self l.initial.chain.entries stamps → IsShadowOf contents stamp l.self l.initial.chain.entries stamps;
       taken : (l.self.cursor ≡ None) ⊎ (live_in contents l.self.stack ≡ live_in contents l.initial.self.stack + l._taken);
       handed : HandsOver contents l._taken l.initial.self l.self;
+      memory : LendsFew l.initial.self.stack.levels l.initial.store l.self.stack.levels l.store;
       some_turns : l.initial.steps.turns + 3 * (live_in contents l.self.stack - live_in contents l.initial.self.stack) ≤ l.steps.turns;
       cost : (g' : ℕ) → weight_of l.self.stack.levels < 2 ^ (g' + 1)
           → let ticks = live_in contents l.self.stack - live_in contents l.initial.self.stack in

@@ -1,12 +1,10 @@
-use Rattle.std.proofs.Common.{◌-◌, ◌∙◌, if◌then◌else◌, refl, ap, sym, subst, arith}
-use Rattle.std.specs.Option.{is_some}
-use Rattle.id_chain.specs.Chain.{is_linked, before_cursor}
-use Rattle.global_rebuild.specs.Index.{IsIndexOf, unwalked}
+use Rattle.std.proofs.Common.{◌∙◌, refl, sym, subst, arith}
+use Rattle.global_rebuild.specs.Index.{IsIndexOf}
 use Rattle.global_rebuild.proofs.Weights.{as_many}
 use Rattle.layer_kinds.specs.Shares.{Rate, delete_turns, delete_marks}
 use Rattle.layer_kinds.specs.Indexing.{IsOf}
 use Rattle.layer_kinds.specs.Memory.{KeepsAll}
-use Rattle.layer_kinds.proofs.Keeping.{Each-there, Each-none, keeps_all, stays_some, is_some-map}
+use Rattle.layer_kinds.proofs.Keeping.{Each-there, Each-none, keeps_all}
 use Rattle.layer_kinds.proofs.Shared.{IsShared-there, IsShared-none}
 use Rattle.layer_kinds.proofs.indexes.LayerIndexIndexes.delete.Goals as goal
 
@@ -33,12 +31,10 @@ returns-in_default-clause-cost g c = record {
 pub returns-clause-held : goal.returns-clause-held
 returns-clause-held g c =
     let contents = g.B.Part.Part.contents in
-    let e = c.commit_delete.ensures in
     let old = c.in-Some.index in
     let new = c.commit_delete.new.self in
     Each-there contents KeepsAll c.args.self.now _ old new (sym c.self.view_is ∙ c.in-Some.is) refl
-    (keeps_all contents old new e.held (stays_some contents old new (λ r there. ap is_some (e.goes_on r there)
-    ∙ is_some-map (λ n. if is_linked c.args.handle (before_cursor r.cursor c.args.chain.now.entries) then n else n - 1) (unwalked contents old))))
+    (keeps_all contents old new c.commit_delete.ensures.held)
 
 pub returns-in_default-clause-held : goal.returns-in_default-clause-held
 returns-in_default-clause-held g c = Each-none g.B.Part.Part.contents KeepsAll c.args.self.now _ (sym c.self.view_is ∙ c.in_default.is) c.in_default.is

@@ -1,5 +1,4 @@
 use Rattle.std.proofs.Common.{◌≡◌, ◌+◌, ◌∙◌, [], ◌∷◌, Some, length, ap, sym, subst, arith}
-use Rattle.std.specs.Option.{is_some}
 use Rattle.std.proofs.lemmas.List.{length-append}
 use Rattle.id_chain.specs.Chain.{Entry, HandlesDiffer, item_at}
 use Rattle.id_chain.proofs.Entries.{Apart-parts, item_at-split, linked_head}
@@ -57,7 +56,7 @@ returns-clause-held g c =
       | in-Some w ↦
           let e = w.commit_insert.ensures in
           Each-there contents KeepsAll c.args.self.now c.match-self.self-inside.index w.in-Some.index w.commit_insert.new.self (sym c.self.view_is ∙ w.in-Some.is)
-          (ap (λ l. l.index) w.self-inside-is) (keeps_all contents w.in-Some.index w.commit_insert.new.self e.held (λ runs. ap is_some e.rebuild ∙ runs))
+          (ap (λ l. l.index) w.self-inside-is) (keeps_all contents w.in-Some.index w.commit_insert.new.self e.held)
       | in_default w ↦
           Each-none contents KeepsAll c.args.self.now c.match-self.self-inside.index (sym c.self.view_is ∙ w.in_default.is)
           (ap (λ l. l.index) w.self-inside-is ∙ w.in_default.is)

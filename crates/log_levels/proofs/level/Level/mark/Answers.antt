@@ -5,7 +5,7 @@ use Rattle.log_levels.specs.Level.{IsOfLevel, AreHeld}
 use Rattle.log_levels.specs.Marking.{AreMarkedAt}
 use Rattle.log_levels.proofs.Publishing.{higher}
 use Rattle.log_levels.proofs.Marks.{of_level-marked, length-marked}
-use Rattle.log_levels.proofs.Held.{IsLevel-of, written}
+use Rattle.log_levels.proofs.Held.{IsLevel-holding, written}
 use Rattle.log_levels.proofs.level.Level.mark.Goals as goal
 
 no_longer : {a b m : ℕ} → a ≤ b → b ≤ m → a ≤ m
@@ -23,13 +23,12 @@ invariant_of-self g c =
     subst (λ ps. AreMarkedAt contents stamp c.args.item.now c.mark_parts.result ps new) value c.mark_parts.ensures.marked in
     let as_long = length-marked contents stamp c.args.item.now marked in
     let whole = written v.parts.len v.parts.items new (sym c.deref_mut.ensures.len ∙ ap length value) as_long in
-    IsLevel-of h h.builds
+    IsLevel-holding h
     (subst (λ ps. AreHeld (λ p. IsOfLevel v.level (contents p)) 3 ps v.parts.cap) (sym whole) (record {
       each = of_level-marked contents stamp c.args.item.now v.level marked h.parts_held.each;
       few = omega (arith, as_long, h.parts_held.few);
       place = h.parts_held.place;
     }))
-    h.builders_held h.tables_held (omega (arith, h.few, ap length whole, as_long)) h.few_tables
 
 pub returns-clause-cost : goal.returns-clause-cost
 returns-clause-cost g c h above =

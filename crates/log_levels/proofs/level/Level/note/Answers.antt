@@ -5,8 +5,8 @@ use Rattle.query_laws.specs.declared.item.Order.TheVariants.{First}
 use Rattle.builder_trait.specs.Builders.{PartProfile}
 use Rattle.ordered_merge.specs.Merging.{is_passed}
 use Rattle.partial_build.specs.Construction.{Construction, Builds}
-use Rattle.log_levels.specs.Slots.{one_if}
-use Rattle.log_levels.proofs.Held.{IsLevel-building, counted}
+use Rattle.part_store.specs.Shelves.{one_if}
+use Rattle.log_levels.proofs.Held.{IsLevel-building}
 use Rattle.log_levels.proofs.level.Level.note.Given.{Over}
 use Rattle.log_levels.proofs.level.Level.note.Goals as goal
 
@@ -37,7 +37,6 @@ returns-clause-work g c =
 pub invariant_of-self-2 : goal.invariant_of-self-2
 invariant_of-self-2 g c =
     IsLevel-building c.self.invariant c.note.new.self (ap (λ v. v.level) c.note.ensures.noted ∙ c.self.invariant.builds c.in-Some.construction c.in-Some.is)
-    (omega (arith, c.self.invariant.few, counted c.in-Some.is)) (omega (arith, c.self.invariant.few_tables, counted c.in-Some.is))
 
 pub returns-clause-of_a : goal.returns-clause-of_a
 returns-clause-of_a g c a b new live same old c' is =

@@ -6,7 +6,7 @@ use Rattle.partial_build.specs.Construction.{Construction, IsBegun, turns_left}
 use Rattle.partial_build.specs.Quota.{quota}
 use Rattle.log_levels.specs.Slots.{waiting_in, most_turns, open_turns, all_turns, saved_by}
 use Rattle.log_levels.specs.Cost.{IsWithin}
-use Rattle.log_levels.proofs.Held.{IsLevel-building, counted}
+use Rattle.log_levels.proofs.Held.{IsLevel-building}
 use Rattle.log_levels.proofs.Paying.{paid-ticked, paid-first}
 use Rattle.log_levels.proofs.level.Level.tick.Given.{Over}
 use Rattle.log_levels.proofs.level.Level.tick.Goals as goal
@@ -24,7 +24,6 @@ tick-requires-clause-builds g c = c.requires.fed c.in-Some.construction (sym (ap
 pub invariant_of-self : goal.invariant_of-self
 invariant_of-self g c =
     IsLevel-building c.self.invariant c.tick.new.self (c.tick.ensures.ticked.0 ∙ c.self.invariant.builds c.in-Some.construction c.in-Some.is)
-    (omega (arith, c.self.invariant.few, counted c.in-Some.is)) (omega (arith, c.self.invariant.few_tables, counted c.in-Some.is))
 
 pub returns-clause-to_go : goal.returns-clause-to_go
 returns-clause-to_go g c =

@@ -1,0 +1,31 @@
+use Rattle.std.proofs.Common.{ℕ, ◌≡◌, subst, arith}
+use Rattle.log_levels.specs.Trades.{wanted_at}
+use Rattle.log_method.specs.Preparing.{HasRoomsBelow}
+use Rattle.log_method.proofs.Taking.{HasTaken-refl, HasTaken-then, HasTaken-stock, HasRoomsBelow-none, HasRoomsBelow-more}
+use Rattle.log_method.proofs.preparing.stock_levels.Goals as goal
+
+pub loop-level-init : goal.loop-level-init
+loop-level-init g c =
+    let w : ℕ → ℕ = λ k. wanted_at 2 k c.args.levels.now in
+    record { stocked = HasRoomsBelow-none w c.args.store.now; taken = HasTaken-refl w c.args.store.now }
+
+pub loop-level-preserved : goal.loop-level-preserved
+loop-level-preserved g c =
+    let w : ℕ → ℕ = λ k. wanted_at 2 k c.args.levels.now in
+    let h = c.loop-level.invariant in
+    let e = c.stock.ensures in
+    record {
+      stocked = HasRoomsBelow-more w c.loop-level.level _ _ _ (omega (arith, c.wanted.ensures.value)) e.takes c.in_ok-stock.ensures.stocked h.stocked;
+      taken = HasTaken-then w _ _ _ h.taken (HasTaken-stock w c.loop-level.level _ _ _ (omega (arith, c.wanted.ensures.value)) e.takes);
+    }
+
+pub returns-in_err-stock-clause-taken : goal.returns-in_err-stock-clause-taken
+returns-in_err-stock-clause-taken g c =
+    let w : ℕ → ℕ = λ k. wanted_at 2 k c.args.levels.now in
+    HasTaken-then w _ _ _ c.loop-level.invariant.taken
+    (HasTaken-stock w c.loop-level.level _ _ _ (omega (arith, c.wanted.ensures.value)) c.stock.ensures.takes)
+
+pub returns-clause-stocked : goal.returns-clause-stocked
+returns-clause-stocked g c =
+    let all : c.loop-level.level ≡ 32 = omega arith in
+    subst (λ n. HasRoomsBelow n (λ k. wanted_at 2 k c.args.levels.now) c.loop-level.store) all c.loop-level.invariant.stocked
