@@ -1,4 +1,4 @@
-use Rattle.std.proofs.Common.{◌≡◌, ◌-◌, ◌∷◌, [], ◌∙◌, length, ap, sym, subst, arith}
+use Rattle.std.proofs.Common.{◌-◌, ◌∷◌, ◌∙◌, length, ap, sym, subst, arith}
 use Rattle.query_laws.specs.Permuted.{composed}
 use Rattle.builder_trait.specs.Builders.{PartProfile, IsQuota, begun}
 use Rattle.builder_trait.specs.Parts.{live_of}

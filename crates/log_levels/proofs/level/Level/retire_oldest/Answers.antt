@@ -1,5 +1,4 @@
-use Rattle.std.proofs.Common.{◌<◌, ◌∙◌, length, ap, sym, subst, arith}
-use Rattle.log_levels.specs.Level.{IsOfLevel}
+use Rattle.std.proofs.Common.{◌<◌, length, ap, arith}
 use Rattle.log_levels.proofs.Held.{AreHeld-rest, IsLevel-holding}
 use Rattle.log_levels.proofs.level.Level.retire_oldest.Goals as goal
 
