@@ -1,14 +1,10 @@
 -- The lists of a level.
-use Rattle.std.proofs.Common.{◌≡◌, ℕ, ◌+◌, ◌<◌, ◌≤◌, Option, Some, None, List, [], ◌∷◌, ◌++◌, ◌∙◌, length, take, drop, remove, All, arith, refl, ap, sym, subst}
+use Rattle.std.proofs.Common.{◌≡◌, ℕ, ◌+◌, ◌<◌, ◌≤◌, Option, Some, None, List, [], ◌∷◌, ◌++◌, ◌∙◌, length, take, drop, All, arith, ap, sym, subst}
 use Rattle.std.proofs.lemmas.List.{length_push, take_at}
-use Rattle.std.proofs.lemmas.List.Elements.{All-push, All-tail}
+use Rattle.std.proofs.lemmas.List.Elements.{All-push}
 use Rattle.builder_trait.specs.Parts.{Contents}
 use Rattle.partial_build.specs.Construction.{Construction}
 use Rattle.log_levels.specs.Level.{AreHeld, IsLevel, IsOfLevel}
-
-pub all_but_first : {X : Type 0} (xs : List X) → remove xs 0 ≡ drop 1 xs
-all_but_first [] = refl
-all_but_first (x ∷ xs) = refl
 
 pub length-rest : {X : Type 0} (xs : List X) → 0 < length xs → length (drop 1 xs) + 1 ≡ length xs
 length-rest [] some = absurd (omega (arith, some))
@@ -23,12 +19,12 @@ module _ {X : Type 0} {IsOne : X → Type 0} {most : ℕ} {room : ℕ} where
     place = omega (arith, h.place, as_wide);
   }
 
-  pub AreHeld-rest : (xs : List X) {ys : List X} {room' : ℕ} → ys ≡ remove xs 0 → room' ≡ room → 0 < length xs → AreHeld IsOne most xs room
+  -- one entry was taken out
+  pub AreHeld-fewer : (xs : List X) {ys : List X} {room' : ℕ} → All IsOne ys → length ys ≤ length xs → room' ≡ room → AreHeld IsOne most xs room
       → AreHeld IsOne most ys room'
-  AreHeld-rest [] same as_wide some h = absurd (omega (arith, some))
-  AreHeld-rest (x ∷ xs) same as_wide some h = record {
-    each = subst (All IsOne) (sym same) (All-tail IsOne x xs h.each);
-    few = omega (arith, h.few, ap length same);
+  AreHeld-fewer xs each fewer as_wide h = record {
+    each = each;
+    few = omega (arith, h.few, fewer);
     place = omega (arith, h.place, as_wide);
   }
 

@@ -1,5 +1,5 @@
 -- An item that is marked as dead in one of several levels.
-use Rattle.std.proofs.Common.{◌≡◌, ◌≢◌, ℕ, zero, suc, ◌+◌, ◌*◌, ◌^◌, ◌<◌, ◌≤◌, ◌==◌, ◌||◌, ◌∙◌, Bool, true, false, not, cond, if◌then◌else◌, Option, Some, List, [], ◌∷◌, ◌++◌, length, map, get_or, take, nat_lt, Contains, slice_get, refl, sym, ap, subst, arith}
+use Rattle.std.proofs.Common.{◌≡◌, ◌≢◌, ℕ, zero, suc, ◌+◌, ◌*◌, ◌^◌, ◌<◌, ◌≤◌, ◌==◌, ◌||◌, ◌∙◌, Bool, true, false, not, cond, if◌then◌else◌, Option, Some, List, [], ◌∷◌, ◌++◌, length, get_or, take, nat_lt, Contains, slice_get, refl, sym, ap, subst, arith}
 use Rattle.std.specs.List.{flat_map, items_where_true}
 use Rattle.std.specs.Option.{is_some, option_map_or}
 use Rattle.std.proofs.lemmas.Bool.Decides.{nat_tests}

@@ -1,5 +1,5 @@
 -- Levels and a store, through a whole tick.
-use Rattle.std.proofs.Common.{◌≡◌, ◌==◌, ℕ, ◌+◌, ◌*◌, ◌^◌, ◌≤◌, ◌&&◌, ◌||◌, ◌∙◌, Bool, true, false, None, List, [], ◌∷◌, ◌++◌, if◌then◌else◌, length, map, nat_le, refl, ap, ap₂, sym, subst, arith}
+use Rattle.std.proofs.Common.{◌≡◌, ◌==◌, ℕ, ◌+◌, ◌^◌, ◌≤◌, ◌&&◌, ◌||◌, ◌∙◌, Bool, true, false, List, [], ◌∷◌, ◌++◌, if◌then◌else◌, length, map, nat_le, refl, ap, ap₂, sym, subst, arith}
 use Rattle.std.specs.Option.{is_some}
 use Rattle.std.proofs.lemmas.List.{length-append}
 use Rattle.query_laws.specs.Permuted.{Permuted}

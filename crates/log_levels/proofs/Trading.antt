@@ -1,12 +1,12 @@
 -- Levels and a store, through a tick.
-use Rattle.std.proofs.Common.{◌≡◌, ◌==◌, ℕ, ◌+◌, ◌-◌, ◌*◌, ◌^◌, ◌≤◌, ◌<◌, ◌&&◌, ◌||◌, ◌⊎◌, ◌∙◌, Bool, true, false, not, None, List, [], ◌∷◌, ◌++◌, if◌then◌else◌, length, nat_le, inl, inr, refl, ap, ap₂, sym, subst, ⊎_elim, arith, le-leb}
+use Rattle.std.proofs.Common.{◌≡◌, ◌==◌, ℕ, ◌+◌, ◌^◌, ◌≤◌, ◌<◌, ◌&&◌, ◌||◌, ◌⊎◌, ◌∙◌, Bool, true, false, not, None, List, [], ◌∷◌, if◌then◌else◌, length, nat_le, inl, inr, refl, ap, ap₂, sym, subst, ⊎_elim, arith, le-leb}
 use Rattle.std.specs.Option.{is_some}
-use Rattle.std.proofs.lemmas.Bool.{cases_eq, cases_lt}
+use Rattle.std.proofs.lemmas.Bool.{cases_lt}
 use Rattle.std.proofs.lemmas.Bool.Decides.{nat_tests}
 use Rattle.std.proofs.lemmas.List.{length-append}
 use Rattle.builder_trait.specs.Builders.{PartProfile}
 use Rattle.builder_trait.specs.Parts.{Contents}
-use Rattle.part_store.specs.Shelves.{one_if, kept_at, lent_at, held_at, Keeps}
+use Rattle.part_store.specs.Shelves.{one_if, kept_at, lent_at, held_at}
 use Rattle.part_store.specs.Store.{Stored, KeepsBoth, LendsRoom, TakesPart, TakesRoom, TakesTables}
 use Rattle.log_levels.specs.Slots.{Slots, ticks_of}
 use Rattle.log_levels.specs.Neighbours.{IsBelow, Advances, stays, arrives, IsPublication}

@@ -1,5 +1,5 @@
 -- What levels have of a store, and what the next ticks may take of it.
-use Rattle.std.specs.Prelude.{◌≡◌, ◌==◌, ℕ, ◌+◌, ◌*◌, ◌^◌, ◌≤◌, ◌<◌, ◌&&◌, ◌||◌, Bool, true, false, not, List, [], ◌∷◌, if◌then◌else◌, IfSome, length, nat_le}
+use Rattle.std.specs.Prelude.{◌≡◌, ◌==◌, ℕ, ◌+◌, ◌^◌, ◌≤◌, ◌<◌, ◌&&◌, ◌||◌, Bool, false, not, List, [], ◌∷◌, if◌then◌else◌, IfSome, length, nat_le}
 use Rattle.std.specs.Option.{is_some}
 use Rattle.part_store.specs.Shelves.{one_if, kept_at, lent_at}
 use Rattle.partial_build.specs.Construction.{IsBegun}

@@ -9,7 +9,7 @@ use Rattle.query_laws.proofs.Counting.{Spends-nothing, Spends-within}
 use Rattle.builder_trait.specs.Builders.{PartProfile}
 use Rattle.builder_trait.specs.Parts.{OwnsStamp, has_stamp, without, live_of}
 use Rattle.log_levels.specs.Slots.{Slots, work_of, waiting_in, weight_in, live_in, items_in, asked_in}
-use Rattle.log_levels.specs.Levels.{waiting_of, weight_of, live_items, all_items, parts_asked}
+use Rattle.log_levels.specs.Levels.{weight_of, live_items, all_items, parts_asked}
 use Rattle.log_levels.specs.Neighbours.{IsPunctual}
 use Rattle.log_levels.specs.Towers.{AreLevels}
 use Rattle.log_levels.specs.Marking.{IsSameBelow, noted_above}

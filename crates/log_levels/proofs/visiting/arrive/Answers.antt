@@ -1,4 +1,4 @@
-use Rattle.std.proofs.Common.{◌∷◌, ◌∙◌, sym, subst, ap, arith}
+use Rattle.std.proofs.Common.{◌∷◌, sym, subst, ap, arith}
 use Rattle.builder_trait.specs.Builders.{PartProfile}
 use Rattle.log_levels.specs.Level.{IsOfLevel}
 use Rattle.log_levels.specs.Towers.{AreAllLevels, Arrives}

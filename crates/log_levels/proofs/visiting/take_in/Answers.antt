@@ -1,4 +1,4 @@
-use Rattle.std.proofs.Common.{◌≡◌, ◌-◌, ◌∷◌, [], ◌∙◌, length, ap, sym, subst, arith}
+use Rattle.std.proofs.Common.{ℕ, ◌-◌, ◌∷◌, ◌∙◌, length, ap, sym, subst, arith}
 use Rattle.query_laws.specs.Permuted.{composed}
 use Rattle.builder_trait.specs.Builders.{PartProfile, IsQuota, begun}
 use Rattle.builder_trait.specs.Parts.{live_of}
@@ -53,31 +53,71 @@ take_tick-requires g c =
           (IsPartOf-permuted (all_items contents c.arrive.new.levels) a.items) c.requires.apart;
     }
 
-pub returns : goal.returns
-returns g c =
+pub returns-clause-live : goal.returns-clause-live
+returns-clause-live g c = composed c.take_tick.ensures.ticked.live (arrival g (goal.at.returns-clause-live g c).After-arrive).live
+
+pub returns-clause-items : goal.returns-clause-items
+returns-clause-items g c =
     let contents = g.B.Part.Part.contents in
+    let a = arrival g (goal.at.returns-clause-items g c).After-arrive in
+    let mid = c.arrive.new.levels in
+    IsPartOf-then (all_items contents c.take_tick.new.levels) (all_items contents mid) (c.args.item ∷ all_items contents c.args.levels.now)
+    c.take_tick.ensures.ticked.items (IsPartOf-permuted (all_items contents mid) a.items)
+
+pub returns-clause-weight : goal.returns-clause-weight
+returns-clause-weight g c = c.take_tick.ensures.ticked.weight ∙ (arrival g (goal.at.returns-clause-weight g c).After-arrive).weight
+
+pub returns-clause-each : goal.returns-clause-each
+returns-clause-each g c =
+    let a = arrival g (goal.at.returns-clause-each g c).After-arrive in
+    let old = c.args.levels.now in
+    let mid = c.arrive.new.levels in
+    TakeTicks-from old mid c.take_tick.new.levels a.numbers (clocks-worked old mid a.work) c.take_tick.ensures.each
+
+pub returns-clause-trades : goal.returns-clause-trades
+returns-clause-trades g c =
+    (arrival g (goal.at.returns-clause-trades g c).After-arrive).ticks c.take_tick.new.levels c.take_tick.new.store c.take_tick.ensures.walk
+
+-- the turns of the new part, beyond the two of its making
+abbrev turns_left : (g : Over) → After-arrive g → ℕ
+turns_left g c = c.part_of_one-part.new.steps.turns - c.args.steps.now.turns - 2
+
+quota_of : (g : Over) (c : After-arrive g) → IsQuota g.B.Builder.SLOPE g.B.Builder.BASE 0 1 (turns_left g c)
+quota_of g c =
     let slope = g.B.Builder.SLOPE in
     let base = g.B.Builder.BASE in
-    let a = arrival g (goal.at.returns g c).After-arrive in
+    subst (λ k. IsQuota slope base k 1 (turns_left g c)) (ap (λ v. v.at_level) c.lend_builder-builder.ensures.begun) c.part_of_one-part.ensures.quota
+
+pub returns-clause-some_turns : goal.returns-clause-some_turns
+returns-clause-some_turns g c =
+    let quota = quota_of g (goal.at.returns-clause-some_turns g c).After-arrive in
+    let weight = weight_of c.arrive.new.levels in
+    omega (arith, quota.enough, c.part_of_one-part.ensures.cost.turns_spent, (c.take_tick.ensures.cost weight (below_power weight)).spent.turns_spent)
+
+pub returns-clause-cost : goal.returns-clause-cost
+returns-clause-cost g c =
+    let slope = g.B.Builder.SLOPE in
+    let base = g.B.Builder.BASE in
+    let after = (goal.at.returns-clause-cost g c).After-arrive in
+    let a = arrival g after in
     let t = c.take_tick.ensures in
-    let p = c.part_of_one-part.ensures in
+    let cost = c.part_of_one-part.ensures.cost in
+    record {
+      within = λ g' light. IsWithin-first slope base g' (IsWithin-one slope base (turns_left g after) (quota_of g after) cost)
+          (t.cost g' (omega (arith, light, t.ticked.weight)));
+      drained = omega (arith, t.waiting, a.waiting, cost.marks_spent);
+    }
+
+pub returns-clause-paid : goal.returns-clause-paid
+returns-clause-paid g c =
+    let a = arrival g (goal.at.returns-clause-paid g c).After-arrive in
     let old = c.args.levels.now in
     let mid = c.arrive.new.levels in
     let new = c.take_tick.new.levels in
-    let left = c.part_of_one-part.new.steps.turns - c.args.steps.now.turns - 2 in
-    let quota : IsQuota slope base 0 1 left = subst (λ k. IsQuota slope base k 1 left) (ap (λ v. v.at_level) c.lend_builder-builder.ensures.begun) p.quota in
-    record {
-      on_time = t.on_time;
-      live = composed t.ticked.live a.live;
-      items = IsPartOf-then (all_items contents new) (all_items contents mid) (c.args.item ∷ all_items contents old) t.ticked.items
-          (IsPartOf-permuted (all_items contents mid) a.items);
-      weight = t.ticked.weight ∙ a.weight;
-      each = TakeTicks-from old mid new a.numbers (clocks-worked old mid a.work) t.each;
-      trades = a.ticks new c.take_tick.new.store t.walk;
-      some_turns = omega (arith, quota.enough, p.cost.turns_spent, (t.cost (weight_of mid) (below_power (weight_of mid))).spent.turns_spent);
-      cost = record {
-        within = λ g' light. IsWithin-first slope base g' (IsWithin-one slope base left quota p.cost) (t.cost g' (omega (arith, light, t.ticked.weight)));
-        drained = omega (arith, t.waiting, a.waiting, p.cost.marks_spent);
-      };
-      paid = omega (arith, due_of-worked (profile g) old mid new a.work, saved_of-worked (profile g) old mid new a.work, t.paid, p.cost.turns_spent);
-    }
+    omega (
+      arith,
+      due_of-worked (profile g) old mid new a.work,
+      saved_of-worked (profile g) old mid new a.work,
+      c.take_tick.ensures.paid,
+      c.part_of_one-part.ensures.cost.turns_spent,
+    )

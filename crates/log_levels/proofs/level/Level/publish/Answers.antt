@@ -1,4 +1,4 @@
-use Rattle.std.proofs.Common.{◌≡◌, ◌==◌, ◌+◌, ◌^◌, ◌<◌, ◌∙◌, [], ◌∷◌, ◌++◌, Option, None, length, drop, refl, ap, sym, subst, arith}
+use Rattle.std.proofs.Common.{◌≡◌, ◌==◌, ◌^◌, ◌<◌, ◌∙◌, [], ◌∷◌, ◌++◌, Option, None, length, drop, refl, ap, sym, subst, arith}
 use Rattle.std.specs.Option.{option_map_or}
 use Rattle.builder_trait.specs.Builders.{PartProfile}
 use Rattle.partial_build.specs.Construction.{Construction, skipped_of, turns_left}
