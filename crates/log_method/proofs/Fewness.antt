@@ -1,7 +1,7 @@
 -- How much of one level a stack has and may want.
-use Rattle.std.proofs.Common.{◌≡◌, ◌==◌, ℕ, zero, suc, ◌+◌, ◌<◌, ◌≤◌, Bool, true, false, List, [], ◌∷◌, All, if◌then◌else◌, length, get_or, inl, inr, refl, ap, arith}
+use Rattle.std.proofs.Common.{◌≡◌, ◌==◌, ℕ, zero, suc, ◌+◌, ◌<◌, ◌≤◌, Bool, true, false, List, [], ◌∷◌, All, length, get_or, inl, inr, refl, ap, arith}
 use Rattle.std.specs.Option.{is_some}
-use Rattle.std.proofs.lemmas.Bool.{cases_eq, cases_lt}
+use Rattle.std.proofs.lemmas.Bool.{cases_eq}
 use Rattle.std.proofs.lemmas.Bool.Decides.{nat_tests}
 use Rattle.std.proofs.lemmas.List.Elements.{All-head, All-tail}
 use Rattle.builder_trait.specs.Builders.{PartProfile}
@@ -9,7 +9,7 @@ use Rattle.builder_trait.specs.Parts.{Contents}
 use Rattle.part_store.specs.Shelves.{one_if}
 use Rattle.log_levels.specs.Slots.{Slots}
 use Rattle.log_levels.specs.Towers.{AreAllLevels}
-use Rattle.log_levels.specs.Trades.{runs_in, used_in, used_at, built_at, is_due, due_at, wanted_at}
+use Rattle.log_levels.specs.Trades.{used_in, used_at, built_at, is_due, due_at}
 use Rattle.log_method.specs.Stack.{AreInPlace}
 use Rattle.log_method.specs.Few.{HaveFew}
 use Rattle.log_method.proofs.FewParts.{three}

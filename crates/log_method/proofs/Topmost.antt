@@ -1,5 +1,5 @@
 -- The highest of some levels that has a part.
-use Rattle.std.proofs.Common.{◌≡◌, ◌==◌, ℕ, ◌+◌, ◌<◌, ◌∙◌, true, false, List, [], ◌∷◌, Option, Some, None, IfSome, if◌then◌else◌, nat_lt, refl, ap, sym, subst, arith}
+use Rattle.std.proofs.Common.{◌≡◌, ℕ, ◌<◌, ◌∙◌, true, false, List, ◌∷◌, Option, Some, None, IfSome, nat_lt, refl, ap, sym, arith}
 use Rattle.std.specs.Option.{is_some}
 use Rattle.std.proofs.lemmas.Bool.Decides.{nat_tests}
 use Rattle.log_levels.specs.Slots.{Slots}

@@ -1,4 +1,4 @@
-use Rattle.std.proofs.Common.{rules, ◌≡◌, ◌-◌, ◌∷◌, ◌∙◌, nat_lt, ap, sym, subst, arith}
+use Rattle.std.proofs.Common.{rules, ◌≡◌, ◌∷◌, ◌∙◌, nat_lt, ap, sym, subst, arith}
 use Rattle.log_levels.specs.Trades.{used_in, AreLent, Trades}
 use Rattle.log_levels.proofs.Publishing.{none_of}
 use Rattle.log_method.specs.Retired.{used_of, GivesOneBack}

@@ -1,4 +1,4 @@
-use Rattle.std.proofs.Common.{◌∷◌, ◌≡◌, IfSome, nat_lt, sym, subst}
+use Rattle.std.proofs.Common.{◌≡◌, IfSome, nat_lt, sym, subst}
 use Rattle.std.specs.Option.{is_some}
 use Rattle.log_method.specs.Retired.{used_of, top_of}
 use Rattle.log_method.proofs.Topmost.{some_used, top_used}

@@ -57,9 +57,8 @@ returns-clause-taken g c =
 
 pub returns-clause-few : goal.returns-clause-few
 returns-clause-few g c only =
-    let st = c.self.invariant.0 in
     let k = c.add_levels.ensures.kept in
-    few_held g.B.Part.Part.contents (profile g) c.self.inside.levels.items c.add_levels.new.levels.items c.args.store.now c.stock_levels.new.store
-    st.levels (k.levels (profile g) st.levels)
+    few_held c.self.inside.levels.items c.add_levels.new.levels.items c.args.store.now c.stock_levels.new.store
+    (have_few g.B.Part.Part.contents (profile g) _ (k.levels (profile g) c.self.invariant.0.levels)) k.each
     (subst (λ ls. HasTaken (λ k. wanted_at 2 k ls) c.args.store.now c.stock_levels.new.store) c.deref.ensures.value c.stock_levels.ensures.taken)
     (subst (λ s. LendsOnly s.levels c.args.store.now) (sym c.self.view_is) only)

@@ -1,4 +1,4 @@
-use Rattle.std.proofs.Common.{◌≡◌, ◌+◌, ◌≤◌, ◌∙◌, Bool, true, false, length, refl, ap, sym, subst, arith, ltb-false}
+use Rattle.std.proofs.Common.{◌≡◌, ◌∙◌, Bool, true, false, length, refl, ap, sym, subst, arith, ltb-false}
 use mir.Val.{bool_byte}
 use Rattle.std.specs.Option.{is_some}
 use Rattle.part_store.specs.Shelves.{one_if}
