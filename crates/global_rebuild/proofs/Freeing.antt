@@ -51,15 +51,17 @@ few_freed level both old new f fits many few =
     let t = (f.builder some).0 in
     let itself : (level == level) ≡ true = grind (arith, nat_tests) in
     let fewer : kept_at level new.builders ≡ kept_at level old.builders - 1 = rw itself at (t.kept level) in
-    let most : kept_at level old.builders + both level ≤ 10 + 1 = rw itself at (few level) in
-    ((λ k. elim (cases_eq k level) [
-      | inl same ↦ rw same (omega (arith, fewer, most, many))
-      | inr apart ↦
-          let other : (k == level) ≡ false = grind (arith, nat_tests, apart) in
-          let as_many : kept_at k new.builders ≡ kept_at k old.builders - 0 = rw other at (t.kept k) in
-          let within : kept_at k old.builders + both k ≤ 10 + 0 = rw other at (few k) in
-          omega (arith, as_many, within)
-    ]), omega (arith, fewer, many))
+    let most : kept_at level old.builders + both level ≤ 10 + 1 = rw itself at (few level) in (
+      (λ k. elim (cases_eq k level) [
+        | inl same ↦ rw same (omega (arith, fewer, most, many))
+        | inr apart ↦
+            let other : (k == level) ≡ false = grind (arith, nat_tests, apart) in
+            let as_many : kept_at k new.builders ≡ kept_at k old.builders - 0 = rw other at (t.kept k) in
+            let within : kept_at k old.builders + both k ≤ 10 + 0 = rw other at (few k) in
+            omega (arith, as_many, within)
+      ]),
+      omega (arith, fewer, many),
+    )
 
 -- where there isn't, there are few of all
 pub few_else : (level : ℕ) (both : ℕ → ℕ) (store : Stored) → kept_at level store.builders + both level ≤ 10
@@ -83,21 +85,21 @@ module _ {P Item : Type 0} {contents : P → Contents Item} where
       → Frees contents mid main shadow new → Frees contents old main shadow new
   walked_frees h f = elim f [
     | frees_none k ↦ frees_none (record {
-        builders = λ n. omega (arith, h.builders n, k.builders n);
-        tables = λ n. omega (arith, h.tables n, k.tables n);
-      })
+      builders = λ n. omega (arith, h.builders n, k.builders n);
+      tables = λ n. omega (arith, h.tables n, k.tables n);
+    })
     | frees_one level k spare ↦ frees_one level (record {
-        builders = λ n. omega (arith, h.builders n, k.builders n);
-        tables = λ n. omega (arith, h.tables n, k.tables n);
-      }) spare
+      builders = λ n. omega (arith, h.builders n, k.builders n);
+      tables = λ n. omega (arith, h.tables n, k.tables n);
+    }) spare
   ]
 
   module _ {main : Stacked P Item} {shadow : Option (Shadow P Item)} {old new : Stored} (f : FreesSpare contents main shadow old new) where
     pub freed_lent : (k : ℕ) → lent_at k new.builders ≡ lent_at k old.builders
-    freed_lent k = elim f [ | none same ↦ ap (λ s. lent_at k s.builders) same | one level at spare ↦ at.lent k ]
+    freed_lent k = elim f [ none same ↦ ap (λ s. lent_at k s.builders) same | one level at spare ↦ at.lent k ]
 
     pub freed_lent_tables : (k : ℕ) → lent_at k new.tables ≡ lent_at k old.tables
-    freed_lent_tables k = elim f [ | none same ↦ ap (λ s. lent_at k s.tables) same | one level at spare ↦ at.lent_tables k ]
+    freed_lent_tables k = elim f [ none same ↦ ap (λ s. lent_at k s.tables) same | one level at spare ↦ at.lent_tables k ]
 
   -- what is spare is so after memory was taken, where levels have as much
   spare_still : {main main' : Stacked P Item} {shadow shadow' : Option (Shadow P Item)} {store store' : Stored} (level : ℕ)
@@ -114,11 +116,11 @@ module _ {P Item : Type 0} {contents : P → Contents Item} where
       → Frees contents old main' shadow' new
   frees keeps f t live = elim f [
     | none same ↦ frees_none (record {
-        builders = λ k. omega (arith, keeps.builders k, ap (λ s. held_at k s.builders) same, t.lent k, t.kept k);
-        tables = λ k. omega (arith, keeps.tables k, ap (λ s. held_at k s.tables) same, t.lent_tables k, t.kept_tables k);
-      })
+      builders = λ k. omega (arith, keeps.builders k, ap (λ s. held_at k s.builders) same, t.lent k, t.kept k);
+      tables = λ k. omega (arith, keeps.tables k, ap (λ s. held_at k s.tables) same, t.lent_tables k, t.kept_tables k);
+    })
     | one level at spare ↦ frees_one level (record {
-        builders = λ k. omega (arith, keeps.builders k, at.lent k, at.at k, t.lent k, t.kept k);
-        tables = λ k. omega (arith, keeps.tables k, at.lent_tables k, at.at_tables k, t.lent_tables k, t.kept_tables k);
-      }) (spare_still level t live spare)
+      builders = λ k. omega (arith, keeps.builders k, at.lent k, at.at k, t.lent k, t.kept k);
+      tables = λ k. omega (arith, keeps.tables k, at.lent_tables k, at.at_tables k, t.lent_tables k, t.kept_tables k);
+    }) (spare_still level t live spare)
   ]

@@ -30,7 +30,7 @@ returns-clause-few g c k =
     omega (
       arith,
       few_else c.args.back (λ k. in_both (used_at k) c.args.main.now c.args.shadow.now) c.args.store.now
-      (omega (arith, c.if-there-gt-BUILDERS.false, c.used.ensures.value, c.builders.ensures)) c.requires k,
+          (omega (arith, c.if-there-gt-BUILDERS.false, c.used.ensures.value, c.builders.ensures)) c.requires k,
       (freed_at c.in-Some.level c.args.store.now c.give_up-2.new.self c.give_up-2.ensures).no_more k,
     )
 
