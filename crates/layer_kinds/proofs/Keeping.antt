@@ -2,6 +2,7 @@
 use Rattle.std.proofs.Common.{◌≡◌, ℕ, zero, suc, ◌+◌, ◌-◌, ◌⊎◌, ⊎_elim, if◌then◌else◌, Bool, true, false, List, [], ◌∷◌, ◌++◌, Option, Some, None, Result, Ok, Err, get_or, map, refl, sym, subst, arith}
 use Rattle.std.specs.Prelude.{IfOk, OnErr, nat_le}
 use Rattle.std.specs.Option.{option_map}
+use Rattle.std.proofs.Math.ListN.{get_or-map}
 use Rattle.std.proofs.lemmas.Bool.{leb-true}
 use Rattle.builder_trait.specs.Parts.{Contents}
 use Rattle.part_store.specs.Shelves.{held_at}
@@ -57,14 +58,6 @@ pub loses_one : (old mid new : List Memory) → Each IsReadied old mid → Each 
 loses_one old mid new h k =
     Each-then IsReadied KeepsAll LosesOne (λ x y z readied kept. (readied.parts.0, λ level. omega (arith, readied.parts.1 level, kept level))) old mid new h k
 
--- ---- the parts of a level
-
--- a number for each, at a place, and 0 past the last
-get_or-map : {A : Type 0} (f : A → ℕ) (d : A) → f d ≡ 0 → (xs : List A) (k : ℕ) → get_or (map f xs) k 0 ≡ f (get_or xs k d)
-get_or-map f d none [] k = sym none
-get_or-map f d none (x ∷ xs) zero = refl
-get_or-map f d none (x ∷ xs) (suc k) = get_or-map f d none xs k
-
 module _ {P Item : Type 0} (contents : P → Contents Item) where
   -- ---- an index that is there, and none
 
@@ -81,7 +74,7 @@ module _ {P Item : Type 0} (contents : P → Contents Item) where
       (subst (λ p. Each R (memories_of contents None) (memories_of contents p)) (sym is') tt)
 
   parts_there : (k : ℕ) (i : Indexed P Item) → parts_of_level k (memory_in contents i) ≡ held_at k i.store.builders
-  parts_there k i = get_or-map (λ s. s.kept + s.lent) (record { level = 0; kept = 0; lent = 0 }) refl i.store.builders k
+  parts_there k i = get_or-map (λ s. s.kept + s.lent) i.store.builders k (record { level = 0; kept = 0; lent = 0 })
 
   -- ---- a preparation
 
