@@ -6,12 +6,12 @@ use Rattle.std.proofs.lemmas.Bool.Decides.{nat_tests}
 use Rattle.std.proofs.lemmas.List.{length-append}
 use Rattle.builder_trait.specs.Builders.{PartProfile}
 use Rattle.builder_trait.specs.Parts.{Contents}
-use Rattle.part_store.specs.Shelves.{one_if, kept_at, lent_at, held_at}
+use Rattle.part_store.specs.Shelves.{one_if, lent_at, held_at}
 use Rattle.part_store.specs.Store.{Stored, KeepsBoth, LendsRoom, TakesPart, TakesRoom, TakesTables}
 use Rattle.log_levels.specs.Slots.{Slots, ticks_of}
 use Rattle.log_levels.specs.Neighbours.{IsBelow, Advances, stays, arrives, IsPublication}
 use Rattle.log_levels.proofs.Neighbouring.{none_ticks, not_some}
-use Rattle.log_levels.specs.Trades.{runs_in, used_in, used_at, built_at, AreLent, is_due, due_at, wanted_at, IsStocked, Trades, Ticks, will_begin, may_begin, now_at, soon_at, IsQuiet, IsQuietAbove, IsQuietSoon, AreReady, HasRoom, Visits, Walks}
+use Rattle.log_levels.specs.Trades.{runs_in, used_in, used_at, built_at, AreLent, is_due, due_at, Trades, will_begin, may_begin, now_at, soon_at, IsQuiet, IsQuietAbove, IsQuietSoon, AreReady, HasRoom, Visits, Walks}
 
 pub one_fits : (b : Bool) → one_if b ≤ 1
 one_fits true = omega arith
@@ -224,25 +224,6 @@ walks_none lower store = record {
         ≤ (if k == lower.level + 1 then one_if (nat_le (2 ^ lower.level) (ticks_of lower + 1)) else 0)
     here k = both_if (k == (lower.level + 1)) (one_if (is_due 1 lower)) (one_if (nat_le (2 ^ lower.level) (ticks_of lower + 1)))
         (and_less (nat_le (2 ^ lower.level) (ticks_of lower + 1)) (nat_le 2 1 || (length lower.parts == 1)))
-
--- what was stocked for two ticks is for one after the first
-pub stocked_on : {P Item : Type 0} (levels levels' : List (Slots P Item)) (store store' : Stored) → Ticks levels store levels' store'
-    → IsStocked levels store 2 → IsStocked levels' store' 1
-stocked_on levels levels' store store' t s = record {
-  builders = λ k. omega (arith, s.builders k, t.stays k);
-  tables = λ k. omega (arith, s.tables k, t.stays_tables k);
-  quiet = t.quiet s.quiet;
-}
-
--- two ticks of one stack and then of another, which have one store: each finds what it may take
-pub stocked_both : {P Item : Type 0} (main main' shadow : List (Slots P Item)) (store store' : Stored) → Ticks main store main' store'
-    → ((k : ℕ) → wanted_at 1 k main + wanted_at 1 k shadow ≤ kept_at k store.builders)
-    → ((k : ℕ) → due_at 1 k main + due_at 1 k shadow ≤ kept_at k store.tables) → IsQuiet 1 shadow → IsStocked shadow store' 1
-stocked_both main main' shadow store store' t builders tables quiet = record {
-  builders = λ k. omega (arith, builders k, t.takes k);
-  tables = λ k. omega (arith, tables k, t.takes_tables k);
-  quiet = quiet;
-}
 
 -- of one level there are so many
 here : (k m : ℕ) → (if k == k then m else 0) ≡ m
