@@ -1,6 +1,6 @@
 // An allocator over that of the C library, which refuses requests for memory: those whose numbers REFUSED names, the first and the last, or, where
 // it names none, all between two marks. At the end it adds a line to the file that REFUSALS names: how many requests there were and how many of
-// them were refused, and how many marks.
+// them were refused, how many marks, and how many blocks were given back between them.
 #define _GNU_SOURCE
 #include <dlfcn.h>
 #include <stdio.h>
@@ -9,7 +9,7 @@
 // The sizes of the marks, in crates/map_tests/src/memory.rt: from the first on memory is refused, up to the second.
 enum { REFUSE = 4099, GIVE = 4111 };
 
-static unsigned long first, last, requests, refused, marks;
+static unsigned long first, last, requests, refused, marks, given_back;
 static int between, has_ended;
 
 __attribute__((constructor)) static void begin(void) {
@@ -42,11 +42,19 @@ void *realloc(void *block, size_t size) {
     return is_refused(size) ? NULL : given(block, size);
 }
 
+void free(void *block) {
+    static void (*given)(void *);
+    if (!given) given = (void (*)(void *))dlsym(RTLD_NEXT, "free");
+    given_back += between && block;
+    given(block);
+}
+
 // Only tests make marks, and not the programs that run them.
 __attribute__((destructor)) static void tell(void) {
     has_ended = 1;
     FILE *told = first || marks ? fopen(getenv("REFUSALS"), "a") : NULL;
     if (!told) return;
-    fprintf(told, "%lu %lu %lu\n", requests, refused, marks);
+    // A mark is given back at once.
+    fprintf(told, "%lu %lu %lu %lu\n", requests, refused, marks, given_back - marks);
     fclose(told);
 }
