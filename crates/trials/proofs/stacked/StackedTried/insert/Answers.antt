@@ -5,10 +5,13 @@ use Rattle.trials.specs.Stacks.{IsStackOf}
 use Rattle.trials.proofs.Stacks.{IsStackOf-same, IsStackOf-insert}
 use Rattle.trials.proofs.stacked.StackedTried.insert.Goals as goal
 
-pub invariant_of-self : goal.invariant_of-self
-invariant_of-self g c =
-    let p = c.prepare.ensures in
-    (IsStackOf-same p.same.weight p.same.items p.same.live c.self.invariant.0, lent_prepared _ _ _ _ _ p.each p.taken c.self.invariant.1)
+pub invariant_of-self-in_err-prepare : goal.invariant_of-self-in_err-prepare
+invariant_of-self-in_err-prepare g c =
+    let p = c.prepare.ensures in (
+      subst (IsStackOf g.B.Part.Part.contents g.B.Item.Item.stamp c.prepare.new.self.levels) (sym c.reserve.ensures.items)
+          (IsStackOf-same p.same.weight p.same.items p.same.live c.self.invariant.0),
+      lent_prepared _ _ _ _ _ p.each p.taken c.self.invariant.1,
+    )
 
 pub insert-requires-clause-ready : goal.insert-requires-clause-ready
 insert-requires-clause-ready g c =
