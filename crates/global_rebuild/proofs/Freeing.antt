@@ -1,5 +1,5 @@
 -- What a preparation frees.
-use Rattle.std.proofs.Common.{◌≡◌, ◌==◌, ◌≢◌, ◌⊎◌, ⊎_elim, ℕ, ◌+◌, ◌-◌, ◌*◌, ◌^◌, ◌<◌, ◌≤◌, Bool, true, false, Option, None, Result, Ok, Err, IfOk, OnErr, if◌then◌else◌, inl, inr, refl, ap, sym, subst, arith, pow_mono}
+use Rattle.std.proofs.Common.{◌≡◌, ◌==◌, ◌≢◌, ◌⊎◌, ⊎_elim, ℕ, ◌+◌, ◌-◌, ◌*◌, ◌^◌, ◌<◌, ◌≤◌, Bool, true, false, Option, Some, None, IfNone, Result, Ok, Err, IfOk, OnErr, if◌then◌else◌, inl, inr, refl, ap, sym, subst, arith, pow_mono}
 use Rattle.std.proofs.lemmas.Bool.{cases_eq, cases_lt}
 use Rattle.std.proofs.lemmas.Bool.Decides.{nat_tests}
 use Rattle.builder_trait.specs.Parts.{Contents}
@@ -18,6 +18,10 @@ anyway_ok (Err e) h = tt
 pub anyway_err : {A E p : Type 0} (r : Result A E) → p → OnErr r p
 anyway_err (Ok x) h = tt
 anyway_err (Err e) h = h
+
+pub anyway_none : {A p : Type 0} (o : Option A) → p → IfNone o p
+anyway_none None h = h
+anyway_none (Some x) h = tt
 
 -- a store frees what is kept of a level
 pub freed_at : (level : ℕ) (old new : Stored) → FreesOne level old new → FreesOneAt level old new
@@ -95,7 +99,7 @@ lowers_tables level old new f nothing some =
 -- an index of any size has the lowest levels
 high_level : (k n : ℕ) → 2 * n + 10 < 2 ^ k → 4 ≤ k
 high_level k n high = elim (cases_lt k 4) [
-  | inl low ↦ let small : 2 ^ k ≤ 2 ^ 3 = pow_mono (omega (arith, low)) in absurd (omega (arith, small, high))
+  | inl low ↦ let small : 2 ^ k ≤ 2 ^ 3 = pow_mono {i = k} {j = 3} (omega (arith, low)) in absurd (omega (arith, small, high))
   | inr above ↦ above
 ]
 
@@ -105,6 +109,19 @@ tables_most k n = most (k == 0)
     most : (b : Bool) → (if b then 0 else n) ≤ n
     most true = omega arith
     most false = omega arith
+
+module _ {P Item : Type 0} (contents : P → Contents Item) where
+  -- no memory of a high level is left after some was taken
+  cleared_still : {main main' : Stacked P Item} {shadow shadow' : Option (Shadow P Item)} {store new : Stored} → TakeMemory main shadow store main' shadow' new
+      → live_in contents main' ≡ live_in contents main → IsCleared contents main shadow store → IsCleared contents main' shadow' new
+  cleared_still {main} {main'} {shadow} {shadow'} {store} {new} t live clear k high = ⊎_elim
+      (λ none. ⊎_elim
+      (λ zero. inl (omega (arith, none, zero, t.no_more k, t.no_more_tables k, tables_most k (in_both (wanted_at 2 k) main' shadow'))))
+      (λ some. inr (k, omega arith, omega (arith, some)))
+      (cases_eq (in_both (wanted_at 2 k) main' shadow') 0))
+      (λ some. let four : 4 ≤ some.0 = omega (arith, some.1, high_level k (live_in contents main') high) in
+      inr (some.0, some.1, omega (arith, some.2, t.wanted some.0 four)))
+      (clear k (omega (arith, high, live)))
 
 module _ {P Item : Type 0} {contents : P → Contents Item} where
   -- a walk alone frees none
@@ -169,18 +186,6 @@ module _ {P Item : Type 0} {contents : P → Contents Item} where
         one_builder level less.1 high (⊎_elim (λ zero. omega (arith, zero)) (λ fits. omega (arith, fits, less.0)) free)
   ]
 
-  -- no memory of a high level is left after some was taken
-  cleared_still : {main main' : Stacked P Item} {shadow shadow' : Option (Shadow P Item)} {store new : Stored} → TakeMemory main shadow store main' shadow' new
-      → live_in contents main' ≡ live_in contents main → IsCleared contents main shadow store → IsCleared contents main' shadow' new
-  cleared_still {main} {main'} {shadow} {shadow'} {store} {new} t live clear k high = ⊎_elim
-      (λ none. ⊎_elim
-      (λ zero. inl (omega (arith, none, zero, t.no_more k, t.no_more_tables k, tables_most k (in_both (wanted_at 2 k) main' shadow'))))
-      (λ some. inr (k, omega arith, omega (arith, some)))
-      (cases_eq (in_both (wanted_at 2 k) main' shadow') 0))
-      (λ some. let four : 4 ≤ some.0 = omega (arith, some.1, high_level k (live_in contents main') high) in
-      inr (some.0, some.1, omega (arith, some.2, t.wanted some.0 four)))
-      (clear k (omega (arith, high, live)))
-
   -- one comes back, one that isn't wanted may be freed, and memory is taken
   pub clears : {main main' : Stacked P Item} {shadow shadow' : Option (Shadow P Item)} {old back freed new : Stored} → KeepsBoth old back
       → FreesUnwanted contents main shadow back freed → TakeMemory main shadow freed main' shadow' new → live_in contents main' ≡ live_in contents main
@@ -190,14 +195,14 @@ module _ {P Item : Type 0} {contents : P → Contents Item} where
     | one_builder level less high fits ↦
         fewer level (omega (arith, less, fits, keeps.builders level, t.lent level, t.no_more level, t.wanted level (high_level level (live_in contents main) high)))
     | one_tables level less high zero ↦ fewer_tables level (omega (
-        arith,
-        less,
-        zero,
-        keeps.tables level,
-        t.lent_tables level,
-        t.no_more_tables level,
-        tables_most level (in_both (wanted_at 2 level) main' shadow'),
-        t.wanted level (high_level level (live_in contents main) high),
-      ))
-    | cleared_before same clear ↦ cleared (cleared_still t live (subst (IsCleared contents main shadow) (sym same) clear))
+      arith,
+      less,
+      zero,
+      keeps.tables level,
+      t.lent_tables level,
+      t.no_more_tables level,
+      tables_most level (in_both (wanted_at 2 level) main' shadow'),
+      t.wanted level (high_level level (live_in contents main) high),
+    ))
+    | cleared_before same clear ↦ cleared (cleared_still contents t live (subst (IsCleared contents main shadow) (sym same) clear))
   ]

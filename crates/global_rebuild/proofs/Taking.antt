@@ -20,7 +20,7 @@ use Rattle.global_rebuild.proofs.Owning.{in_shadow, shadow_few}
 -- a level that is idle is due soon where it is one of the lowest two
 early : (level k ticks : ℕ) → 4 ≤ k → k ≡ level + 1 → ticks ≡ 0 → nat_le (2 ^ level) (ticks + 2) ≡ false
 early level k ticks four next none =
-    let high : 2 ^ 3 ≤ 2 ^ level = pow_mono (omega (arith, four, next)) in
+    let high : 2 ^ 3 ≤ 2 ^ level = pow_mono {i = 3} {j = level} (omega (arith, four, next)) in
     let late : ticks + 2 < 2 ^ level = omega (arith, high, none) in grind (arith, nat_tests, late)
 
 module _ {P Item : Type 0} where

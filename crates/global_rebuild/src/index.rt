@@ -465,7 +465,8 @@ fn too_high<B: Builder>(
     if wanted > 0 && wanted >= store.builders(level) {
         return None;
     }
-    if level < u128::BITS && 1u128 << level <= 2 * u128::from(main.live()) + 10 {
+    let most = 2 * u128::from(main.live()) + 10;
+    if level < u128::BITS && 1u128 << level <= most {
         return None;
     }
     Some(level)
