@@ -1,14 +1,14 @@
 -- What a preparation frees.
-use Rattle.std.proofs.Common.{◌≡◌, ◌==◌, ◌≢◌, ◌⊎◌, ⊎_elim, ℕ, ◌+◌, ◌-◌, ◌*◌, ◌^◌, ◌<◌, ◌≤◌, Bool, true, false, Option, Some, None, IfNone, Result, Ok, Err, IfOk, OnErr, if◌then◌else◌, inl, inr, refl, ap, sym, subst, arith, pow_mono}
+use Rattle.std.proofs.Common.{◌≡◌, ◌==◌, ◌≢◌, ◌⊎◌, ⊎_elim, ℕ, ◌+◌, ◌-◌, ◌*◌, ◌^◌, ◌<◌, ◌≤◌, Bool, true, false, Option, Some, None, IfNone, Result, Ok, Err, IfOk, OnErr, if◌then◌else◌, inl, inr, ap, sym, subst, arith, pow_mono}
 use Rattle.std.proofs.lemmas.Bool.{cases_eq, cases_lt}
 use Rattle.std.proofs.lemmas.Bool.Decides.{nat_tests}
 use Rattle.builder_trait.specs.Parts.{Contents}
 use Rattle.part_store.specs.Shelves.{one_if, kept_at, lent_at, held_at}
 use Rattle.part_store.specs.Store.{Stored, KeepsBoth, FreesOne, tables_for, kept_in}
-use Rattle.log_levels.specs.Trades.{used_at, wanted_at}
+use Rattle.log_levels.specs.Trades.{wanted_at}
 use Rattle.log_method.specs.Stack.{Stacked}
 use Rattle.global_rebuild.specs.Index.{Shadow, Indexed, HasPaused, in_both, live_in, IsSpare, enough, too_high, FreesOne as Frees, none as frees_none, one as frees_one, IsCleared, Clears, fewer, fewer_tables, cleared}
-use Rattle.global_rebuild.specs.Memory.{HoldsNoLess, FreesOneOf, FreesOneAt}
+use Rattle.global_rebuild.specs.Memory.{HoldsNoLess, FreesOneAt}
 use Rattle.global_rebuild.specs.Retiring.{FreesSpare, none, one, FreesUnwanted, crowded, one_builder, one_tables, cleared_before, TakeMemory}
 
 pub anyway_ok : {A E p : Type 0} (r : Result A E) → p → IfOk r (λ _. p)

@@ -1,8 +1,8 @@
 -- Memory that is taken for both stacks.
-use Rattle.std.proofs.Common.{◌≡◌, ◌==◌, ℕ, ◌+◌, ◌-◌, ◌^◌, ◌<◌, ◌≤◌, ◌≢◌, ◌⊎◌, ◌&&◌, ◌∙◌, Bool, true, false, if◌then◌else◌, nat_le, List, [], ◌∷◌, ◌++◌, All, Option, Some, None, inl, inr, refl, ap, sym, arith, pow_mono}
+use Rattle.std.proofs.Common.{◌≡◌, ◌==◌, ℕ, ◌+◌, ◌^◌, ◌<◌, ◌≤◌, ◌≢◌, ◌⊎◌, ◌∙◌, true, false, if◌then◌else◌, nat_le, List, [], ◌∷◌, ◌++◌, All, Option, Some, None, inl, inr, refl, ap, sym, arith, pow_mono}
 use Rattle.std.proofs.lemmas.Bool.{cases_eq}
 use Rattle.std.proofs.lemmas.Bool.Decides.{nat_tests}
-use Rattle.part_store.specs.Shelves.{one_if, kept_at, lent_at}
+use Rattle.part_store.specs.Shelves.{one_if}
 use Rattle.part_store.specs.Store.{Stored}
 use Rattle.std.proofs.lemmas.List.{append-nil}
 use Rattle.std.proofs.lemmas.List.Elements.{All-nil, All-head, All-tail}

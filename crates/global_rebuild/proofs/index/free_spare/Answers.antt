@@ -1,5 +1,4 @@
-use Rattle.std.proofs.Common.{rules, ◌≡◌, ℕ, ◌+◌, ◌<◌, ◌≤◌, refl, arith}
-use Rattle.part_store.specs.Shelves.{kept_at, one_if}
+use Rattle.std.proofs.Common.{rules, refl, arith}
 use Rattle.log_levels.specs.Trades.{used_at}
 use Rattle.global_rebuild.specs.Index.{in_both, enough, too_high}
 use Rattle.global_rebuild.specs.Retiring.{none, one, crowded, cleared_before}

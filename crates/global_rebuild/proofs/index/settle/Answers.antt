@@ -1,5 +1,5 @@
 use Rattle.std.proofs.Common.{length, ap}
-use Rattle.global_rebuild.proofs.Owning.{lent_to_retired, lent_tables_to_retired, owns-back, owns-taken, OwnsMore}
+use Rattle.global_rebuild.proofs.Owning.{lent_to_retired, lent_tables_to_retired, owns-back, owns-taken}
 use Rattle.global_rebuild.proofs.Freeing.{freed_lent, freed_lent_tables, frees, clears}
 use Rattle.global_rebuild.proofs.index.settle.Goals as goal
 

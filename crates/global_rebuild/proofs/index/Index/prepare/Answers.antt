@@ -1,4 +1,4 @@
-use Rattle.std.proofs.Common.{rules, ◌≡◌, ℕ, ◌-◌, ◌*◌, min, None, ◌∙◌, Some, IfOk, inl, refl, sym, ap, subst, arith}
+use Rattle.std.proofs.Common.{rules, ◌≡◌, ℕ, ◌-◌, ◌*◌, min, None, ◌∙◌, Some, IfOk, inl, sym, ap, subst, arith}
 use Rattle.query_laws.specs.StepLedger.{Counts}
 use Rattle.log_levels.specs.Cost.{IsWithin, quotas}
 use Rattle.log_method.proofs.Forecasting.{when_ok}
