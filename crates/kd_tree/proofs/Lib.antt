@@ -1,4 +1,5 @@
 pub mod Placings
+pub mod DistanceLemmas
 pub mod LeafLemmas
 pub mod NodeLemmas
 pub mod Shrinkings

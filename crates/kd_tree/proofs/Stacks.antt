@@ -22,6 +22,7 @@ use Rattle.kd_tree.specs.declared.spot.Spot.{Spot}
 use Rattle.kd_tree.specs.declared.area.Area.{Area}
 use Rattle.kd_tree.specs.declared.block.Block.{Block}
 use Rattle.kd_tree.specs.Areas.{Has, apart, spot_of}
+use Rattle.kd_tree.specs.Distances.{least}
 use Rattle.kd_tree.specs.Heights.{span}
 use Rattle.kd_tree.specs.HeightLaws.{span_more}
 use Rattle.kd_tree.specs.Blocks.{Holds, IsNode}
@@ -142,7 +143,7 @@ module _ (part : Contents Point) (order : List ℕ) (q : Near) where
   -- a block with a box that has its live points
   pub IsFar-of : (area : Area) (b : Block) (l place : ℕ) → b.level ≡ l → b.place ≡ place
       → Holds part order area (place * span l) ((place + 1) * span l)
-      → ((spot : Spot) → Has area spot → place * span l < length order → (b.some ≡ true) × (b.dist ≤ apart (spot_asked q) spot)) → IsFar part order q b
+      → ((spot : Spot) → Has area spot → place * span l < length order → (b.some ≡ true) × (least b.dist ≤ apart (spot_asked q) spot)) → IsFar part order q b
   IsFar-of area b l place level there holds far = record {
     each = λ position k p low high stands item flag.
         let from : start_of b ≡ place * span l = ap (λ m. m * span b.level) there ∙ ap (λ m. place * span m) level in
@@ -250,7 +251,7 @@ module _ (part : Contents Point) (order : List ℕ) (q : Near) where
 pub child_is : (part : Contents Point) (order : List ℕ) (q : Near) (depth n l place c : ℕ) (areas : List Area) (b : Block)
     → IsNode part order l place areas → length areas ≡ 4 → c < 4 → b.level ≡ l → b.place ≡ 4 * place + c → (b.some ≡ true → (4 * place + c) * span l < n)
     → ((area : Area) (spot : Spot) → slice_get areas c ≡ Some area → Has area spot → (4 * place + c) * span l < n
-    → (b.some ≡ true) × (b.dist ≤ apart (spot_asked q) spot)) → length order ≡ n → 4 * place + 3 < 4 ^ (depth - l) → IsChild part order q depth n l b
+    → (b.some ≡ true) × (least b.dist ≤ apart (spot_asked q) spot)) → length order ≡ n → 4 * place + 3 < 4 ^ (depth - l) → IsChild part order q depth n l b
 child_is part order q depth n l place c areas b node four small level there reached far long few =
     let from : start_of b ≡ (4 * place + c) * span l = ap (λ m. m * span b.level) there ∙ ap (λ m. (4 * place + c) * span m) level in
     ⊎_elim
@@ -349,7 +350,7 @@ module _ (part : Contents Point) (order : List ℕ) (q : Near) (k : ℕ) (kept :
       (All-map (λ f. nearer_le worst f ≡ true) (found_at q.x q.y) (live_in_block part order b)
       (All-live part order (λ p. nearer_le worst (found_at q.x q.y p) ≡ true) (start_of b) (end_of b)
       (λ position place p low high stands item flag.
-      no_nearer worst (found_at q.x q.y p) b.dist less (far.each position place p low high stands item flag).1)
+      no_nearer worst (found_at q.x q.y p) (least b.dist) less (far.each position place p low high stands item flag).1)
       (omega arith))))
       out
 

@@ -1,4 +1,5 @@
 pub mod Areas
+pub mod Distances
 pub mod Placings
 pub mod Heights
 pub mod HeightLaws

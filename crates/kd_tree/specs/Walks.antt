@@ -12,6 +12,7 @@ use Rattle.map_questions.specs.Questions.{found_at}
 use Rattle.kd_tree.specs.declared.spot.Spot.{Spot}
 use Rattle.kd_tree.specs.declared.block.Block.{Block}
 use Rattle.kd_tree.specs.Areas.{apart, spot_of}
+use Rattle.kd_tree.specs.Distances.{least}
 use Rattle.kd_tree.specs.Heights.{span}
 
 -- where a question asks
@@ -47,7 +48,7 @@ live_in_block part order b = live_in part order (start_of b) (end_of b)
 pub record IsFar (part : Contents Point) (order : List ℕ) (q : Near) (b : Block) : Type 0 where
   pub each : (position place : ℕ) (p : Point) → start_of b ≤ position → position < end_of b → slice_get order position ≡ Some place
       → slice_get part.items place ≡ Some p → slice_get part.flags place ≡ Some true
-      → (b.some ≡ true) × (b.dist ≤ apart (spot_asked q) (spot_of p))
+      → (b.some ≡ true) × (least b.dist ≤ apart (spot_asked q) (spot_of p))
 
 -- a block of a tree of that depth, with a position below n
 pub record IsBlock (depth n : ℕ) (b : Block) : Type 0 where
@@ -64,7 +65,7 @@ pub record IsChild (part : Contents Point) (order : List ℕ) (q : Near) (depth 
 
 -- it has no live points, or there is no room for more points and none of its own is nearer than the worst one
 abbrev pub IsLeftOut : ℕ → List Found → Block → Type 0
-IsLeftOut k kept b = (b.some ≡ false) ⊎ ((worst : Found) × (slice_get kept (k - 1) ≡ Some worst) × (worst.dist < b.dist))
+IsLeftOut k kept b = (b.some ≡ false) ⊎ ((worst : Found) × (slice_get kept (k - 1) ≡ Some worst) × (worst.dist < least b.dist))
 
 -- blocks that are to be visited, the last one next: each below three of a level
 pub record IsStack (part : Contents Point) (order : List ℕ) (q : Near) (depth n : ℕ) (stack : List Block) : Type 0 where

@@ -1,9 +1,11 @@
 //! The box of some points.
-ghost use Rattle.std.specs.Prelude.{◌≡◌, ◌-◌, ◌^◌, ◌≤◌, ◌<◌, false, min};
+ghost use Rattle.std.specs.Prelude.{◌≡◌, ◌^◌, ◌≤◌, ◌<◌, false};
 ghost use Rattle.kd_tree.specs.declared.spot.Spot.{Spot};
 ghost use Rattle.kd_tree.specs.declared.area.Area.{Area};
 ghost use Rattle.kd_tree.specs.Areas.{Has, IsInside, IsBox, apart, distance_to, gap};
+ghost use Rattle.kd_tree.specs.Distances.{coarse, least};
 
+use crate::distance::coarse;
 use crate::spot::Spot;
 
 /// From `x1` to `x2` and from `y1` to `y2`, both ends included. One whose lower end is above its upper end has nothing in it.
@@ -67,15 +69,15 @@ impl Area {
         }
     }
 
-    /// The square of its distance from a spot, at most the greatest u64: nothing in it is nearer.
+    /// The square of its distance from a spot, made coarse: nothing in it is nearer than the least that this may be.
     #[inline]
     pub(crate) fn distance(&self, from: &Spot) -> u64
-        ensures value { result ≡ min (distance_to self.now from.now) (2 ^ 64 - 1) }
-        ensures nearest { (spot : Spot) → Has self.now spot → result ≤ apart from.now spot }
+        ensures value { result ≡ coarse (distance_to self.now from.now) }
+        ensures nearest { (spot : Spot) → Has self.now spot → least result ≤ apart from.now spot }
     {
         let across = gap(self.x1, self.x2, from.x);
         let up = gap(self.y1, self.y2, from.y);
-        (across * across).saturating_add(up * up)
+        coarse(across, up)
     }
 }
 

@@ -9,7 +9,7 @@ use crate::area::Area;
 use crate::height::block_bits;
 use crate::spot::Spot;
 
-/// The block of a level at a place: how far it is at least from where is asked, and whether it may have live points at all.
+/// The block of a level at a place: how far it is at least from where is asked, made coarse, and whether it may have live points at all.
 #[derive(Clone, Copy, Debug, Default)]
 pub(crate) struct Block {
     pub(crate) level: u32,
@@ -31,6 +31,7 @@ fn is_reached(level: u32, place: usize, len: usize) -> bool
 
 impl Block {
     ghost use Rattle.kd_tree.specs.Areas.{Has, apart};
+    ghost use Rattle.kd_tree.specs.Distances.{least};
 
     /// The block of one of a node's boxes: the first one stands at `first`.
     #[inline]
@@ -51,7 +52,7 @@ impl Block {
         ensures place { result.place ≡ first + c }
         ensures reached { result.some ≡ true → (first + c) * span level < len }
         ensures far { (area : Area) (spot : Spot) → slice_get areas.now c ≡ Some area → Has area spot → (first + c) * span level < len
-            → (result.some ≡ true) × (result.dist ≤ apart from.now spot) }
+            → (result.some ≡ true) × (least result.dist ≤ apart from.now spot) }
     {
         Block::of(&areas[c], level, first + c, from, len)
     }
@@ -64,7 +65,8 @@ impl Block {
         ensures level { result.level ≡ level }
         ensures place { result.place ≡ place }
         ensures reached { result.some ≡ true → place * span level < len }
-        ensures far { (spot : Spot) → Has area.now spot → place * span level < len → (result.some ≡ true) × (result.dist ≤ apart from.now spot) }
+        ensures far { (spot : Spot) → Has area.now spot → place * span level < len
+            → (result.some ≡ true) × (least result.dist ≤ apart from.now spot) }
     {
         Block {
             level,

@@ -54,6 +54,16 @@ fn hull(spots: &[Spot; 8], live: &[bool; 8], count: usize) -> Area
     area
 }
 
+/// Puts a spot into a slot.
+#[inline]
+fn put_spot(spots: &mut [Spot; 8], slot: usize, spot: Spot)
+    requires { slot < 8 }
+    ensures spots { spots.new ≡ slice_set spots.old slot spot }
+    ensures own { slice_get spots.new slot ≡ Some spot }
+{
+    spots[slot] = spot;
+}
+
 impl Leaves {
     ghost use Rattle.kd_tree.specs.Leaves.{HasLeaves, HasLeafRoom};
 
@@ -87,9 +97,7 @@ impl Leaves {
             self.spots.push([spot; 8], steps);
             self.live.push([true; 8], steps);
         } else {
-            let mut leaf = self.spots.at(position / LEAF, steps);
-            leaf[slot] = spot;
-            self.spots.set(position / LEAF, leaf, steps);
+            put_spot(self.spots.entry_mut(position / LEAF, steps), slot, spot);
         }
     }
 

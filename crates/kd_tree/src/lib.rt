@@ -5,6 +5,10 @@
 //! boxes of its four blocks: each is the least one of its block's live points, so none of these is nearer to a place than the box. A question
 //! walks the nearest block first, and leaves a block out whose box is farther than the worst of the points that it keeps.
 //!
+//! Squares of distances have up to 65 bits where coordinates have 32. A walk compares them in 64: up to 2^63 as they are, and by fourths of what
+//! is above that, so a box may be read in vain that is less than four farther than the worst. With 128 bits a walk would take a sixth more
+//! instructions, and one that chose its width by the boxes of the root would stand here twice.
+//!
 //! A part keeps its points by the flat structure, and these rows beside them. That the blocks are split well isn't proved: it
 //! shows in touches alone.
 //!
@@ -16,6 +20,7 @@
 mod area;
 mod block;
 mod clearing;
+mod distance;
 mod growing;
 mod height;
 mod kept;

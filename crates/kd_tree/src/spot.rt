@@ -1,7 +1,9 @@
 //! Where a point lies.
-ghost use Rattle.std.specs.Prelude.{◌≡◌, ◌-◌, ◌^◌, min};
+ghost use Rattle.std.specs.Prelude.{◌≡◌};
 ghost use Rattle.kd_tree.specs.Areas.{apart, spot_of};
+ghost use Rattle.kd_tree.specs.Distances.{coarse};
 
+use crate::distance::coarse;
 use map_shapes::Point;
 
 /// A place of the map: that of a point, or the one that a question asks of.
@@ -23,13 +25,13 @@ impl Spot {
         }
     }
 
-    /// The square of the distance between two spots, at most the greatest u64.
+    /// The square of the distance between two spots, made coarse.
     #[inline]
     pub(crate) fn apart(&self, other: &Spot) -> u64
-        ensures { result ≡ min (apart self.now other.now) (2 ^ 64 - 1) }
+        ensures { result ≡ coarse (apart self.now other.now) }
     {
         let across = u64::from(self.x.abs_diff(other.x));
         let up = u64::from(self.y.abs_diff(other.y));
-        (across * across).saturating_add(up * up)
+        coarse(across, up)
     }
 }

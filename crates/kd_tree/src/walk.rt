@@ -10,10 +10,12 @@ ghost use Rattle.map_shapes.specs.Found.{nearer_le};
 ghost use Rattle.map_questions.specs.FirstFew.{IsFirstFew, first_few};
 ghost use Rattle.kd_tree.specs.declared.block.Block.{Block};
 ghost use Rattle.kd_tree.specs.Areas.{spot_of};
+ghost use Rattle.kd_tree.specs.Distances.{least};
 ghost use Rattle.kd_tree.specs.Growing.{IsTree};
 ghost use Rattle.kd_tree.specs.Walks.{spot_asked, founds, live_in, live_in_block, IsFar, IsBlock, IsChild, IsStack, IsLeftOut, work_of, work_of_all, Takes};
 
 use crate::block::{Block, farther_first};
+use crate::distance::is_below;
 use crate::height::{LEAF, index};
 use crate::kept::KeepsNearest;
 use crate::rows::KdRows;
@@ -45,12 +47,14 @@ fn spot_asked(near: &Near) -> Spot
     }
 }
 
-/// Whether what is at least so far is farther than all that is kept, where there is no room for more.
+/// Whether what is at least so far, made coarse, is farther than all that is kept, where there is no room for more.
 #[inline]
 fn is_farther<T: KeepsNearest>(dist: u64, tally: &T) -> bool
-    ensures { result ≡ true → (worst : Found) × (slice_get (T.kept tally.now) (T.most tally.now - 1) ≡ Some worst) × (worst.dist < dist) }
+    ensures { result ≡ true → (worst : Found) × (slice_get (T.kept tally.now) (T.most tally.now - 1) ≡ Some worst) × (worst.dist < least dist) }
 {
-    tally.farthest().is_some_and(|worst| worst.dist < dist)
+    tally
+        .farthest()
+        .is_some_and(|worst| is_below(worst.dist, dist))
 }
 
 /// Whether a block has no live points, or none that is near enough.

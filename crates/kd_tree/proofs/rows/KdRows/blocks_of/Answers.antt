@@ -12,6 +12,7 @@ use Rattle.kd_tree.specs.declared.area.Area.{Area}
 use Rattle.kd_tree.specs.declared.rows.KdRows.{KdRows}
 use Rattle.kd_tree.specs.declared.spot.Spot.{Spot}
 use Rattle.kd_tree.specs.Areas.{Has, apart}
+use Rattle.kd_tree.specs.Distances.{least}
 use Rattle.kd_tree.specs.Heights.{span, index}
 use Rattle.kd_tree.specs.HeightLaws.{four_below, four_small}
 use Rattle.kd_tree.specs.Blocks.{IsNode}
@@ -94,12 +95,12 @@ child-requires-4-clause-small g c =
 one : (part : Contents Point) (order : List ℕ) (q : Near) (depth n l place j len : ℕ) (from : Spot) (areas : List Area) (b : Block)
     → IsNode part order l place areas → length areas ≡ 4 → j < 4 → len ≡ n → from ≡ spot_asked q → length order ≡ n → 4 * place + 3 < 4 ^ (depth - l)
     → b.level ≡ l → b.place ≡ 4 * place + j → (b.some ≡ true → (4 * place + j) * span l < len)
-    → ((area : Area) (spot : Spot) → slice_get areas j ≡ Some area → Has area spot → (4 * place + j) * span l < len → (b.some ≡ true) × (b.dist ≤ apart from spot))
+    → ((area : Area) (spot : Spot) → slice_get areas j ≡ Some area → Has area spot → (4 * place + j) * span l < len → (b.some ≡ true) × (least b.dist ≤ apart from spot))
     → IsChild part order q depth n l b
 one part order q depth n l place j len from areas b node four low is asked long few level there reached far =
     child_is part order q depth n l place j areas b node four low level there (λ some. omega (arith, is, reached some))
     (λ area spot at has within.
-    subst (λ s. (b.some ≡ true) × (b.dist ≤ apart s spot)) asked (far area spot at has (omega (arith, is, within))))
+    subst (λ s. (b.some ≡ true) × (least b.dist ≤ apart s spot)) asked (far area spot at has (omega (arith, is, within))))
     long few
 
 pub returns-clause-children : goal.returns-clause-children

@@ -7,8 +7,10 @@ use Rattle.map_shapes.specs.Found.{nearer_le}
 use Rattle.map_questions.specs.FirstFew.{first_few}
 use Rattle.map_questions.specs.Questions.{found_at}
 use Rattle.kd_tree.specs.Areas.{apart, spot_of}
+use Rattle.kd_tree.specs.Distances.{least}
 use Rattle.kd_tree.specs.Walks.{live_in, founds, Takes, spot_asked}
 use Rattle.kd_tree.proofs.LivePoints.{live_in-one, standing-live, All-live, no_items}
+use Rattle.kd_tree.proofs.DistanceLemmas.{least_of_coarse}
 use Rattle.kd_tree.proofs.Takings.{Takes-none, Takes-worse, no_nearer}
 use Rattle.kd_tree.proofs.rows.KdRows.look.Goals as goal
 
@@ -45,9 +47,10 @@ returns-then-is_farther-clause-taken g c =
     let here : at ≡ position = omega arith in
     let spot : c.args.slot.now.spot ≡ spot_of p = c.requires.spot place p (sym (ap (slice_get order) here) ∙ stands) item in
     let from : c.spot_asked.result ≡ spot_asked q = c.spot_asked.ensures in
-    let dist : c.apart.result ≤ apart (spot_asked q) (spot_of p) =
-    subst (λ s. c.apart.result ≤ apart s (spot_of p)) from (subst (λ s. c.apart.result ≤ apart c.spot_asked.result s) spot (omega (arith, c.apart.ensures))) in
-    no_nearer worst (found_at q.x q.y p) c.apart.result (omega (arith, farther.2)) dist)
+    let dist : least c.apart.result ≤ apart (spot_asked q) (spot_of p) =
+    subst (λ s. least c.apart.result ≤ apart s (spot_of p)) from
+    (subst (λ s. least c.apart.result ≤ apart c.spot_asked.result s) spot (least_of_coarse c.apart.result _ c.apart.ensures)) in
+    no_nearer worst (found_at q.x q.y p) (least c.apart.result) (omega (arith, farther.2)) dist)
     (omega arith)))
 
 pub returns-clause-taken : goal.returns-clause-taken
