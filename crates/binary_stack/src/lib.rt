@@ -29,9 +29,9 @@
 //! A room is for two parts, and is made by their sizes: dead items have shrunk them, so that it may be far below its level. That a part is
 //! carried only while all its items live makes the sizes known beforehand, since a delete in between only lowers them.
 //!
-//! Memory comes from the allocator and goes back to it, not to a store (`part_store`). A store is for an update that may take and free none: an insert
-//! that may build all anew gains nothing by that. What it joins is half of what it builds, so none of it serves the same insert. And a store would keep
-//! as much again as the parts, and after deletes builders that are too large, which somebody would have to give up.
+//! Memory comes from the allocator and goes back to it, and not to a store (`part_store`), which is for updates that may take and free none: an
+//! insert that may build all anew gains nothing by that. Each block that it frees is too small for what it still builds. And a store would keep as
+//! much again as the parts have, and after deletes builders that are too large, which somebody would have to give up.
 #![tactic(auto)]
 
 mod asking;

@@ -52,8 +52,8 @@ where
     Ok((seen, given.into_answer(), consulted, live))
 }
 
-/// Three inserts, a delete of the first item, and a fourth insert: the turns and marks of the delete, and the turns of that insert; those of all inserts,
-/// the weight, and the live items; the parts, and the spare.
+/// Three inserts, a delete of the first item, and a fourth insert: the turns and marks of the delete, and the turns of that insert; those of all
+/// inserts, the weight, and the live items; the parts, and the spare.
 pub fn shrunk<B: Builder<Item = Pair>, L: Ledger>(
     alloc: Global,
     steps: &mut Steps<L>,

@@ -108,8 +108,10 @@ returns-clause-paid g c =
     let p = c.part_of-part.ensures in
     let one : 1 ≤ c.self.inside.spare = omega (arith, c.requires.spare, ap (λ v. v.spare) c.self.view_is) in
     let charged = t.charged 0 h.0.levels (omega (arith, ap length p.items)) (h.4 one).within in
-    paid_here c.self.inside.spent c.part_of-part.new.spent c.take_in.new.spent (charge_at slope base 0) _ _ _ _ _ p.charged charged p.risen t.risen
-    p.cost.turns_spent t.cost.turns_spent (ap (λ v. charge_of slope base 0 v.levels) c.self.view_is)
+    paid_here c.self.inside.spent c.part_of-part.new.spent c.take_in.new.spent (charge_at slope base 0)
+    (charge_of slope base 0 c.self.inside.levels.items) (charge_of slope base 0 c.take_in.new.levels.items) c.args.steps.now.turns
+    c.part_of-part.new.steps.turns c.take_in.new.steps.turns p.charged charged p.risen t.risen p.cost.turns_spent t.cost.turns_spent
+    (ap (λ v. charge_of slope base 0 v.levels) c.self.view_is)
 
 pub returns-clause-spent : goal.returns-clause-spent
 returns-clause-spent g c =
