@@ -4,7 +4,7 @@ use Rattle.std.proofs.lemmas.List.Elements.{All-cons, All-nil}
 use Rattle.std.proofs.lemmas.List.Sorted.{All-permutation, Contains-permutation}
 use Rattle.query_laws.proofs.Permutations.{IsPermutation-from_Permuted, Permuted-length, Permuted-sym}
 use Rattle.binary_stack.specs.Levels.{IsPartOf, weight_of, live_items, all_items}
-use Rattle.log_levels.proofs.Marks.{All-first}
+use Rattle.binary_stack.proofs.Marked.{All-first}
 use Rattle.index_tests.proofs.counters.insert_up_to.Goals as goal
 
 all_of : {A : Type 0} (Q : A → Type 0) (xs ys : List A) → IsPartOf xs ys → All Q ys → All Q xs
