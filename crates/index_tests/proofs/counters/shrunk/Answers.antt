@@ -1,4 +1,4 @@
-use Rattle.std.proofs.Common.{◌≡◌, ◌+◌, ◌^◌, ◌<◌, ◌≤◌, All, Contains, length, ap, sym, subst, arith}
+use Rattle.std.proofs.Common.{◌<◌, All, Contains, length, ap, sym, subst, arith}
 use Rattle.binary_stack.specs.Levels.{weight_of, live_items, all_items}
 use Rattle.binary_stack.proofs.Marked.{all-same, weight-same, fewer-without}
 use Rattle.index_tests.proofs.counters.shrunk.Goals as goal
