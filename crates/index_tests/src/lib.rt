@@ -8,6 +8,8 @@ mod chains;
 #[cfg(test)]
 mod constructions;
 #[cfg(test)]
+mod counters;
+#[cfg(test)]
 mod directories;
 #[cfg(test)]
 mod item;

@@ -5,6 +5,7 @@
 ghost use Rattle.std.specs.Prelude.{◌≡◌};
 
 use crate::constructions::built;
+use crate::counters::{counted, shrunk};
 use crate::item::Pair;
 use crate::merges::{MergeFindings, merged};
 use crate::pairs::marked;
@@ -28,6 +29,8 @@ struct Findings {
     deleted: (u64, u64, u32, u32),
     prepared: [(u64, [usize; 4]); 3],
     retired: (usize, [usize; 4], usize, Option<u32>),
+    counted: (Vec<(u32, u64)>, u64, u32, u128),
+    shrunk: ([u64; 3], [u64; 3], [u32; 2]),
 }
 
 fn seen<B: Builder<Item = Pair>, L: Ledger>(
@@ -53,6 +56,8 @@ where
         deleted: deleted::<B, L>(alloc, &mut steps)?,
         prepared: prepared_thrice::<B, L>(alloc, &mut steps)?,
         retired: retired::<B, L>(alloc, &mut steps)?,
+        counted: counted::<B, L>(alloc, &mut steps)?,
+        shrunk: shrunk::<B, L>(alloc, &mut steps)?,
     })
 }
 
@@ -97,5 +102,22 @@ fn rows_are_as_worked(rt: HostRuntime) -> Result<(), Fail> {
     assert_eq!(rt; six, (16, [2, 1, 1, 1]));
     assert_eq!(rt; nine, (8, [3, 2, 1, 1]));
     assert_eq!(rt; seen.retired, (7, [4, 4, 3, 1], 1, Some(3)));
+    let wanted = [
+        (1, 3),
+        (1, 12),
+        (2, 15),
+        (1, 36),
+        (2, 39),
+        (2, 48),
+        (3, 51),
+        (1, 96),
+        (2, 99),
+        (2, 108),
+        (3, 111),
+    ];
+    let (ref trace, sum, consulted, live) = seen.counted;
+    assert_eq!(rt; trace.as_slice(), wanted.as_slice());
+    assert_eq!(rt; (sum, consulted, live), (11, 3, 11));
+    assert_eq!(rt; seen.shrunk, ([0, 1, 20], [35, 4, 3], [1, 0]));
     Ok(())
 }

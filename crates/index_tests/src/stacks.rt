@@ -14,7 +14,7 @@ use std::alloc::Global;
 use std::sync::ledger::Ledger;
 
 /// The item with a stamp.
-fn pair(stamp: u64) -> Pair
+pub fn pair(stamp: u64) -> Pair
     ensures { result ≡ record { x = 1; y = 2; stamp = stamp } }
 {
     Pair { x: 1, y: 2, stamp }

@@ -1,0 +1,10 @@
+pub mod Distinct
+pub mod Levels
+pub mod Carried
+pub mod Charges
+pub mod Joined
+pub mod Joining
+pub mod Marked
+pub mod Rooms
+pub mod Counters
+pub mod Spending

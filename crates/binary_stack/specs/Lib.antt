@@ -1,0 +1,4 @@
+pub mod Levels
+pub mod Charge
+pub mod Rooms
+pub mod Counter
