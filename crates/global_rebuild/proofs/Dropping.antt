@@ -11,7 +11,6 @@ use Rattle.id_chain.specs.Chain.{Entry, HandlesDiffer, is_linked, item_at, befor
 use Rattle.id_chain.specs.StampsRise.{StampsRise}
 use Rattle.id_chain.proofs.Entries.{Apart-parts, Apart-without, HandlesDiffer-append, split_at}
 use Rattle.id_chain.proofs.Stamps.{StampsRise-without}
-use Rattle.log_levels.specs.Slots.{IsPartOf}
 use Rattle.log_levels.specs.Levels.{live_items, all_items, weight_of}
 use Rattle.log_levels.specs.Trades.{Trades, Ticks}
 use Rattle.log_method.specs.Stack.{Stacked, Deletes}

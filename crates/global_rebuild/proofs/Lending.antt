@@ -1,13 +1,12 @@
 -- A stack that lends from a store, for which memory is taken.
-use Rattle.std.proofs.Common.{◌≡◌, ℕ, ◌+◌, ◌-◌, ◌≤◌, ◌∙◌, List, refl, arith}
-use Rattle.part_store.specs.Shelves.{kept_at, lent_at, held_at}
+use Rattle.std.proofs.Common.{List, refl, arith}
 use Rattle.part_store.specs.Store.{Stored}
 use Rattle.log_levels.specs.Slots.{Slots}
-use Rattle.log_levels.specs.Trades.{used_at, built_at, wanted_at, AreLent, Trades}
+use Rattle.log_levels.specs.Trades.{wanted_at, AreLent, Trades}
 use Rattle.log_method.specs.Few.{HaveFew}
 use Rattle.log_method.specs.Preparing.{AreKept, HasTaken}
 use Rattle.log_method.proofs.Taking.{used_kept, built_kept}
-use Rattle.global_rebuild.specs.Memory.{HoldsNoLess, LendsFew}
+use Rattle.global_rebuild.specs.Memory.{LendsFew}
 
 module _ {P Item : Type 0} where
   pub lends-none : (levels : List (Slots P Item)) (store : Stored) → LendsFew levels store levels store

@@ -1,10 +1,10 @@
 -- One store, from which main stack, shadow and retired stacks lend.
-use Rattle.std.proofs.Common.{◌≡◌, ◌==◌, ℕ, ◌+◌, ◌-◌, ◌<◌, ◌≤◌, ◌∙◌, List, [], Option, Some, None, refl, ap, sym, arith}
+use Rattle.std.proofs.Common.{◌≡◌, ◌==◌, ℕ, ◌+◌, ◌≤◌, List, [], Option, Some, None, refl, ap, arith}
 use Rattle.std.specs.Option.{option_map_or}
 use Rattle.part_store.specs.Shelves.{one_if, kept_at, lent_at}
 use Rattle.part_store.specs.Store.{Stored}
 use Rattle.log_levels.specs.Slots.{Slots}
-use Rattle.log_levels.specs.Trades.{used_at, built_at, wanted_at, due_at, AreLent, Trades}
+use Rattle.log_levels.specs.Trades.{used_at, built_at, wanted_at, AreLent, Trades}
 use Rattle.log_method.specs.Stack.{Stacked}
 use Rattle.log_method.specs.Few.{HaveFew}
 use Rattle.global_rebuild.specs.Index.{Shadow, Indexed, in_both, in_retired, OwnsMemory}

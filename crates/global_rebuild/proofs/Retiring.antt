@@ -1,12 +1,12 @@
 -- Stacks that are put out of use, and one of their parts that is given back.
-use Rattle.std.proofs.Common.{◌≡◌, ℕ, ◌+◌, ◌-◌, ◌<◌, ◌≤◌, ◌==◌, ◌∙◌, Bool, false, true, if◌then◌else◌, ⊎_elim, nat_lt, List, [], ◌∷◌, ◌++◌, All, sum_by, refl, ap, sym, subst, arith}
+use Rattle.std.proofs.Common.{◌≡◌, ℕ, ◌+◌, ◌<◌, ◌≤◌, ◌==◌, ◌∙◌, Bool, false, true, if◌then◌else◌, ⊎_elim, nat_lt, List, [], ◌∷◌, ◌++◌, refl, ap, sym, subst, arith}
 use Rattle.std.proofs.lemmas.Bool.{cases_lt}
 use Rattle.std.proofs.lemmas.Bool.Decides.{nat_tests}
 use Rattle.std.proofs.lemmas.List.Sums.{sum_by_push}
-use Rattle.part_store.specs.Shelves.{one_if, kept_at, lent_at}
+use Rattle.part_store.specs.Shelves.{one_if, lent_at}
 use Rattle.part_store.specs.Store.{Stored}
 use Rattle.log_levels.specs.Slots.{Slots}
-use Rattle.log_levels.specs.Trades.{used_in, used_at, built_at, Trades, AreLent}
+use Rattle.log_levels.specs.Trades.{used_at, built_at, Trades, AreLent}
 use Rattle.log_method.specs.Stack.{Stacked}
 use Rattle.log_method.specs.Retired.{used_of, top_of, GivesOneBack}
 use Rattle.global_rebuild.specs.Index.{in_retired}

@@ -1,12 +1,12 @@
 -- What contracts see of an index, beside the chain of its items (Overmars 1983).
-use Rattle.std.specs.Prelude.{◌≡◌, ℕ, ◌+◌, ◌-◌, ◌*◌, ◌^◌, ◌<◌, ◌≤◌, ◌==◌, Bool, true, false, List, [], ◌∷◌, Option, Some, None, All, Contains, if◌then◌else◌, nat_le, nat_lt, length, map, sum_by}
-use Rattle.std.specs.Option.{is_some, option_map, option_map_or}
+use Rattle.std.specs.Prelude.{◌≡◌, ℕ, ◌+◌, ◌-◌, ◌*◌, ◌^◌, ◌<◌, ◌≤◌, Bool, List, Option, Some, None, All, ◌⊎◌, if◌then◌else◌, nat_le, nat_lt, length, map, sum_by}
+use Rattle.std.specs.Option.{option_map, option_map_or}
 use Rattle.query_laws.specs.Permuted.{Permuted}
 use Rattle.builder_trait.specs.Parts.{Contents}
 use Rattle.id_chain.specs.Chain.{Entry, HandlesDiffer, is_linked, item_at, IsCursor, before_cursor}
 use Rattle.id_chain.specs.StampsRise.{StampsRise}
-use Rattle.part_store.specs.Shelves.{kept_at, lent_at}
-use Rattle.part_store.specs.Store.{Stored, KeepsBoth}
+use Rattle.part_store.specs.Shelves.{kept_at, lent_at, held_at}
+use Rattle.part_store.specs.Store.{Stored, KeepsBoth, kept_in}
 use Rattle.log_levels.specs.Slots.{Slots}
 use Rattle.log_levels.specs.Levels.{live_items, all_items, weight_of, waiting_of, parts_asked}
 use Rattle.log_levels.specs.Marking.{noted}
@@ -157,6 +157,17 @@ module _ {P Item : Type 0} (contents : P → Contents Item) where
   pub data FreesOne (old : Stored) (main : Stacked P Item) (shadow : Option (Shadow P Item)) (new : Stored) : Type 0 where
     none : HoldsNoLess old new → FreesOne old main shadow new
     one : (level : ℕ) → FreesOneOf level old new → IsSpare level main shadow new → FreesOne old main shadow new
+
+  -- nothing is kept of a level above the greatest of an index of its size, unless of it or of a higher one some may be taken by two ticks
+  abbrev pub IsCleared : Stacked P Item → Option (Shadow P Item) → Stored → Type 0
+  IsCleared main shadow store = (k : ℕ) → 2 * live_in main + 10 < 2 ^ k
+      → (kept_in k store ≡ 0) ⊎ ((j : ℕ) × (k ≤ j) × (0 < in_both (wanted_at 2 j) main shadow))
+
+  -- a builder of a level less is in memory, or the tables of a construction less; or no such level has any left
+  pub data Clears (old : Stored) (main : Stacked P Item) (shadow : Option (Shadow P Item)) (new : Stored) : Type 0 where
+    fewer : (level : ℕ) → held_at level new.builders < held_at level old.builders → Clears old main shadow new
+    fewer_tables : (level : ℕ) → held_at level new.tables < held_at level old.tables → Clears old main shadow new
+    cleared : IsCleared main shadow new → Clears old main shadow new
 
   -- more of a stack's weight is dead than half of what is live, and eight
   abbrev pub is_heavy : Stacked P Item → Bool

@@ -1,11 +1,12 @@
 //! The index.
-ghost use Rattle.std.specs.Prelude.{◌≡◌, ◌==◌, ℕ, ◌+◌, ◌-◌, ◌*◌, ◌^◌, ◌<◌, ◌≤◌, ◌⊎◌, ◌++◌, ◌∷◌, [], All, List, None, Some, true, false, if◌then◌else◌, IfOk, IfSome, IsTrue, IsErr, OnErr, length, min, vec_capacity, map};
+ghost use Rattle.std.specs.Prelude.{◌≡◌, ◌==◌, ℕ, ◌+◌, ◌-◌, ◌*◌, ◌^◌, ◌<◌, ◌≤◌, ◌⊎◌, ◌++◌, ◌∷◌, [], All, List, None, Some, true, false, if◌then◌else◌, IfOk, IfSome, IfNone, IsTrue, IsErr, OnErr, length, min, vec_capacity, map};
 ghost use Rattle.std.specs.Option.{option_map};
 ghost use Rattle.query_laws.specs.StepLedger.{Consults};
 ghost use Rattle.query_laws.specs.declared.item.Order.TheVariants.{First};
 ghost use Rattle.id_chain.specs.Chain.{Entry, HandlesDiffer, is_linked, item_at, IsCursor, before_cursor, without_handle};
 ghost use Rattle.log_levels.specs.Levels.{live_items, all_items, waiting_of, weight_of, parts_of, touches_of};
 ghost use Rattle.part_store.specs.Shelves.{one_if, kept_at, lent_at};
+ghost use Rattle.part_store.specs.Store.{kept_in};
 ghost use Rattle.log_levels.specs.Trades.{used_at, built_at, wanted_at};
 ghost use Rattle.log_method.specs.Retired.{used_of};
 ghost use Rattle.log_method.specs.Preparing.{AreKept, AreEnough, HasTaken, HasRoomsBelow};
@@ -13,8 +14,8 @@ ghost use Rattle.log_method.specs.Few.{HaveFew};
 ghost use Rattle.log_method.specs.Height.{HaveAtMost, AreFew, size_of};
 ghost use Rattle.log_levels.specs.Cost.{IsWithin, quotas};
 ghost use Rattle.log_levels.specs.Towers.{AreOnTime, TakeTicks};
-ghost use Rattle.global_rebuild.specs.Index.{Shadow as Walked, live_in, unwalked, to_walk, shadow_weight, is_heavy, IsKept, IsInTime, IsIndex, IsIndexOf, IsPrepared, AreStocked, OwnsMemory, HoldsAsMuch, IsWalkedOn, HasPaused, FreesOne, in_both, in_retired, waiting_of_both, asked_of_both};
-ghost use Rattle.global_rebuild.specs.Retiring.{with_retired, GivesBack, FreesSpare, TakeMemory};
+ghost use Rattle.global_rebuild.specs.Index.{Shadow as Walked, live_in, unwalked, to_walk, shadow_weight, is_heavy, IsKept, IsInTime, IsIndex, IsIndexOf, IsPrepared, AreStocked, OwnsMemory, HoldsAsMuch, IsWalkedOn, HasPaused, FreesOne, IsCleared, Clears, in_both, in_retired, waiting_of_both, asked_of_both};
+ghost use Rattle.global_rebuild.specs.Retiring.{with_retired, GivesBack, FreesSpare, FreesUnwanted, TakeMemory};
 
 use crate::shadow::Shadow;
 use builder_trait::{Answers, Asking, Builder, Part, Profiled};
@@ -98,6 +99,9 @@ impl<B: Builder> Index<B> {
         // No rebuild begins, and none that runs is given up.
         ensures refused { OnErr result (IsWalkedOn B.Part.Part.contents self.old self.new ⊎ HasPaused B.Part.Part.contents 4 self.old self.new) }
         ensures frees { FreesOne B.Part.Part.contents self.old.store self.new.main self.new.shadow self.new.store }
+
+        // Where no rebuild runs, something is, until nothing is left that is above the size of the index.
+        ensures clears { IfOk result (λ _. self.old.shadow ≡ None → Clears B.Part.Part.contents self.old.store self.new.main self.new.shadow self.new.store) }
 
         // A tick for each item that is handed over, and a part is made of it.
         ensures some_turns { let ticks = to_walk B.Part.Part.contents self.old - to_walk B.Part.Part.contents self.new in
@@ -297,6 +301,7 @@ impl<B: Builder> Index<B> {
         ensures chain { (stamps : ℕ) → IsIndexOf B.Part.Part.contents B.Item.stamp self.old chain.now.entries stamps
             → IsIndexOf B.Part.Part.contents B.Item.stamp self.new chain.now.entries stamps }
         ensures paused { HasPaused B.Part.Part.contents most self.old self.new }
+        ensures quiet { self.old.shadow ≡ None → self.new.store ≡ self.old.store }
         ensures taken { IfOk result (λ _. (r r' : Walked B.Part B.Item) → self.old.shadow ≡ Some r → self.new.shadow ≡ Some r'
             → (r'.cursor ≡ None) ⊎ (live_in B.Part.Part.contents r'.stack ≡ live_in B.Part.Part.contents r.stack + most)) }
         ensures in_time { IfOk result (λ _. (r' : Walked B.Part B.Item) → self.new.shadow ≡ Some r' → (r'.cursor ≡ None → ⊥)
@@ -369,6 +374,7 @@ fn settle<B: Builder>(
     ensures some { (r : Walked B.Part B.Item) → shadow.old ≡ Some r
         → (r' : Walked B.Part B.Item) × (shadow.new ≡ Some r') × IsKept B.Part.Part.contents r r' }
     ensures frees { FreesOne B.Part.Part.contents store.old main.new shadow.new store.new }
+    ensures clears { Clears B.Part.Part.contents store.old main.new shadow.new store.new }
     ensures stocked { IfOk result (λ _. weight_of main.new.levels < 2 ^ 31
         → ((r : Walked B.Part B.Item) → shadow.new ≡ Some r → weight_of r.stack.levels < 2 ^ 31) → AreStocked 2 main.new shadow.new store.new) }
 {
@@ -428,6 +434,7 @@ fn free_spare<B: Builder>(
     requires { (k : ℕ) → kept_at k store.old.builders + in_both (used_at k) main.now shadow.now ≤ 10 + one_if (k == back) }
     ensures few { (k : ℕ) → kept_at k store.new.builders + in_both (used_at k) main.now shadow.now ≤ 10 }
     ensures frees { FreesSpare B.Part.Part.contents main.now shadow.now store.old store.new }
+    ensures unwanted { FreesUnwanted B.Part.Part.contents main.now shadow.now store.old store.new }
 {
     let there = store.builders(back) + used(main, shadow, back);
     if there > BUILDERS {
@@ -447,14 +454,19 @@ fn too_high<B: Builder>(
     shadow: &Option<Shadow<B>>,
     store: &Store<B>,
 ) -> Option<u32>
-    ensures { IfSome result (λ level. 2 * live_in B.Part.Part.contents main.now + 10 < 2 ^ level) }
+    ensures high { IfSome result (λ level. 2 * live_in B.Part.Part.contents main.now + 10 < 2 ^ level) }
+    ensures some { IfSome result (λ level. 0 < kept_in level store.now) }
+    ensures unwanted { IfSome result (λ level. (in_both (wanted_at 2 level) main.now shadow.now ≡ 0)
+        ⊎ (in_both (wanted_at 2 level) main.now shadow.now < kept_at level store.now.builders)) }
+    ensures none { IfNone result (IsCleared B.Part.Part.contents main.now shadow.now store.now) }
 {
     let level = store.highest()?;
     let wanted = wanted(main, shadow, level);
-    if level >= LEVELS || (wanted > 0 && wanted >= store.builders(level)) {
+    if wanted > 0 && wanted >= store.builders(level) {
         return None;
     }
-    if (1u64 << level).saturating_sub(10) / 2 <= main.live() {
+    let most = 2 * u128::from(main.live()) + 10;
+    if level < u128::BITS && 1u128 << level <= most {
         return None;
     }
     Some(level)

@@ -1,6 +1,6 @@
 use Rattle.std.proofs.Common.{length, ap}
-use Rattle.global_rebuild.proofs.Owning.{lent_to_retired, lent_tables_to_retired, owns-back, owns-taken, OwnsMore}
-use Rattle.global_rebuild.proofs.Freeing.{freed_lent, freed_lent_tables, frees}
+use Rattle.global_rebuild.proofs.Owning.{lent_to_retired, lent_tables_to_retired, owns-back, owns-taken}
+use Rattle.global_rebuild.proofs.Freeing.{freed_lent, freed_lent_tables, frees, clears}
 use Rattle.global_rebuild.proofs.index.settle.Goals as goal
 
 pub give_back-back-requires-clause-lent : goal.give_back-back-requires-clause-lent
@@ -20,6 +20,9 @@ returns-clause-owns g c =
 
 pub returns-clause-frees : goal.returns-clause-frees
 returns-clause-frees g c = frees c.give_back-back.ensures.given.keeps c.free_spare.ensures.frees c.take_memory.ensures.memory (ap length c.take_memory.ensures.live)
+
+pub returns-clause-clears : goal.returns-clause-clears
+returns-clause-clears g c = clears c.give_back-back.ensures.given.keeps c.free_spare.ensures.unwanted c.take_memory.ensures.memory (ap length c.take_memory.ensures.live)
 
 pub returns-clause-one : goal.returns-clause-one
 returns-clause-one g c = c.give_back-back.ensures.given.one

@@ -1,4 +1,3 @@
-use Rattle.std.proofs.Common.{ℕ}
 use Rattle.log_levels.specs.Trades.{wanted_at}
 use Rattle.log_method.specs.Preparing.{HasRoomsBelow, HasTaken}
 use Rattle.global_rebuild.specs.Index.{in_both}

@@ -1,6 +1,5 @@
-use Rattle.std.proofs.Common.{◌≡◌, ◌∙◌, Some, ap, sym, subst}
+use Rattle.std.proofs.Common.{◌≡◌, Some}
 use Rattle.log_method.specs.Few.{HaveFew}
-use Rattle.log_method.specs.Preparing.{AreEnough}
 use Rattle.log_method.proofs.Forecasting.{when_ok}
 use Rattle.global_rebuild.specs.Index.{Shadow}
 use Rattle.global_rebuild.proofs.Stocking.{stocked_both}

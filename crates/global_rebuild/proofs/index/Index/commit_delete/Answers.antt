@@ -1,10 +1,10 @@
-use Rattle.std.proofs.Common.{rules, ◌≡◌, ℕ, ◌+◌, ◌-◌, ◌*◌, ◌^◌, ◌<◌, ◌∙◌, nat_lt, true, false, Option, Some, None, [], ◌∷◌, ap, sym, subst, arith}
+use Rattle.std.proofs.Common.{rules, ◌≡◌, ℕ, ◌+◌, ◌-◌, ◌*◌, ◌^◌, ◌<◌, nat_lt, true, false, Some, None, ap, subst, arith}
 use Rattle.std.proofs.lemmas.Bool.Decides.{nat_tests}
 use Rattle.id_chain.specs.Chain.{is_linked, before_cursor}
 use Rattle.part_store.specs.Store.{KeepsBoth}
 use Rattle.log_levels.specs.Levels.{weight_of}
 use Rattle.log_levels.specs.Cost.{IsWithin, quotas}
-use Rattle.global_rebuild.specs.Index.{Shadow, IsIndexOf, live_in, is_heavy}
+use Rattle.global_rebuild.specs.Index.{IsIndexOf, live_in, is_heavy}
 use Rattle.global_rebuild.proofs.Forgetting.{live_item}
 use Rattle.global_rebuild.proofs.Stocking.{main_ticks, shadow_ticks}
 use Rattle.global_rebuild.proofs.Weights.{main_few, main_light}

@@ -1,8 +1,8 @@
-use Rattle.std.proofs.Common.{rules, ◌≡◌, ℕ, ◌-◌, ◌*◌, min, None, ◌∙◌, Some, IfOk, inl, refl, sym, ap, subst, arith}
+use Rattle.std.proofs.Common.{rules, ◌≡◌, ℕ, ◌-◌, ◌*◌, min, None, ◌∙◌, Some, IfOk, inl, sym, ap, subst, arith}
 use Rattle.query_laws.specs.StepLedger.{Counts}
 use Rattle.log_levels.specs.Cost.{IsWithin, quotas}
 use Rattle.log_method.proofs.Forecasting.{when_ok}
-use Rattle.global_rebuild.specs.Index.{Shadow, IsIndex, AreStocked, OwnsMemory, FreesOne, to_walk}
+use Rattle.global_rebuild.specs.Index.{Shadow, IsIndex, AreStocked, OwnsMemory, FreesOne, Clears, to_walk}
 use Rattle.global_rebuild.specs.Retiring.{with_retired}
 use Rattle.global_rebuild.proofs.Freeing.{walked_frees, anyway_ok, anyway_err}
 use Rattle.global_rebuild.proofs.Stocking.{stocked_less}
@@ -89,6 +89,11 @@ pub returns-clause-frees : goal.returns-clause-frees
 returns-clause-frees g c =
     walked_frees c.walk.ensures.paused.no_less
     (subst (λ s. FreesOne g.B.Part.Part.contents s c.settle.new.main c.settle.new.shadow c.settle.new.store) (same_store g c) c.settle.ensures.frees)
+
+pub returns-clause-clears : goal.returns-clause-clears
+returns-clause-clears g c =
+    anyway_ok c.settle.result (λ none. subst (λ s. Clears g.B.Part.Part.contents s c.settle.new.main c.settle.new.shadow c.settle.new.store)
+    (same_store g c ∙ c.walk.ensures.quiet none) c.settle.ensures.clears)
 
 -- as many are handed over
 ticked : (walked handed turns marks : ℕ) {touches : ℕ} {old new : Counts} → walked ≡ handed

@@ -1,4 +1,4 @@
-use Rattle.std.proofs.Common.{◌≡◌, ◌≢◌, ℕ, ◌-◌, ◌*◌, min, None, ◌∙◌, ⊎_elim, ap, sym, subst, arith}
+use Rattle.std.proofs.Common.{◌≡◌, ◌≢◌, ℕ, ◌-◌, ◌*◌, min, None, Some, ◌∙◌, ⊎_elim, ap, sym, subst, arith}
 use Rattle.log_levels.specs.Cost.{IsWithin, quotas}
 use Rattle.log_method.proofs.Forecasting.{when_ok}
 use Rattle.global_rebuild.specs.Index.{IsInTime, live_in, to_walk}
@@ -65,3 +65,7 @@ invariant_of-self-2 g c =
     IsIndex-shadow _ _ c.walk.new.self c.walk.new.store c.self.invariant
     (in_time-walked (c.self.invariant.in_time c.in-Some.shadow c.in-Some.is) c.walk.ensures.handed (live-walked _ _ _ _ h c.walk.new.self own))
     (owns-walked c.self.invariant.memory c.in-Some.shadow c.in-Some.is c.walk.new.self c.walk.new.store c.tell_few.ensures c.walk.ensures.memory)
+
+pub returns-clause-quiet : goal.returns-clause-quiet
+returns-clause-quiet g c none =
+    let wrong : Some c.in-Some.shadow ≡ None = sym c.in-Some.is ∙ ap (λ i. i.shadow) c.self.view_is ∙ none in absurd cc
