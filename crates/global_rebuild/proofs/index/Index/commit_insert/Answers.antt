@@ -1,7 +1,11 @@
 use Rattle.std.proofs.Common.{◌≡◌, ◌+◌, ◌^◌, ◌<◌, ◌∙◌, true, [], ◌∷◌, ◌++◌, Some, length, ap, sym, subst, arith}
 use Rattle.id_chain.specs.Chain.{Entry, HandlesDiffer, is_linked}
 use Rattle.id_chain.proofs.Cursors.{linked-append}
+use Rattle.part_store.specs.Store.{Stored}
 use Rattle.log_levels.specs.Levels.{waiting_of}
+use Rattle.log_levels.specs.Trades.{Trades}
+use Rattle.log_method.specs.Stack.{Stacked, Inserts}
+use Rattle.global_rebuild.specs.Index.{Indexed, IsIndex}
 use Rattle.global_rebuild.proofs.Appending.{appended, last_item}
 use Rattle.global_rebuild.proofs.Stocking.{main_ticks}
 use Rattle.global_rebuild.proofs.Weights.{IsSoundOf, main_few, main_light}
@@ -32,31 +36,35 @@ insert-requires-clause-apart g c k d within same =
     omega (arith, low, same, ap g.B.Item.Item.stamp one)
 
 -- what the fields are afterwards
-sound : (g : Over) (c : goal.After-insert g) → IsSoundOf g.B.Part.Part.contents g.B.Item.Item.stamp
-    (record { store = c.insert.new.store; main = c.insert.new.self; shadow = c.self.inside.shadow; retired = c.self.inside.retired.items }) c.args.chain.now.entries
+sound : (g : Over) (c : After-item-item g) (i : Indexed g.row.B-Part.Denot g.row.B-Item.Denot) (main : Stacked g.row.B-Part.Denot g.row.B-Item.Denot) (store : Stored)
+    → i ≡ c.args.self.now → IsIndex g.B.Part.Part.contents i → Trades i.main.levels i.store main.levels store
+    → Inserts g.B.Part.Part.contents c.item-item.result i.main.levels main.levels
+    → IsSoundOf g.B.Part.Part.contents g.B.Item.Item.stamp (record { store = store; main = main; shadow = i.shadow; retired = i.retired }) c.args.chain.now.entries
     (g.B.Item.Item.stamp c.item-item.result + 1)
-sound g c =
+sound g c i main store view v trades inserts =
     let contents = g.B.Part.Part.contents in
     let stamp = g.B.Item.Item.stamp in
     let last = c.requires.last in
-    let one = is_last g (goal.at.returns-clause-chain g c).After-item-item in
+    let one = is_last g c in
     let e : Entry g.row.B-Item.Denot = record { handle = c.args.handle; item = c.item-item.result } in
     let is : c.args.chain.now.entries ≡ last.0 ++ e ∷ [] =
     last.2 ∙ ap (λ x. last.0 ++ record { handle = c.args.handle; item = x } ∷ []) (sym one) in
-    let h = rw (← c.self.view_is, ← one) at last.3 in
-    let p = rw (← c.self.view_is) at c.requires.prepared in
-    subst (λ es. IsSoundOf contents stamp (record { store = c.insert.new.store; main = c.insert.new.self; shadow = c.self.inside.shadow; retired = c.self.inside.retired.items }) es (stamp e.item + 1))
-    (sym is)
-    (appended contents stamp _ last.0 e h c.self.invariant p c.insert.new.self c.insert.new.store c.insert.ensures.trades.trades
-    c.insert.ensures.inserts.live c.insert.ensures.inserts.items c.insert.ensures.inserts.weight (subst HandlesDiffer is c.requires.differ) (subst (λ es. length es < 2 ^ 29) is c.requires.few))
+    let h = rw (← view, ← one) at last.3 in
+    let p = rw (← view) at c.requires.prepared in
+    subst (λ es. IsSoundOf contents stamp (record { store = store; main = main; shadow = i.shadow; retired = i.retired }) es (stamp e.item + 1)) (sym is)
+    (appended contents stamp _ last.0 e h v p main store trades inserts.live inserts.items inserts.weight (subst HandlesDiffer is c.requires.differ)
+    (subst (λ es. length es < 2 ^ 29) is c.requires.few))
 
 pub invariant_of-self : goal.invariant_of-self
-invariant_of-self g c = (sound g c).0
+invariant_of-self g c =
+    let e = c.insert.ensures in
+    (sound g (goal.at.invariant_of-self g c).After-item-item _ c.insert.new.self c.insert.new.store c.self.view_is c.self.invariant e.trades.trades e.inserts).0
 
 pub returns-clause-chain : goal.returns-clause-chain
 returns-clause-chain g c item at =
     let same : c.item-item.result ≡ item = let both : Some c.item-item.result ≡ Some item = sym c.item-item.ensures.item ∙ at in cc in
-    rw (← same) (sound g c).1
+    let e = c.insert.ensures in
+    rw (← same) (sound g (goal.at.returns-clause-chain g c).After-item-item _ c.insert.new.self c.insert.new.store c.self.view_is c.self.invariant e.trades.trades e.inserts).1
 
 pub returns-clause-cost : goal.returns-clause-cost
 returns-clause-cost g c g' light =
