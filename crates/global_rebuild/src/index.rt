@@ -6,7 +6,7 @@ ghost use Rattle.query_laws.specs.declared.item.Order.TheVariants.{First};
 ghost use Rattle.id_chain.specs.Chain.{Entry, HandlesDiffer, is_linked, item_at, IsCursor, before_cursor, without_handle};
 ghost use Rattle.log_levels.specs.Levels.{live_items, all_items, waiting_of, weight_of, parts_of, touches_of};
 ghost use Rattle.part_store.specs.Shelves.{one_if, kept_at, lent_at};
-ghost use Rattle.part_store.specs.Store.{kept_in};
+ghost use Rattle.part_store.specs.Store.{kept_in, HasRooms, StocksUpTo};
 ghost use Rattle.log_levels.specs.Trades.{used_at, built_at, wanted_at};
 ghost use Rattle.log_method.specs.Retired.{used_of};
 ghost use Rattle.log_method.specs.Preparing.{AreKept, AreEnough, HasTaken, HasRoomsBelow};
@@ -524,9 +524,30 @@ fn stock<B: Builder>(
     ensures taken { HasTaken (λ k. in_both (wanted_at 2 k) main.now shadow.now) store.old store.new }
 {
     for level in 0..LEVELS {
-        store.stock(level, wanted(main, shadow, level), alloc)?;
+        stock_level(main, shadow, level, store, alloc)?;
     }
     Ok(())
+}
+
+/// Has the store keep what two ticks of both stacks may take of one level.
+///
+/// `NoMemory` where some isn't given; what was taken is kept.
+fn stock_level<B: Builder>(
+    main: &Stack<B>,
+    shadow: &Option<Shadow<B>>,
+    level: u32,
+    store: &mut Store<B>,
+    alloc: Global,
+) -> Result<(), NoMemory>
+    requires { level < 32 }
+    ensures stocked { IfOk result (λ _. HasRooms level (in_both (wanted_at 2 level) main.now shadow.now) store.new) }
+    ensures takes { StocksUpTo level (in_both (wanted_at 2 level) main.now shadow.now) store.old store.new }
+{
+    let wanted = wanted(main, shadow, level);
+    if wanted == 0 {
+        return Ok(());
+    }
+    store.stock(level, wanted, alloc)
 }
 
 /// Starts a rebuild, where none runs.

@@ -1,4 +1,4 @@
-use Rattle.std.proofs.Common.{ℕ, ◌≡◌, subst, arith}
+use Rattle.std.proofs.Common.{ℕ, ◌≡◌, refl, subst, arith}
 use Rattle.log_levels.specs.Trades.{wanted_at}
 use Rattle.log_method.specs.Preparing.{HasRoomsBelow}
 use Rattle.log_method.proofs.Taking.{HasTaken-refl, HasTaken-then, HasTaken-stock, HasRoomsBelow-none, HasRoomsBelow-more}
@@ -13,18 +13,19 @@ loop-level-init g c =
 pub loop-level-preserved : goal.loop-level-preserved
 loop-level-preserved g c =
     let w : ℕ → ℕ = λ k. in_both (wanted_at 2 k) c.args.main.now c.args.shadow.now in
+    let level = c.loop-level.level in
     let h = c.loop-level.invariant in
-    let e = c.stock.ensures in
+    let e = c.stock_level.ensures in
     record {
-      stocked = HasRoomsBelow-more w c.loop-level.level c.wanted.result _ _ c.wanted.ensures.value e.takes c.in_ok-stock.ensures.stocked h.stocked;
-      taken = HasTaken-then w _ _ _ h.taken (HasTaken-stock w c.loop-level.level c.wanted.result _ _ c.wanted.ensures.value e.takes);
+      stocked = HasRoomsBelow-more w level (w level) _ _ refl e.takes c.in_ok-stock_level.ensures.stocked h.stocked;
+      taken = HasTaken-then w _ _ _ h.taken (HasTaken-stock w level (w level) _ _ refl e.takes);
     }
 
-pub returns-in_err-stock-clause-taken : goal.returns-in_err-stock-clause-taken
-returns-in_err-stock-clause-taken g c =
+pub returns-in_err-stock_level-clause-taken : goal.returns-in_err-stock_level-clause-taken
+returns-in_err-stock_level-clause-taken g c =
     let w : ℕ → ℕ = λ k. in_both (wanted_at 2 k) c.args.main.now c.args.shadow.now in
-    HasTaken-then w _ _ _ c.loop-level.invariant.taken
-    (HasTaken-stock w c.loop-level.level c.wanted.result _ _ c.wanted.ensures.value c.stock.ensures.takes)
+    let level = c.loop-level.level in
+    HasTaken-then w _ _ _ c.loop-level.invariant.taken (HasTaken-stock w level (w level) _ _ refl c.stock_level.ensures.takes)
 
 pub returns-clause-stocked : goal.returns-clause-stocked
 returns-clause-stocked g c =
