@@ -1,9 +1,9 @@
 -- What ticks of both stacks find in their store.
-use Rattle.std.proofs.Common.{◌≡◌, ◌==◌, ℕ, ◌+◌, ◌^◌, ◌<◌, ◌≤◌, ◌∙◌, ◌&&◌, Bool, true, false, if◌then◌else◌, nat_le, List, [], ◌∷◌, Option, Some, None, length, inl, inr, refl, ap, arith}
+use Rattle.std.proofs.Common.{◌≡◌, ◌==◌, ℕ, ◌+◌, ◌^◌, ◌<◌, ◌≤◌, ◌∙◌, ◌&&◌, Bool, true, false, if◌then◌else◌, nat_le, List, [], ◌∷◌, Option, Some, None, length, inl, inr, refl, ap, sym, subst, arith}
 use Rattle.std.proofs.lemmas.Bool.{cases_eq, cases_lt}
 use Rattle.std.proofs.lemmas.Bool.Decides.{nat_tests}
 use Rattle.part_store.specs.Shelves.{one_if, kept_at}
-use Rattle.part_store.specs.Store.{Stored, tables_for}
+use Rattle.part_store.specs.Store.{Stored, HasRooms, tables_for}
 use Rattle.log_levels.specs.Slots.{Slots, ticks_of}
 use Rattle.log_levels.specs.Levels.{weight_of}
 use Rattle.log_levels.specs.Trades.{is_due, due_at, wanted_at, IsQuietAbove, IsQuiet, IsStocked, Ticks}
@@ -16,6 +16,17 @@ use Rattle.global_rebuild.proofs.Owning.{in_shadow, lent_to_main, lent_to_shadow
 -- above the lowest level constructions have tables, each its own
 tables_fit : (k n most : ℕ) → (k == 0) ≡ false → tables_for k n ≤ most → n ≤ most
 tables_fit k n most other has = rw other at has
+
+-- of no level from one on anything is wanted: so what there is below it is all
+pub below_all : (w : ℕ → ℕ) (level : ℕ) (store : Stored) → HasRoomsBelow level w store → ((k : ℕ) → k < 32 → level ≤ k → w k ≡ 0) → HasRoomsBelow 32 w store
+below_all w level store has none k within = elim (cases_lt k level) [
+  | inl below ↦ has k below
+  | inr past ↦ subst (λ n. HasRooms k n store) (sym (none k within past)) (record { builders = omega arith; tables = no_tables (k == 0) })
+]
+  where
+    no_tables : (b : Bool) → (if b then 0 else 0) ≤ kept_at k store.tables
+    no_tables true = omega arith
+    no_tables false = omega arith
 
 module _ {P Item : Type 0} where
   -- what is due within one tick is within two

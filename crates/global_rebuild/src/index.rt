@@ -423,6 +423,16 @@ fn wanted<B: Builder>(main: &Stack<B>, shadow: &Option<Shadow<B>>, level: u32) -
     }
 }
 
+/// A number above every level of which the next two ticks of both stacks may take a builder.
+fn wanted_below<B: Builder>(main: &Stack<B>, shadow: &Option<Shadow<B>>) -> u32
+    ensures { (k : ℕ) → result ≤ k → in_both (wanted_at 2 k) main.now shadow.now ≡ 0 }
+{
+    match shadow {
+        Some(shadow) => main.wanted_below().max(shadow.wanted_below()),
+        None => main.wanted_below(),
+    }
+}
+
 /// Frees spare memory of one level: a builder of the level to which a part came back, where there are more than both stacks may have at
 /// once, or else the highest that is kept, where no level so high is wanted.
 fn free_spare<B: Builder>(
@@ -523,7 +533,7 @@ fn stock<B: Builder>(
     ensures stocked { IfOk result (λ _. HasRoomsBelow 32 (λ k. in_both (wanted_at 2 k) main.now shadow.now) store.new) }
     ensures taken { HasTaken (λ k. in_both (wanted_at 2 k) main.now shadow.now) store.old store.new }
 {
-    for level in 0..LEVELS {
+    for level in 0..wanted_below(main, shadow).min(LEVELS) {
         stock_level(main, shadow, level, store, alloc)?;
     }
     Ok(())

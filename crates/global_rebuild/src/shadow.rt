@@ -169,6 +169,13 @@ impl<B: Builder> Shadow<B> {
         self.stack.wanted(level)
     }
 
+    /// A number above every level of which the next two ticks may take a builder.
+    pub fn wanted_below(&self) -> u32
+        ensures { (k : ℕ) → result ≤ k → wanted_at 2 k self.now.stack.levels ≡ 0 }
+    {
+        self.stack.wanted_below()
+    }
+
     /// How many builders of a level the stack has.
     pub fn used(&self, level: u32) -> usize
         ensures value { result ≡ used_at level self.now.stack.levels }

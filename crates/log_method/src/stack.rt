@@ -212,6 +212,13 @@ impl<B: Builder> Stack<B> {
         wanted(&self.levels, level)
     }
 
+    /// A number above every level of which the next two ticks may take a builder.
+    pub fn wanted_below(&self) -> u32
+        ensures { (k : ℕ) → result ≤ k → wanted_at 2 k self.now.levels ≡ 0 }
+    {
+        self.levels.len() as u32 + 1
+    }
+
     /// It does no work, and says how much of each level the stack has and may want.
     pub fn tell_few(&self)
         ensures { HaveFew self.now.levels }

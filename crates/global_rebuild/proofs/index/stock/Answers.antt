@@ -1,8 +1,9 @@
-use Rattle.std.proofs.Common.{ℕ, ◌≡◌, refl, subst, arith}
+use Rattle.std.proofs.Common.{ℕ, refl, arith}
 use Rattle.log_levels.specs.Trades.{wanted_at}
 use Rattle.log_method.specs.Preparing.{HasRoomsBelow}
 use Rattle.log_method.proofs.Taking.{HasTaken-refl, HasTaken-then, HasTaken-stock, HasRoomsBelow-none, HasRoomsBelow-more}
 use Rattle.global_rebuild.specs.Index.{in_both}
+use Rattle.global_rebuild.proofs.Stocking.{below_all}
 use Rattle.global_rebuild.proofs.index.stock.Goals as goal
 
 pub loop-level-init : goal.loop-level-init
@@ -29,5 +30,6 @@ returns-in_err-stock_level-clause-taken g c =
 
 pub returns-clause-stocked : goal.returns-clause-stocked
 returns-clause-stocked g c =
-    let all : c.loop-level.level ≡ 32 = omega arith in
-    subst (λ n. HasRoomsBelow n (λ k. in_both (wanted_at 2 k) c.args.main.now c.args.shadow.now) c.loop-level.store) all c.loop-level.invariant.stocked
+    let w : ℕ → ℕ = λ k. in_both (wanted_at 2 k) c.args.main.now c.args.shadow.now in
+    below_all w c.loop-level.level c.loop-level.store c.loop-level.invariant.stocked
+    (λ k within past. c.wanted_below.ensures k (omega (arith, c.min-level-end.ensures, within, past)))
