@@ -5,9 +5,10 @@ use Rattle.std.proofs.lemmas.Bool.{and_parts, leb-true}
 use Rattle.std.proofs.lemmas.Fmt.{digits_decimal, decimal_injective}
 use Rattle.std.proofs.lemmas.List.{append_cancel_left}
 use Rattle.std.proofs.Math.Nat.{mul-le-mul_left, mul-le-mul_right}
+use Rattle.map_model.specs.Version.{Version}
 use Rattle.map_model.specs.Index.{IndexSet, one_if, index_count}
 use Rattle.map_model.specs.State.{Layer, live_count}
-use Rattle.map_model.specs.Cost.{Spent, QuestionCost, Cost, Untold, Updating, Asking, Fits64, IsSpent, IsAsked, out_of, cost_text, greatest_level, bounds_at, turn_bound, mark_bound, part_bound}
+use Rattle.map_model.specs.Cost.{Bounds, Update, Adds, Drops, Moves, turns_of, marks_of, Spent, QuestionCost, Cost, Untold, Updating, Asking, Fits64, IsSpent, IsAsked, out_of, cost_text, greatest_level, bounds_at, turn_bound, mark_bound, part_bound}
 use Rattle.map_model.proofs.Levels.{greatest_level-le}
 use Rattle.map_model.specs.Reply.{Reply, reply_text, reply_line}
 use Rattle.map_model.proofs.RoundTrip.{Is64, own}
@@ -98,9 +99,9 @@ cost_fixed (Asking a) Untold h k e = absurd (differ 0 e (λ same. omega (arith, 
 cost_fixed (Asking a) (Updating t) h k e = absurd (differ 1 e (λ same. omega (arith, same)))
 cost_fixed (Asking a) (Asking b) h k e = ap Asking (asked_fixed a b h k e)
 
-pub line_fixes_cost : (reply : Reply) (first second : Cost) → Fits64 first → Fits64 second → reply_line true reply first ≡ reply_line true reply second → first ≡ second
-line_fixes_cost reply first second h k e =
-    let text = reply_text reply in
+pub line_fixes_cost : (version : Version) (reply : Reply) (first second : Cost) → Fits64 first → Fits64 second → reply_line version true reply first ≡ reply_line version true reply second → first ≡ second
+line_fixes_cost version reply first second h k e =
+    let text = reply_text version reply in
     cost_fixed first second h k (append_cancel_left text (ended first) (ended second) (sym (append_assoc text (cost_text first) (10 ∷ [])) ∙ e ∙ append_assoc text (cost_text second) (10 ∷ [])))
 
 -- ---- what lawful costs are
@@ -112,24 +113,29 @@ one_at_most false = omega arith
 four_at_most : (s : IndexSet) → index_count s ≤ 4
 four_at_most s = omega (arith, one_at_most s.range, one_at_most s.near, one_at_most s.top, one_at_most s.stab)
 
-bounds_small : (n : ℕ) → ((bounds_at n).turns ≤ 54480) × ((bounds_at n).marks ≤ 1140) × ((bounds_at n).parts ≤ 192)
-bounds_small n =
-    let level = greatest_level n in
-    let high : level ≤ 63 = greatest_level-le n in
-    (omega (arith, high, mul-le-mul_left level high), omega (arith, high), omega (arith, high))
+-- bounds far below 64 bits
+record AreSmall (update : Update) (bounds : Bounds) : Type 0 where
+  turns : turns_of update bounds ≤ 63560
+  marks : marks_of update bounds ≤ 1266
+
+bounds_small : (update : Update) (n : ℕ) → AreSmall update (bounds_at n)
+bounds_small Adds n = record { turns = omega (arith, greatest_level-le n, mul-le-mul_left (greatest_level n) (greatest_level-le n)); marks = omega (arith, greatest_level-le n) }
+bounds_small Drops n = record { turns = omega (arith, greatest_level-le n, mul-le-mul_left (greatest_level n) (greatest_level-le n)); marks = omega (arith, greatest_level-le n) }
+bounds_small Moves n = record { turns = omega (arith, greatest_level-le n, mul-le-mul_left (greatest_level n) (greatest_level-le n)); marks = omega (arith, greatest_level-le n) }
 
 times_at_most : (k m : ℕ) → k ≤ 4 → k * m ≤ 4 * m
 times_at_most k m few = mul-le-mul_right m few
 
-pub spent_fits : (layer : Layer) (adds : Bool) (spent : Spent) → IsSpent layer adds spent → Fits64 (Updating spent)
-spent_fits layer adds spent h =
-    let n = live_count layer in
+pub spent_fits : (layer : Layer) (update : Update) (spent : Spent) → IsSpent layer update spent → Fits64 (Updating spent)
+spent_fits layer update spent h =
+    let bounds = bounds_at (live_count layer) in
     let few = four_at_most layer.indexes in
-    let turns : turn_bound layer < 2 ^ 64 = omega (arith, times_at_most (index_count layer.indexes) (bounds_at n).turns few, (bounds_small n).0) in
-    let marks : mark_bound layer < 2 ^ 64 = omega (arith, times_at_most (index_count layer.indexes) (bounds_at n).marks few, (bounds_small n).1) in
+    let small = bounds_small update (live_count layer) in
+    let turns : turn_bound update layer < 2 ^ 64 = omega (arith, times_at_most (index_count layer.indexes) (turns_of update bounds) few, small.turns) in
+    let marks : mark_bound update layer < 2 ^ 64 = omega (arith, times_at_most (index_count layer.indexes) (marks_of update bounds) few, small.marks) in
     (omega (arith, turns, h.turn_bound_told, h.turns_bounded), omega (arith, turns, h.turn_bound_told), omega (arith, marks, h.mark_bound_told, h.marks_bounded), omega (arith, marks, h.mark_bound_told))
 
 pub asked_fits : (layer : Layer) (asked : QuestionCost) → IsAsked layer asked → asked.touches < 2 ^ 64 → Fits64 (Asking asked)
 asked_fits layer asked h small =
-    let parts : part_bound layer < 2 ^ 64 = omega (arith, (bounds_small (live_count layer)).2) in
+    let parts : part_bound layer < 2 ^ 64 = omega (arith, greatest_level-le (live_count layer)) in
     (omega (arith, parts, h.part_bound_told, h.parts_bounded), omega (arith, parts, h.part_bound_told), small)

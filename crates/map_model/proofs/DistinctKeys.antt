@@ -1,102 +1,125 @@
 -- No two layers of a map that was reached have the same name, and no two items of a layer the same identifier.
 use Rattle.std.proofs.Common.{◌≡◌, ◌≢◌, ◌==◌, ℕ, suc, ◌<◌, Bool, true, false, if◌then◌else◌, List, [], ◌∷◌, ◌++◌, length, Option, Some, None, Ok, Err, get_or, unwrap_or, arith, refl, sym, ap, ◌∙◌, subst, inl, inr}
-use Rattle.std.specs.Prelude.{All, bytes_eq, nat_le, not, is_some}
+use Rattle.std.specs.Prelude.{All, bytes_eq, nat_le, not, is_some, map}
 use Rattle.std.specs.List.{AllPairs}
 use Rattle.std.proofs.lemmas.Bool.{false_from_ne_true, true≢false}
 use Rattle.std.proofs.lemmas.Bool.Decides.{Decides-eqb}
 use Rattle.std.proofs.lemmas.Slice.Eq.{bytes_eq-Decides}
 use Rattle.std.proofs.lemmas.List.Kept.{AllPairs-cons, AllPairs-filter}
-use Rattle.std.proofs.lemmas.List.Elements.{All-cons, All-push}
+use Rattle.std.proofs.lemmas.List.Elements.{All-cons, All-push, filter_passes}
 use Rattle.std.proofs.lemmas.List.Quantifiers.{all_pairs_push}
 use Rattle.std.proofs.lemmas.List.Folds.{list_any_at}
-use Rattle.map_model.specs.Shape.{Shape, Kind, kind_of}
+use Rattle.map_model.specs.Version.{Version}
+use Rattle.map_model.specs.Shape.{Shape, Kind, Point, kind_of}
 use Rattle.map_model.specs.Index.{IndexSet, has}
-use Rattle.map_model.specs.State.{Item, Layer, State, HasDistinctKeys, empty_map, most_layers, most_items, live_count, is_live, shape_of, layer_named, changed, with_items, with_item, without_item}
+use Rattle.map_model.specs.State.{Item, Layer, State, HasDistinctKeys, empty_map_of, most_layers, live_count, is_live, shape_of, layer_named, changed, with_items, with_item, without_item}
 use Rattle.map_model.specs.Answer.{Question, index_of, kind_asked}
-use Rattle.map_model.specs.Command.{Command, MakeLayer, Add, Drop, Ask, Get, Size, Recent}
+use Rattle.map_model.specs.Command.{Command, Livemap, MakeLayer, Add, Move, Drop, Ask, Get, Size, Recent}
 use Rattle.map_model.specs.Refusal.{Taken, NoRoom, Duplicate, Unknown, Full, Index}
 use Rattle.map_model.specs.Refusal as refusals
-use Rattle.map_model.specs.Machine.{Outcome, step, refused, is_same_kind, is_taken, make_layer, add_to, drop_from, ask_of, got, get_from, size_of, recent_of}
+use Rattle.map_model.specs.Machine.{Outcome, step, refused, is_same_kind, is_taken, choose_version, make_layer, add_to, move_in, drop_from, ask_of, got, get_from, size_of, recent_of}
 use Rattle.map_model.specs.Grammar.{Parsed, parse}
 use Rattle.map_model.specs.Output.{Given, AnswersTo, Output}
 
 -- ---- the first layer and the others
 
-pub names_apart : (layer : Layer) (layers : State) → HasDistinctKeys (layer ∷ layers) → All (λ other. layer.name ≢ other.name) layers
+-- what distinct keys say of a list of layers
+pub record AreDistinct (layers : List Layer) : Type 0 where
+  pub names : AllPairs (λ a b. a.name ≢ b.name) layers
+  pub ids : All (λ layer. AllPairs (λ a b. a.id ≢ b.id) layer.items) layers
+
+pub of_layers : (state : State) → HasDistinctKeys state → AreDistinct state.layers
+of_layers state h = record { names = h.names; ids = h.ids }
+
+pub of_state : (state : State) → AreDistinct state.layers → HasDistinctKeys state
+of_state state h = record { names = h.names; ids = h.ids }
+
+pub names_apart : (layer : Layer) (layers : List Layer) → AreDistinct (layer ∷ layers) → All (λ other. layer.name ≢ other.name) layers
 names_apart layer layers h k d inside = h.names 0 (suc k) d (omega arith) (omega arith)
 
-pub ids_apart : (layer : Layer) (layers : State) → HasDistinctKeys (layer ∷ layers) → AllPairs (λ a b. a.id ≢ b.id) layer.items
+pub ids_apart : (layer : Layer) (layers : List Layer) → AreDistinct (layer ∷ layers) → AllPairs (λ a b. a.id ≢ b.id) layer.items
 ids_apart layer layers h = h.ids 0 layer (omega arith)
 
-pub HasDistinctKeys-rest : (layer : Layer) (layers : State) → HasDistinctKeys (layer ∷ layers) → HasDistinctKeys layers
-HasDistinctKeys-rest layer layers h = record {
+pub AreDistinct-rest : (layer : Layer) (layers : List Layer) → AreDistinct (layer ∷ layers) → AreDistinct layers
+AreDistinct-rest layer layers h = record {
   names = λ i j d before inside. h.names (suc i) (suc j) d (omega arith) (omega arith);
   ids = λ k d inside. h.ids (suc k) d (omega arith);
 }
 
-pub HasDistinctKeys-cons : (layer : Layer) (layers : State) → All (λ other. layer.name ≢ other.name) layers → AllPairs (λ a b. a.id ≢ b.id) layer.items → HasDistinctKeys layers
-    → HasDistinctKeys (layer ∷ layers)
-HasDistinctKeys-cons layer layers names ids rest = record {
+pub AreDistinct-cons : (layer : Layer) (layers : List Layer) → All (λ other. layer.name ≢ other.name) layers → AllPairs (λ a b. a.id ≢ b.id) layer.items → AreDistinct layers
+    → AreDistinct (layer ∷ layers)
+AreDistinct-cons layer layers names ids rest = record {
   names = AllPairs-cons (λ a b. a.name ≢ b.name) layer layers names rest.names;
   ids = All-cons (λ (l : Layer). AllPairs (λ a b. a.id ≢ b.id) l.items) layer layers ids rest.ids;
 }
 
-pub HasDistinctKeys-empty : HasDistinctKeys empty_map
-HasDistinctKeys-empty = record { names = λ i j d before inside. absurd (omega arith); ids = λ k d inside. absurd (omega arith) }
+pub HasDistinctKeys-empty : (most : ℕ) → HasDistinctKeys (empty_map_of most)
+HasDistinctKeys-empty most = record { names = λ i j d before inside. absurd (omega arith); ids = λ k d inside. absurd (omega arith) }
 
 -- ---- the items of a layer changed
 
+-- the layers with a change of the items of one
+abbrev pub changed_in : List ℕ → (List Item → List Item) → List Layer → List Layer
+changed_in name change layers = map (λ layer. if bytes_eq layer.name name then changed change layer else layer) layers
+
 -- the names stay
-names_kept : (name : List ℕ) (change : List Item → List Item) (P : List ℕ → Type 0) (layers : State) → All (λ l. P l.name) layers → All (λ l. P l.name) (with_items name change layers)
+names_kept : (name : List ℕ) (change : List Item → List Item) (P : List ℕ → Type 0) (layers : List Layer) → All (λ l. P l.name) layers → All (λ l. P l.name) (changed_in name change layers)
 names_kept name change P [] h = λ k d inside. absurd (omega arith)
 names_kept name change P (layer ∷ layers) h =
-    All-cons (λ (l : Layer). P l.name) _ (with_items name change layers)
+    All-cons (λ (l : Layer). P l.name) _ (changed_in name change layers)
     (elim (bytes_eq layer.name name) as (λ b. P (if b then changed change layer else layer).name) [ true ↦ h 0 layer (omega arith) | false ↦ h 0 layer (omega arith) ])
     (names_kept name change P layers (λ k d inside. h (suc k) d (omega arith)))
 
 -- layers of other names stay
-others_kept : (name : List ℕ) (change : List Item → List Item) (layers : State) → All (λ l. name ≢ l.name) layers → with_items name change layers ≡ layers
+others_kept : (name : List ℕ) (change : List Item → List Item) (layers : List Layer) → All (λ l. name ≢ l.name) layers → changed_in name change layers ≡ layers
 others_kept name change [] h = refl
 others_kept name change (layer ∷ layers) h =
     let other : bytes_eq layer.name name ≡ false = false_from_ne_true _ (λ same. h 0 layer (omega arith) (sym ((bytes_eq-Decides layer.name name).0 same))) in
     (λ i. (if other i then changed change layer else layer) ∷ others_kept name change layers (λ k d inside. h (suc k) d (omega arith)) i)
 
-changed_first : (name : List ℕ) (change : List Item → List Item) (layer : Layer) (layers : State) → layer.name ≡ name → AllPairs (λ a b. a.id ≢ b.id) (change layer.items) → HasDistinctKeys (layer ∷ layers)
-    → HasDistinctKeys (changed change layer ∷ with_items name change layers)
+changed_first : (name : List ℕ) (change : List Item → List Item) (layer : Layer) (layers : List Layer) → layer.name ≡ name → AllPairs (λ a b. a.id ≢ b.id) (change layer.items) → AreDistinct (layer ∷ layers)
+    → AreDistinct (changed change layer ∷ changed_in name change layers)
 changed_first name change layer layers is ids h =
     let others : All (λ l. name ≢ l.name) layers = λ k d inside. subst (λ n. n ≢ (get_or layers k d).name) is (names_apart layer layers h k d inside) in
-    subst (λ ls. HasDistinctKeys (changed change layer ∷ ls)) (sym (others_kept name change layers others))
-    (HasDistinctKeys-cons (changed change layer) layers (names_apart layer layers h) ids (HasDistinctKeys-rest layer layers h))
+    subst (λ ls. AreDistinct (changed change layer ∷ ls)) (sym (others_kept name change layers others))
+    (AreDistinct-cons (changed change layer) layers (names_apart layer layers h) ids (AreDistinct-rest layer layers h))
 
 -- a change that keeps the identifiers of a layer apart
-pub HasDistinctKeys-with_items : (name : List ℕ) (change : List Item → List Item) (layers : State)
+AreDistinct-changed_in : (name : List ℕ) (change : List Item → List Item) (layers : List Layer)
     → ((layer : Layer) → layer_named name layers ≡ Some layer → AllPairs (λ a b. a.id ≢ b.id) layer.items → AllPairs (λ a b. a.id ≢ b.id) (change layer.items))
-    → HasDistinctKeys layers → HasDistinctKeys (with_items name change layers)
-HasDistinctKeys-with_items name change [] keeps h = h
-HasDistinctKeys-with_items name change (layer ∷ layers) keeps h =
+    → AreDistinct layers → AreDistinct (changed_in name change layers)
+AreDistinct-changed_in name change [] keeps h = h
+AreDistinct-changed_in name change (layer ∷ layers) keeps h =
     elim (bytes_eq layer.name name) as (λ b. bytes_eq layer.name name ≡ b
     → ((l : Layer) → (if b then Some layer else layer_named name layers) ≡ Some l → AllPairs (λ x y. x.id ≢ y.id) l.items → AllPairs (λ x y. x.id ≢ y.id) (change l.items))
-    → HasDistinctKeys ((if b then changed change layer else layer) ∷ with_items name change layers)) [
+    → AreDistinct ((if b then changed change layer else layer) ∷ changed_in name change layers)) [
       | true ↦ λ same keeps'. changed_first name change layer layers ((bytes_eq-Decides layer.name name).0 same) (keeps' layer refl (ids_apart layer layers h)) h
-      | false ↦ λ other keeps'. HasDistinctKeys-cons layer (with_items name change layers) (names_kept name change (λ n. layer.name ≢ n) layers (names_apart layer layers h)) (ids_apart layer layers h)
-          (HasDistinctKeys-with_items name change layers keeps' (HasDistinctKeys-rest layer layers h))
+      | false ↦ λ other keeps'. AreDistinct-cons layer (changed_in name change layers) (names_kept name change (λ n. layer.name ≢ n) layers (names_apart layer layers h)) (ids_apart layer layers h)
+          (AreDistinct-changed_in name change layers keeps' (AreDistinct-rest layer layers h))
     ] refl keeps
+
+pub HasDistinctKeys-with_items : (name : List ℕ) (change : List Item → List Item) (state : State)
+    → ((layer : Layer) → layer_named name state.layers ≡ Some layer → AllPairs (λ a b. a.id ≢ b.id) layer.items → AllPairs (λ a b. a.id ≢ b.id) (change layer.items))
+    → HasDistinctKeys state → HasDistinctKeys (with_items name change state)
+HasDistinctKeys-with_items name change state keeps h =
+    of_state (with_items name change state) (AreDistinct-changed_in name change state.layers keeps (of_layers state h))
 
 -- ---- a layer more
 
 -- a name that isn't taken is that of no layer
-not_taken : (name : List ℕ) (state : State) → is_taken name state ≡ false → All (λ l. l.name ≢ name) state
-not_taken name [] h = λ k d inside. absurd (omega arith)
-not_taken name (layer ∷ layers) h =
+not_named : (name : List ℕ) (layers : List Layer) → is_some (layer_named name layers) ≡ false → All (λ l. l.name ≢ name) layers
+not_named name [] h = λ k d inside. absurd (omega arith)
+not_named name (layer ∷ layers) h =
     elim (bytes_eq layer.name name) as (λ b. bytes_eq layer.name name ≡ b → is_some (if b then Some layer else layer_named name layers) ≡ false → All (λ l. l.name ≢ name) (layer ∷ layers)) [
       | true ↦ λ same free. absurd (true≢false free)
-      | false ↦ λ other free. All-cons (λ (l : Layer). l.name ≢ name) layer layers (λ is. true≢false (sym ((bytes_eq-Decides layer.name name).1 is) ∙ other)) (not_taken name layers free)
+      | false ↦ λ other free. All-cons (λ (l : Layer). l.name ≢ name) layer layers (λ is. true≢false (sym ((bytes_eq-Decides layer.name name).1 is) ∙ other)) (not_named name layers free)
     ] refl h
 
-HasDistinctKeys-push : (state : State) (layer : Layer) → All (λ l. l.name ≢ layer.name) state → AllPairs (λ a b. a.id ≢ b.id) layer.items → HasDistinctKeys state → HasDistinctKeys (state ++ layer ∷ [])
+HasDistinctKeys-push : (state : State) (layer : Layer) → All (λ l. l.name ≢ layer.name) state.layers → AllPairs (λ a b. a.id ≢ b.id) layer.items → HasDistinctKeys state
+    → HasDistinctKeys (record state { layers = state.layers ++ layer ∷ [] })
 HasDistinctKeys-push state layer others ids h = record {
-  names = all_pairs_push (λ a b. a.name ≢ b.name) state layer h.names others;
-  ids = All-push (λ (l : Layer). AllPairs (λ a b. a.id ≢ b.id) l.items) state layer h.ids ids;
+  names = all_pairs_push (λ a b. a.name ≢ b.name) state.layers layer h.names others;
+  ids = All-push (λ (l : Layer). AllPairs (λ a b. a.id ≢ b.id) l.items) state.layers layer h.ids ids;
 }
 
 -- ---- a command, and the lines of a script
@@ -109,24 +132,28 @@ either_keeps : (b : Bool) (first second : Outcome) → (b ≡ true → Keeps fir
 either_keeps true first second p q = p refl
 either_keeps false first second p q = q refl
 
+HasDistinctKeys-choose_version : (state : State) (version : Version) (layers : List Layer) → HasDistinctKeys state → Keeps (choose_version state version layers)
+HasDistinctKeys-choose_version state version [] h = of_state (record state { version = version }) (of_layers state h)
+HasDistinctKeys-choose_version state version (layer ∷ layers) h = h
+
 HasDistinctKeys-make_layer : (state : State) (name : List ℕ) (kind : Kind) (indexes : IndexSet) → HasDistinctKeys state → Keeps (make_layer state name kind indexes)
 HasDistinctKeys-make_layer state name kind indexes h =
     either_keeps (is_taken name state) (refused state Taken) _ (λ taken. h) (λ free.
-    either_keeps (nat_le most_layers (length state)) (refused state NoRoom) _ (λ full. h) (λ room.
-    HasDistinctKeys-push state (record { name = name; kind = kind; indexes = indexes; items = [] }) (not_taken name state free) (λ i j d before inside. absurd (omega arith)) h))
+    either_keeps (nat_le most_layers (length state.layers)) (refused state NoRoom) _ (λ full. h) (λ room.
+    HasDistinctKeys-push state (record { name = name; kind = kind; indexes = indexes; items = [] }) (not_named name state.layers free) (λ i j d before inside. absurd (omega arith)) h))
 
 -- an identifier that isn't live is that of no item
 not_live : (id : ℕ) (items : List Item) → is_live id items ≡ false → (k : ℕ) (d : Item) → k < length items → (get_or items k d).id ≢ id
 not_live id items h k d inside same =
     true≢false (sym (list_any_at (λ item. item.id == id) items k d inside (let e : ((get_or items k d).id == id) ≡ true = (Decides-eqb _ _).1 same in e)) ∙ h)
 
-HasDistinctKeys-add_to : (state : State) (name : List ℕ) (id : ℕ) (shape : Shape) (found : Option Layer) → layer_named name state ≡ found → HasDistinctKeys state → Keeps (add_to state name id shape found)
+HasDistinctKeys-add_to : (state : State) (name : List ℕ) (id : ℕ) (shape : Shape) (found : Option Layer) → layer_named name state.layers ≡ found → HasDistinctKeys state → Keeps (add_to state name id shape found)
 HasDistinctKeys-add_to state name id shape None is h = h
 HasDistinctKeys-add_to state name id shape (Some layer) is h =
     let item : Item = record { id = id; shape = shape } in
     either_keeps (not (is_same_kind layer.kind (kind_of shape))) (refused state refusals.Kind) _ (λ other. h) (λ same.
     either_keeps (is_live id layer.items) (refused state (Duplicate id)) _ (λ live. h) (λ fresh.
-    either_keeps (nat_le most_items (live_count layer)) (refused state Full) _ (λ full. h) (λ room.
+    either_keeps (nat_le state.most_items (live_count layer)) (refused state Full) _ (λ full. h) (λ room.
     HasDistinctKeys-with_items name (with_item item) state (λ l named ids.
     let same_layer : layer ≡ l = ap (λ found. unwrap_or found layer) (sym is ∙ named) in
     all_pairs_push (λ a b. a.id ≢ b.id) l.items item ids (not_live id l.items (subst (λ (x : Layer). is_live id x.items ≡ false) same_layer fresh))) h)))
@@ -136,6 +163,21 @@ HasDistinctKeys-drop_from state name id None h = h
 HasDistinctKeys-drop_from state name id (Some layer) h =
     either_keeps (is_live id layer.items) _ (refused state (Unknown id))
     (λ live. HasDistinctKeys-with_items name (without_item id) state (λ l named ids. AllPairs-filter (λ a b. a.id ≢ b.id) (λ item. not (item.id == id)) l.items ids) h) (λ gone. h)
+
+-- without an item's identifier there is none that has it
+apart_without : (id : ℕ) (items : List Item) → (k : ℕ) (d : Item) → k < length (without_item id items) → (get_or (without_item id items) k d).id ≢ id
+apart_without id items k d inside same =
+    let kept = filter_passes (λ (item : Item). not (item.id == id)) items k d inside in
+    true≢false (sym kept ∙ ap not ((Decides-eqb (get_or (without_item id items) k d).id id).1 same))
+
+HasDistinctKeys-move_in : (state : State) (name : List ℕ) (id : ℕ) (shape : Shape) (found : Option Layer) → HasDistinctKeys state → Keeps (move_in state name id shape found)
+HasDistinctKeys-move_in state name id shape None h = h
+HasDistinctKeys-move_in state name id shape (Some layer) h =
+    let item : Item = record { id = id; shape = shape } in
+    either_keeps (not (is_same_kind layer.kind (kind_of shape))) (refused state refusals.Kind) _ (λ other. h) (λ same.
+    either_keeps (is_live id layer.items) _ (refused state (Unknown id)) (λ live.
+    HasDistinctKeys-with_items name (λ items. with_item item (without_item id items)) state (λ l named ids.
+    all_pairs_push (λ a b. a.id ≢ b.id) (without_item id l.items) item (AllPairs-filter (λ a b. a.id ≢ b.id) (λ i. not (i.id == id)) l.items ids) (apart_without id l.items)) h) (λ gone. h))
 
 HasDistinctKeys-ask_of : (state : State) (question : Question) (found : Option Layer) → HasDistinctKeys state → Keeps (ask_of state question found)
 HasDistinctKeys-ask_of state question None h = h
@@ -160,13 +202,15 @@ HasDistinctKeys-recent_of state k None h = h
 HasDistinctKeys-recent_of state k (Some layer) h = h
 
 pub HasDistinctKeys-step : (state : State) (command : Command) → HasDistinctKeys state → Keeps (step state command)
+HasDistinctKeys-step state (Livemap version) h = HasDistinctKeys-choose_version state version state.layers h
 HasDistinctKeys-step state (MakeLayer name kind indexes) h = HasDistinctKeys-make_layer state name kind indexes h
-HasDistinctKeys-step state (Add name id shape) h = HasDistinctKeys-add_to state name id shape (layer_named name state) refl h
-HasDistinctKeys-step state (Drop name id) h = HasDistinctKeys-drop_from state name id (layer_named name state) h
-HasDistinctKeys-step state (Ask name question) h = HasDistinctKeys-ask_of state question (layer_named name state) h
-HasDistinctKeys-step state (Get name id) h = HasDistinctKeys-get_from state id (layer_named name state) h
-HasDistinctKeys-step state (Size name) h = HasDistinctKeys-size_of state (layer_named name state) h
-HasDistinctKeys-step state (Recent name k) h = HasDistinctKeys-recent_of state k (layer_named name state) h
+HasDistinctKeys-step state (Add name id shape) h = HasDistinctKeys-add_to state name id shape (layer_named name state.layers) refl h
+HasDistinctKeys-step state (Move name id x y w) h = HasDistinctKeys-move_in state name id (Point x y w) (layer_named name state.layers) h
+HasDistinctKeys-step state (Drop name id) h = HasDistinctKeys-drop_from state name id (layer_named name state.layers) h
+HasDistinctKeys-step state (Ask name question) h = HasDistinctKeys-ask_of state question (layer_named name state.layers) h
+HasDistinctKeys-step state (Get name id) h = HasDistinctKeys-get_from state id (layer_named name state.layers) h
+HasDistinctKeys-step state (Size name) h = HasDistinctKeys-size_of state (layer_named name state.layers) h
+HasDistinctKeys-step state (Recent name k) h = HasDistinctKeys-recent_of state k (layer_named name state.layers) h
 
 HasDistinctKeys-answer : (state : State) (parsed : Parsed) (given : Given) → AnswersTo state parsed given → HasDistinctKeys state → HasDistinctKeys given.state
 HasDistinctKeys-answer state (Ok None) given is h = subst (λ (g : Given). HasDistinctKeys g.state) (sym is) h
@@ -177,4 +221,4 @@ HasDistinctKeys-answer state (Ok (Some command)) given (inr lacks) h = subst (λ
 pub HasDistinctKeys-output : (ledger : Bool) (start end : State) (script : List (List ℕ)) (written : List ℕ) → Output ledger start script written end → HasDistinctKeys start → HasDistinctKeys end
 HasDistinctKeys-output ledger start end [] written o h = subst HasDistinctKeys (sym o.1) h
 HasDistinctKeys-output ledger start end (line ∷ script) written o h =
-    HasDistinctKeys-output ledger o.0.state end script o.2 o.4 (HasDistinctKeys-answer start (parse line) o.0 o.1 h)
+    HasDistinctKeys-output ledger o.0.state end script o.2 o.4 (HasDistinctKeys-answer start (parse start.version line) o.0 o.1 h)

@@ -1,19 +1,20 @@
 -- What a line says is within the limits of its form.
-use Rattle.std.proofs.Common.{◌≡◌, ℕ, zero, suc, ◌+◌, ◌≤◌, Bool, true, false, cond, not, ◌&&◌, ◌||◌, nat_le, nat_lt, nat_eq, length-drop, List, [], ◌∷◌, ◌++◌, codes, length, drop, get_or, Option, Some, None, Ok, Err, bytes_eq, arith, refl, sym, ap, ◌∙◌, subst, inl, inr}
+use Rattle.std.proofs.Common.{◌≡◌, ℕ, zero, suc, ◌+◌, ◌-◌, ◌≤◌, Bool, true, false, cond, not, ◌&&◌, ◌||◌, nat_le, nat_lt, nat_eq, length-drop, List, [], ◌∷◌, ◌++◌, codes, length, drop, get_or, Option, Some, None, Ok, Err, bytes_eq, arith, refl, sym, ap, ◌∙◌, subst, inl, inr}
 use Rattle.std.specs.List.{list_all, list_any, starts_with}
 use Rattle.std.specs.Str.Parse.{digits_value}
 use Rattle.std.proofs.lemmas.Bool.{and_parts, false≢true, true≢false, cases_Bool, leb-true, eqb-true}
 use Rattle.std.proofs.lemmas.Slice.Eq.{bytes_eq-Decides}
 use Rattle.std.proofs.Math.Bool.{or-true}
-use Rattle.map_model.specs.Words.{words, is_name, longest_line, greatest_id, greatest_coordinate}
+use Rattle.map_model.specs.Words.{words, is_name, longest_line, greatest_id, greatest_weight}
+use Rattle.map_model.specs.Version.{Version, One, Two, negatives, greatest_coordinate, kept}
 use Rattle.map_model.specs.Shape.{Kind, Points, Segments}
 use Rattle.map_model.specs.Index.{fits}
 use Rattle.map_model.specs.LineFault.{LineFault}
 use Rattle.map_model.specs.LineFault as faults
 use Rattle.map_model.specs.Command.{Command}
-use Rattle.map_model.specs.Form.{Field, Id, Coordinate, Amount, limits_of, Form, form, is_ordered, verb_of, greatest_amount}
+use Rattle.map_model.specs.Form.{Field, Id, Coordinate, Weight, Amount, VersionNumber, limits_of, Form, form, is_ordered, verb_of, greatest_amount}
 use Rattle.map_model.specs.Form as verbs
-use Rattle.map_model.specs.Grammar.{without_return, is_printable, is_digits, is_within, is_in_range, all_fields, has_words, Values, named, place, rect_of, with_value, with_values, command_of, takes_word, is_distinct, index_set, Parsed, parse_indexes, parse_kind, parse_fields, parse_verb, parse_words, parse}
+use Rattle.map_model.specs.Grammar.{without_return, is_printable, is_digits, is_within, is_in_range, number_of, all_fields, has_words, Values, named, place, rect_of, with_value, with_values, command_of, takes_word, is_distinct, index_set, Parsed, parse_indexes, parse_kind, parse_fields, parse_named, parse_form, parse_verb, parse_words, parse}
 use Rattle.map_model.specs.Line.{IsCommand, IsRect}
 
 -- behind a step that finds no fault
@@ -28,8 +29,8 @@ holds false e = absurd (true≢false e)
 -- ---- values
 
 -- numbers within the limits of the language
-record AreLimited (v : Values) : Type 0 where
-  places : (k : ℕ) → place v k ≤ greatest_coordinate
+record AreLimited (version : Version) (v : Values) : Type 0 where
+  places : (k : ℕ) → place v k ≤ kept version greatest_coordinate
   id : v.id ≤ greatest_id
   amount : v.amount ≤ greatest_amount
 
@@ -44,49 +45,115 @@ places-push [] n bound h all (suc k) = omega arith
 places-push (p ∷ places) n bound h all zero = all zero
 places-push (p ∷ places) n bound h all (suc k) = places-push places n bound h (λ j. all (suc j)) k
 
-limited-value : (field : Field) (n : ℕ) (v : Values) → is_within field n ≡ true → AreLimited v → AreLimited (with_value field n v)
-limited-value Id n v h all = record { places = all.places; id = (within Id n h).1; amount = all.amount }
-limited-value Coordinate n v h all = record { places = places-push v.places n greatest_coordinate (within Coordinate n h).1 all.places; id = all.id; amount = all.amount }
-limited-value Amount n v h all = record { places = all.places; id = all.id; amount = (within Amount n h).1 }
+-- what a number of a field is kept as is at most this
+abbrev most_of : Version → Field → ℕ
+most_of version Id = greatest_id
+most_of version Coordinate = kept version greatest_coordinate
+most_of version Weight = greatest_weight
+most_of version Amount = greatest_amount
+most_of version VersionNumber = 2
 
-limited : (fields : List Field) (words : List (List ℕ)) (v : Values) → all_fields is_in_range fields words ≡ true → AreLimited v → AreLimited (with_values fields words v)
-limited [] words v h all = all
-limited (field ∷ fields) [] v h all = all
-limited (field ∷ fields) (word ∷ words) v h all =
-    let parts = and_parts (is_in_range field word) (all_fields is_in_range fields words) h in
-    limited fields words (with_value field (digits_value 10 word) v) parts.1 (limited-value field (digits_value 10 word) v parts.0 all)
+signed-within : (word : List ℕ) → is_in_range Two Coordinate word ≡ true → number_of Two Coordinate word ≤ kept Two greatest_coordinate
+signed-within word h = elim (cases_Bool (starts_with nat_eq word (45 ∷ []))) [
+  | inl minus ↦ subst (λ b. cond b (negatives - digits_value 10 (drop 1 word)) (kept Two (digits_value 10 word)) ≤ kept Two greatest_coordinate) (sym minus) (omega arith)
+  | inr digits ↦
+      let ranged : is_within Coordinate (digits_value 10 word) ≡ true =
+      sym (ap (λ b. cond b (nat_le (digits_value 10 (drop 1 word)) negatives) (is_within Coordinate (digits_value 10 word))) digits) ∙ h in
+      subst (λ b. cond b (negatives - digits_value 10 (drop 1 word)) (kept Two (digits_value 10 word)) ≤ kept Two greatest_coordinate) (sym digits)
+      (omega (arith, (within Coordinate (digits_value 10 word) ranged).1))
+]
 
-limited-named : (name : List ℕ) → AreLimited (named name)
-limited-named name = record { places = λ k. omega arith; id = omega arith; amount = omega arith }
+number-within : (version : Version) (field : Field) (word : List ℕ) → is_in_range version field word ≡ true → number_of version field word ≤ most_of version field
+number-within One Id word h = (within Id (digits_value 10 word) h).1
+number-within One Coordinate word h = (within Coordinate (digits_value 10 word) h).1
+number-within One Weight word h = (within Weight (digits_value 10 word) h).1
+number-within One Amount word h = (within Amount (digits_value 10 word) h).1
+number-within One VersionNumber word h = (within VersionNumber (digits_value 10 word) h).1
+number-within Two Id word h = (within Id (digits_value 10 word) h).1
+number-within Two Coordinate word h = signed-within word h
+number-within Two Weight word h = (within Weight (digits_value 10 word) h).1
+number-within Two Amount word h = (within Amount (digits_value 10 word) h).1
+number-within Two VersionNumber word h = (within VersionNumber (digits_value 10 word) h).1
 
-name-kept : (fields : List Field) (words : List (List ℕ)) (v : Values) → (with_values fields words v).name ≡ v.name
-name-kept [] words v = refl
-name-kept (field ∷ fields) [] v = refl
-name-kept (field ∷ fields) (word ∷ words) v = name-kept fields words (with_value field (digits_value 10 word) v) ∙ one field
+weight_kept : (version : Version) → greatest_weight ≤ kept version greatest_coordinate
+weight_kept One = omega arith
+weight_kept Two = omega arith
+
+limited-value : (version : Version) (field : Field) (n : ℕ) (v : Values) → n ≤ most_of version field → AreLimited version v → AreLimited version (with_value field n v)
+limited-value version Id n v h all = record { places = all.places; id = h; amount = all.amount }
+limited-value version Coordinate n v h all = record { places = places-push v.places n (kept version greatest_coordinate) h all.places; id = all.id; amount = all.amount }
+limited-value version Weight n v h all = record {
+  places = places-push v.places n (kept version greatest_coordinate) (omega (arith, h, weight_kept version)) all.places;
+  id = all.id;
+  amount = all.amount;
+}
+limited-value version Amount n v h all = record { places = all.places; id = all.id; amount = h }
+limited-value version VersionNumber n v h all = record { places = all.places; id = all.id; amount = all.amount }
+
+limited : (version : Version) (fields : List Field) (words : List (List ℕ)) (v : Values) → all_fields (is_in_range version) fields words ≡ true → AreLimited version v
+    → AreLimited version (with_values version fields words v)
+limited version [] words v h all = all
+limited version (field ∷ fields) [] v h all = all
+limited version (field ∷ fields) (word ∷ words) v h all =
+    let parts = and_parts (is_in_range version field word) (all_fields (is_in_range version) fields words) h in
+    limited version fields words (with_value field (number_of version field word) v) parts.1
+    (limited-value version field (number_of version field word) v (number-within version field word parts.0) all)
+
+limited-named : (version : Version) (name : List ℕ) → AreLimited version (named name)
+limited-named version name = record { places = λ k. omega arith; id = omega arith; amount = omega arith }
+
+-- the weight of a point
+limited-weight : (version : Version) (name : List ℕ) (words : List (List ℕ)) → nat_eq (length words) 4 ≡ true → all_fields (is_in_range version) verbs.point_fields words ≡ true
+    → place (with_values version verbs.point_fields words (named name)) 2 ≤ greatest_weight
+limited-weight version name [] many h = absurd (false≢true many)
+limited-weight version name (a ∷ []) many h = absurd (false≢true many)
+limited-weight version name (a ∷ b ∷ []) many h = absurd (false≢true many)
+limited-weight version name (a ∷ b ∷ c ∷ []) many h = absurd (false≢true many)
+limited-weight version name (a ∷ b ∷ c ∷ w ∷ words) many h =
+    let behind_id = (and_parts (is_in_range version Id a) _ h).1 in
+    let behind_x = (and_parts (is_in_range version Coordinate b) _ behind_id).1 in
+    let behind_y = (and_parts (is_in_range version Coordinate c) _ behind_x).1 in
+    number-within version Weight w (and_parts (is_in_range version Weight w) true behind_y).0
+
+name-kept : (version : Version) (fields : List Field) (words : List (List ℕ)) (v : Values) → (with_values version fields words v).name ≡ v.name
+name-kept version [] words v = refl
+name-kept version (field ∷ fields) [] v = refl
+name-kept version (field ∷ fields) (word ∷ words) v =
+    name-kept version fields words (with_value field (number_of version field word) v) ∙ one field (number_of version field word)
   where
-    one : (field : Field) → (with_value field (digits_value 10 word) v).name ≡ v.name
-    one Id = refl
-    one Coordinate = refl
-    one Amount = refl
+    one : (field : Field) (n : ℕ) → (with_value field n v).name ≡ v.name
+    one Id n = refl
+    one Coordinate n = refl
+    one Weight n = refl
+    one Amount n = refl
+    one VersionNumber n = refl
 
-some_amount : (fields : List Field) (words : List (List ℕ)) (v : Values) → all_fields is_in_range fields words ≡ true → 1 ≤ v.amount → 1 ≤ (with_values fields words v).amount
-some_amount [] words v h some = some
-some_amount (field ∷ fields) [] v h some = some
-some_amount (field ∷ fields) (word ∷ words) v h some =
-    let parts = and_parts (is_in_range field word) (all_fields is_in_range fields words) h in
-    some_amount fields words (with_value field (digits_value 10 word) v) parts.1 (one field (within field (digits_value 10 word) parts.0).0)
+some-amount : (version : Version) (word : List ℕ) → is_in_range version Amount word ≡ true → 1 ≤ number_of version Amount word
+some-amount One word h = (within Amount (digits_value 10 word) h).0
+some-amount Two word h = (within Amount (digits_value 10 word) h).0
+
+some_amount : (version : Version) (fields : List Field) (words : List (List ℕ)) (v : Values) → all_fields (is_in_range version) fields words ≡ true → 1 ≤ v.amount
+    → 1 ≤ (with_values version fields words v).amount
+some_amount version [] words v h some = some
+some_amount version (field ∷ fields) [] v h some = some
+some_amount version (field ∷ fields) (word ∷ words) v h some =
+    let parts = and_parts (is_in_range version field word) (all_fields (is_in_range version) fields words) h in
+    some_amount version fields words (with_value field (number_of version field word) v) parts.1 (one field parts.0)
   where
-    one : (field : Field) → (limits_of field).least ≤ digits_value 10 word → 1 ≤ (with_value field (digits_value 10 word) v).amount
-    one Id low = some
-    one Coordinate low = some
-    one Amount low = low
+    one : (field : Field) → is_in_range version field word ≡ true → 1 ≤ (with_value field (number_of version field word) v).amount
+    one Id h = some
+    one Coordinate h = some
+    one Weight h = some
+    one Amount h = some-amount version word h
+    one VersionNumber h = some
 
 -- a form that begins with an amount
-first_amount : (fields : List Field) (words : List (List ℕ)) (v : Values) → 1 ≤ length words → all_fields is_in_range (Amount ∷ fields) words ≡ true → 1 ≤ (with_values (Amount ∷ fields) words v).amount
-first_amount fields [] v some h = absurd (omega arith)
-first_amount fields (word ∷ words) v some h =
-    let parts = and_parts (is_in_range Amount word) (all_fields is_in_range fields words) h in
-    some_amount fields words (with_value Amount (digits_value 10 word) v) parts.1 (within Amount (digits_value 10 word) parts.0).0
+first_amount : (version : Version) (fields : List Field) (words : List (List ℕ)) (v : Values) → 1 ≤ length words → all_fields (is_in_range version) (Amount ∷ fields) words ≡ true
+    → 1 ≤ (with_values version (Amount ∷ fields) words v).amount
+first_amount version fields [] v some h = absurd (omega arith)
+first_amount version fields (word ∷ words) v some h =
+    let parts = and_parts (is_in_range version Amount word) (all_fields (is_in_range version) fields words) h in
+    some_amount version fields words (with_value Amount (number_of version Amount word) v) parts.1 (some-amount version word parts.0)
 
 -- ---- indexes
 
@@ -139,62 +206,83 @@ fits_words Segments (word ∷ words) some h =
 -- ---- one form after the other
 
 -- what the steps before the end say
-record HasPassed (f : Form) (name : List ℕ) (words : List (List ℕ)) : Type 0 where
+record HasPassed (version : Version) (f : Form) (name : List ℕ) (words : List (List ℕ)) : Type 0 where
   many : has_words f words ≡ true
-  called : is_name name ≡ true
-  ranged : all_fields is_in_range f.fields words ≡ true
-  ordered : is_ordered f.order (with_values f.fields words (named name)).places ≡ true
+  called : (f.has_name && not (is_name name)) ≡ false
+  ranged : all_fields (is_in_range version) f.fields words ≡ true
+  ordered : is_ordered f.order (with_values version f.fields words (named name)).places ≡ true
 
-called : (verb : verbs.Verb) (name : List ℕ) (words : List (List ℕ)) → HasPassed (form verb) name words → is_name (with_values (form verb).fields words (named name)).name ≡ true
-called verb name words h = ap is_name (name-kept (form verb).fields words (named name)) ∙ h.called
+-- in a form with a name, the name that stands is one
+is_named : (name : List ℕ) → not (is_name name) ≡ false → is_name name ≡ true
+is_named name h = holds (is_name name) h
+
+called : (version : Version) (verb : verbs.Verb) (name : List ℕ) (words : List (List ℕ)) → HasPassed version (form verb) name words → (form verb).has_name ≡ true
+    → is_name (with_values version (form verb).fields words (named name)).name ≡ true
+called version verb name words h has' =
+    ap is_name (name-kept version (form verb).fields words (named name))
+    ∙ is_named name (sym (ap (λ b. b && not (is_name name)) has') ∙ h.called)
+
+all_limited : (version : Version) (verb : verbs.Verb) (name : List ℕ) (words : List (List ℕ)) → HasPassed version (form verb) name words
+    → AreLimited version (with_values version (form verb).fields words (named name))
+all_limited version verb name words h = limited version (form verb).fields words (named name) h.ranged (limited-named version name)
 
 some_word : (words : List (List ℕ)) (n : ℕ) → 1 ≤ n → nat_eq (length words) n ≡ true → 1 ≤ length words
 some_word words n some h = omega (arith, eqb-true (length words) n h)
 
 -- the four coordinates of a rectangle
-corners : (verb : verbs.Verb) (name : List ℕ) (words : List (List ℕ)) → HasPassed (form verb) name words → (form verb).order ≡ verbs.Corners → IsRect (rect_of (with_values (form verb).fields words (named name)))
-corners verb name words h order =
-    let v = with_values (form verb).fields words (named name) in
-    let all = limited (form verb).fields words (named name) h.ranged (limited-named name) in
+corners : (version : Version) (verb : verbs.Verb) (name : List ℕ) (words : List (List ℕ)) → HasPassed version (form verb) name words → (form verb).order ≡ verbs.Corners
+    → IsRect version (rect_of (with_values version (form verb).fields words (named name)))
+corners version verb name words h order =
+    let v = with_values version (form verb).fields words (named name) in
+    let all = all_limited version verb name words h in
     let ordered : is_ordered verbs.Corners v.places ≡ true = ap (λ o. is_ordered o v.places) (sym order) ∙ h.ordered in
     let parts = and_parts (nat_le (place v 0) (place v 2)) (nat_le (place v 1) (place v 3)) ordered in
     (leb-true (place v 0) (place v 2) parts.0, leb-true (place v 1) (place v 3) parts.1, all.places 2, all.places 3)
 
-lawful : (verb : verbs.Verb) (name : List ℕ) (words : List (List ℕ)) → HasPassed (form verb) name words → (form verb).has_indexes ≡ false → IsCommand (command_of verb (with_values (form verb).fields words (named name)))
+lawful : (version : Version) (verb : verbs.Verb) (name : List ℕ) (words : List (List ℕ)) → HasPassed version (form verb) name words → (form verb).has_indexes ≡ false
+    → IsCommand version (command_of verb (with_values version (form verb).fields words (named name)))
 unfolding form command_of
-lawful verbs.Layer name words h free = absurd (true≢false free)
-lawful verbs.Add name words h free =
-    let all = limited (form verbs.Add).fields words (named name) h.ranged (limited-named name) in
-    record { named = called verbs.Add name words h; in_limits = (all.id, (all.places 0, all.places 1, all.places 2)) }
-lawful verbs.Seg name words h free =
-    let all = limited (form verbs.Seg).fields words (named name) h.ranged (limited-named name) in
-    record { named = called verbs.Seg name words h; in_limits = (all.id, (leb-true _ _ h.ordered, all.places 1, all.places 2)) }
-lawful verbs.Drop name words h free = record { named = called verbs.Drop name words h; in_limits = (limited (form verbs.Drop).fields words (named name) h.ranged (limited-named name)).id }
-lawful verbs.Count name words h free = record { named = called verbs.Count name words h; in_limits = corners verbs.Count name words h refl }
-lawful verbs.Sum name words h free = record { named = called verbs.Sum name words h; in_limits = corners verbs.Sum name words h refl }
-lawful verbs.ListIds name words h free = record { named = called verbs.ListIds name words h; in_limits = corners verbs.ListIds name words h refl }
-lawful verbs.Near name words h free =
-    let all = limited (form verbs.Near).fields words (named name) h.ranged (limited-named name) in
-    record { named = called verbs.Near name words h; in_limits = (all.places 0, all.places 1) }
-lawful verbs.Nearest name words h free =
-    let all = limited (form verbs.Nearest).fields words (named name) h.ranged (limited-named name) in
-    record { named = called verbs.Nearest name words h; in_limits = ((first_amount (Coordinate ∷ Coordinate ∷ []) words (named name) (some_word words 3 (omega arith) h.many) h.ranged, all.amount), all.places 0, all.places 1) }
-lawful verbs.Above name words h free =
-    let all = limited (form verbs.Above).fields words (named name) h.ranged (limited-named name) in
-    record { named = called verbs.Above name words h; in_limits = (leb-true _ _ h.ordered, all.places 1, all.places 2) }
-lawful verbs.Top name words h free =
-    let all = limited (form verbs.Top).fields words (named name) h.ranged (limited-named name) in
-    record { named = called verbs.Top name words h; in_limits = (leb-true _ _ h.ordered, all.places 1) }
-lawful verbs.Stab name words h free = record { named = called verbs.Stab name words h; in_limits = (limited (form verbs.Stab).fields words (named name) h.ranged (limited-named name)).places 0 }
-lawful verbs.StabCount name words h free = record { named = called verbs.StabCount name words h; in_limits = (limited (form verbs.StabCount).fields words (named name) h.ranged (limited-named name)).places 0 }
-lawful verbs.Get name words h free = record { named = called verbs.Get name words h; in_limits = (limited (form verbs.Get).fields words (named name) h.ranged (limited-named name)).id }
-lawful verbs.Size name words h free = record { named = called verbs.Size name words h; in_limits = tt }
-lawful verbs.Recent name words h free = record { named = called verbs.Recent name words h; in_limits = (first_amount [] words (named name) (some_word words 1 (omega arith) h.many) h.ranged, (limited (form verbs.Recent).fields words (named name) h.ranged (limited-named name)).amount) }
+lawful version verbs.Livemap name words h free = record { named = refl; in_limits = tt }
+lawful version verbs.Layer name words h free = absurd (true≢false free)
+lawful version verbs.Add name words h free =
+    let all = all_limited version verbs.Add name words h in
+    record { named = called version verbs.Add name words h refl; in_limits = (all.id, (all.places 0, all.places 1, limited-weight version name words h.many h.ranged)) }
+lawful version verbs.Seg name words h free =
+    let all = all_limited version verbs.Seg name words h in
+    record { named = called version verbs.Seg name words h refl; in_limits = (all.id, (leb-true _ _ h.ordered, all.places 1, all.places 2)) }
+lawful version verbs.Move name words h free =
+    let all = all_limited version verbs.Move name words h in
+    record { named = called version verbs.Move name words h refl; in_limits = (all.id, (all.places 0, all.places 1, limited-weight version name words h.many h.ranged)) }
+lawful version verbs.Drop name words h free = record { named = called version verbs.Drop name words h refl; in_limits = (all_limited version verbs.Drop name words h).id }
+lawful version verbs.Count name words h free = record { named = called version verbs.Count name words h refl; in_limits = corners version verbs.Count name words h refl }
+lawful version verbs.Sum name words h free = record { named = called version verbs.Sum name words h refl; in_limits = corners version verbs.Sum name words h refl }
+lawful version verbs.ListIds name words h free = record { named = called version verbs.ListIds name words h refl; in_limits = corners version verbs.ListIds name words h refl }
+lawful version verbs.Near name words h free =
+    let all = all_limited version verbs.Near name words h in
+    record { named = called version verbs.Near name words h refl; in_limits = (all.places 0, all.places 1) }
+lawful version verbs.Nearest name words h free =
+    let all = all_limited version verbs.Nearest name words h in
+    let some = first_amount version (Coordinate ∷ Coordinate ∷ []) words (named name) (some_word words 3 (omega arith) h.many) h.ranged in
+    record { named = called version verbs.Nearest name words h refl; in_limits = ((some, all.amount), all.places 0, all.places 1) }
+lawful version verbs.Above name words h free =
+    let all = all_limited version verbs.Above name words h in
+    record { named = called version verbs.Above name words h refl; in_limits = (leb-true _ _ h.ordered, all.places 1, all.places 2) }
+lawful version verbs.Top name words h free =
+    let all = all_limited version verbs.Top name words h in
+    record { named = called version verbs.Top name words h refl; in_limits = (leb-true _ _ h.ordered, all.places 1) }
+lawful version verbs.Stab name words h free = record { named = called version verbs.Stab name words h refl; in_limits = (all_limited version verbs.Stab name words h).places 0 }
+lawful version verbs.StabCount name words h free = record { named = called version verbs.StabCount name words h refl; in_limits = (all_limited version verbs.StabCount name words h).places 0 }
+lawful version verbs.Get name words h free = record { named = called version verbs.Get name words h refl; in_limits = (all_limited version verbs.Get name words h).id }
+lawful version verbs.Size name words h free = record { named = called version verbs.Size name words h refl; in_limits = tt }
+lawful version verbs.Recent name words h free =
+    let some = first_amount version [] words (named name) (some_word words 1 (omega arith) h.many) h.ranged in
+    record { named = called version verbs.Recent name words h refl; in_limits = (some, (all_limited version verbs.Recent name words h).amount) }
 
 -- a layer with a kind and indexes
-lawful_layer : (name : List ℕ) (kind : Kind) (words : List (List ℕ)) (v : Values) → v.name ≡ name → is_name name ≡ true → 1 ≤ length words → list_all (takes_word kind) words ≡ true → IsCommand (command_of verbs.Layer (record v { kind = kind; indexes = index_set words }))
+lawful_layer : (version : Version) (name : List ℕ) (kind : Kind) (words : List (List ℕ)) (v : Values) → v.name ≡ name → is_name name ≡ true → 1 ≤ length words
+    → list_all (takes_word kind) words ≡ true → IsCommand version (command_of verbs.Layer (record v { kind = kind; indexes = index_set words }))
 unfolding command_of
-lawful_layer name kind words v same h some taken = record { named = ap is_name same ∙ h; in_limits = fits_words kind words some taken }
+lawful_layer version name kind words v same h some taken = record { named = ap is_name same ∙ h; in_limits = fits_words kind words some taken }
 
 has_more : (f : Form) (words : List (List ℕ)) → f.has_indexes ≡ true → has_words f words ≡ true → 2 ≤ length (drop (length f.fields) words)
 has_more f words follow many =
@@ -210,9 +298,9 @@ from_indexes verb v kind words command e = elim (cases_Bool (list_all (takes_wor
   | inr failed ↦ absurd (let never : Err faults.Index ≡ Ok (Some command) = sym (rw failed refl) ∙ e in cc)
 ]
 
-from_kind : (v : Values) (name : List ℕ) (words : List (List ℕ)) (command : Command) → v.name ≡ name → is_name name ≡ true → 2 ≤ length words → parse_kind verbs.Layer v words ≡ Ok (Some command) → IsCommand command
-from_kind v name [] command same called' some e = absurd (omega arith)
-from_kind v name (word ∷ words) command same called' some e = elim (cases_Bool (bytes_eq word (codes "points"))) [
+from_kind : (version : Version) (v : Values) (name : List ℕ) (words : List (List ℕ)) (command : Command) → v.name ≡ name → is_name name ≡ true → 2 ≤ length words → parse_kind verbs.Layer v words ≡ Ok (Some command) → IsCommand version command
+from_kind version v name [] command same called' some e = absurd (omega arith)
+from_kind version v name (word ∷ words) command same called' some e = elim (cases_Bool (bytes_eq word (codes "points"))) [
   | inl points ↦ indexed Points (sym (ap (λ b. cond b (parse_indexes verbs.Layer v Points words) (cond (bytes_eq word (codes "segments")) (parse_indexes verbs.Layer v Segments words) (Err faults.Kind))) points) ∙ e)
   | inr not_points ↦ elim (cases_Bool (bytes_eq word (codes "segments"))) [
     | inl segments ↦ indexed Segments (sym (λ i. cond (not_points i) (parse_indexes verbs.Layer v Points words) (cond (segments i) (parse_indexes verbs.Layer v Segments words) (Err faults.Kind))) ∙ e)
@@ -220,53 +308,69 @@ from_kind v name (word ∷ words) command same called' some e = elim (cases_Bool
   ]
 ]
   where
-    indexed : (kind : Kind) → parse_indexes verbs.Layer v kind words ≡ Ok (Some command) → IsCommand command
+    indexed : (kind : Kind) → parse_indexes verbs.Layer v kind words ≡ Ok (Some command) → IsCommand version command
     indexed kind read =
         let r = from_indexes verbs.Layer v kind words command read in
-        subst IsCommand r.1 (lawful_layer name kind words v same called' (omega arith) r.0)
+        subst (λ c. IsCommand version c) r.1 (lawful_layer version name kind words v same called' (omega arith) r.0)
 
 only_layer : (verb : verbs.Verb) → (form verb).has_indexes ≡ true → verb ≡ verbs.Layer
 unfolding form
 only_layer verbs.Layer h = refl
 only_layer _ h = absurd (false≢true h)
 
-from_fields : (verb : verbs.Verb) (name : List ℕ) (words : List (List ℕ)) (command : Command) → parse_fields verb (form verb) name words ≡ Ok (Some command) → IsCommand command
-from_fields verb name words command e =
+layer_is_named : (verb : verbs.Verb) → (form verb).has_indexes ≡ true → (form verb).has_name ≡ true
+unfolding form
+layer_is_named verbs.Layer h = refl
+layer_is_named _ h = absurd (false≢true h)
+
+from_fields : (version : Version) (verb : verbs.Verb) (name : List ℕ) (words : List (List ℕ)) (command : Command) → parse_fields version verb (form verb) name words ≡ Ok (Some command)
+    → IsCommand version command
+from_fields version verb name words command e =
     let f = form verb in
-    let v = with_values f.fields words (named name) in
+    let v = with_values version f.fields words (named name) in
     let last : Parsed = cond f.has_indexes (parse_kind verb v (drop (length f.fields) words)) (Ok (Some (command_of verb v))) in
     let p1 = past (not (has_words f words)) faults.Fields _ command e in
-    let p2 = past (not (is_name name)) faults.Name _ command p1.1 in
-    let p3 = past (not (all_fields is_digits f.fields words)) faults.Number _ command p2.1 in
-    let p4 = past (not (all_fields is_in_range f.fields words)) faults.Range _ command p3.1 in
+    let p2 = past (f.has_name && not (is_name name)) faults.Name _ command p1.1 in
+    let p3 = past (not (all_fields (is_digits version) f.fields words)) faults.Number _ command p2.1 in
+    let p4 = past (not (all_fields (is_in_range version) f.fields words)) faults.Range _ command p3.1 in
     let p5 = past (not (is_ordered f.order v.places)) faults.Order last command p4.1 in
-    let passed : HasPassed f name words = record { many = holds _ p1.0; called = holds _ p2.0; ranged = holds _ p4.0; ordered = holds _ p5.0 } in
+    let passed : HasPassed version f name words = record { many = holds _ p1.0; called = p2.0; ranged = holds _ p4.0; ordered = holds _ p5.0 } in
     elim (cases_Bool f.has_indexes) [
       | inr free ↦
           let made : Ok (Some (command_of verb v)) ≡ Ok (Some command) = sym (ap (λ b. cond b (parse_kind verb v (drop (length f.fields) words)) (Ok (Some (command_of verb v)))) free) ∙ p5.1 in
           let same : command_of verb v ≡ command = cc in
-          subst IsCommand same (lawful verb name words passed free)
+          subst (λ c. IsCommand version c) same (lawful version verb name words passed free)
       | inl follow ↦
           let kinds : parse_kind verb v (drop (length f.fields) words) ≡ Ok (Some command) = sym (ap (λ b. cond b (parse_kind verb v (drop (length f.fields) words)) (Ok (Some (command_of verb v)))) follow) ∙ p5.1 in
-          from_kind v name (drop (length f.fields) words) command (name-kept f.fields words (named name)) passed.called (has_more f words follow passed.many)
+          from_kind version v name (drop (length f.fields) words) command (name-kept version f.fields words (named name))
+          (is_named name (sym (ap (λ b. b && not (is_name name)) (layer_is_named verb follow)) ∙ passed.called)) (has_more f words follow passed.many)
           (subst (λ w. parse_kind w v (drop (length f.fields) words) ≡ Ok (Some command)) (only_layer verb follow) kinds)
     ]
 
-from_verb : (verb : Option verbs.Verb) (words : List (List ℕ)) (command : Command) → parse_verb verb words ≡ Ok (Some command) → IsCommand command
-from_verb None words command e = absurd (let never : Err faults.Command ≡ Ok (Some command) = e in cc)
-from_verb (Some verb) [] command e = absurd (let never : Err faults.Fields ≡ Ok (Some command) = e in cc)
-from_verb (Some verb) (name ∷ words) command e = from_fields verb name words command e
+from_form : (version : Version) (verb : verbs.Verb) (words : List (List ℕ)) (command : Command) → parse_form version verb (form verb) words ≡ Ok (Some command) → IsCommand version command
+from_form version verb words command e = elim (cases_Bool (form verb).has_name) [
+  | inl has' ↦ from_named words (sym (ap (λ b. cond b (parse_named version verb (form verb) words) (parse_fields version verb (form verb) [] words)) has') ∙ e)
+  | inr nameless ↦ from_fields version verb [] words command (sym (ap (λ b. cond b (parse_named version verb (form verb) words) (parse_fields version verb (form verb) [] words)) nameless) ∙ e)
+]
+  where
+    from_named : (words : List (List ℕ)) → parse_named version verb (form verb) words ≡ Ok (Some command) → IsCommand version command
+    from_named [] e = absurd (let never : Err faults.Fields ≡ Ok (Some command) = e in cc)
+    from_named (name ∷ words) e = from_fields version verb name words command e
 
-from_words : (line : List ℕ) (words : List (List ℕ)) (command : Command) → parse_words line words ≡ Ok (Some command) → IsCommand command
-from_words line [] command e = absurd (let never : Ok None ≡ Ok (Some command) = e in cc)
-from_words line (word ∷ words) command e = elim (cases_Bool (starts_with nat_eq word (35 ∷ []))) [
-  | inl comment ↦ absurd (let never : Ok None ≡ Ok (Some command) = sym (ap (λ b. cond b (Ok None) (cond (not (list_all is_printable line)) (Err faults.Line) (parse_verb (verb_of word) words))) comment) ∙ e in cc)
+from_verb : (version : Version) (verb : Option verbs.Verb) (words : List (List ℕ)) (command : Command) → parse_verb version verb words ≡ Ok (Some command) → IsCommand version command
+from_verb version None words command e = absurd (let never : Err faults.Command ≡ Ok (Some command) = e in cc)
+from_verb version (Some verb) words command e = from_form version verb words command e
+
+from_words : (version : Version) (line : List ℕ) (words : List (List ℕ)) (command : Command) → parse_words version line words ≡ Ok (Some command) → IsCommand version command
+from_words version line [] command e = absurd (let never : Ok None ≡ Ok (Some command) = e in cc)
+from_words version line (word ∷ words) command e = elim (cases_Bool (starts_with nat_eq word (35 ∷ []))) [
+  | inl comment ↦ absurd (let never : Ok None ≡ Ok (Some command) = sym (ap (λ b. cond b (Ok None) (cond (not (list_all is_printable line)) (Err faults.Line) (parse_verb version (verb_of word) words))) comment) ∙ e in cc)
   | inr other ↦
-      let behind : cond (not (list_all is_printable line)) (Err faults.Line) (parse_verb (verb_of word) words) ≡ Ok (Some command) = sym (ap (λ b. cond b (Ok None) (cond (not (list_all is_printable line)) (Err faults.Line) (parse_verb (verb_of word) words))) other) ∙ e in
-      from_verb (verb_of word) words command (past (not (list_all is_printable line)) faults.Line (parse_verb (verb_of word) words) command behind).1
+      let behind : cond (not (list_all is_printable line)) (Err faults.Line) (parse_verb version (verb_of word) words) ≡ Ok (Some command) = sym (ap (λ b. cond b (Ok None) (cond (not (list_all is_printable line)) (Err faults.Line) (parse_verb version (verb_of word) words))) other) ∙ e in
+      from_verb version (verb_of word) words command (past (not (list_all is_printable line)) faults.Line (parse_verb version (verb_of word) words) command behind).1
 ]
 
-pub IsCommand-parsed : (line : List ℕ) (command : Command) → parse line ≡ Ok (Some command) → IsCommand command
-IsCommand-parsed line command e =
+pub IsCommand-parsed : (version : Version) (line : List ℕ) (command : Command) → parse version line ≡ Ok (Some command) → IsCommand version command
+IsCommand-parsed version line command e =
     let text = without_return line in
-    from_words text (words text) command (past (nat_lt longest_line (length text)) faults.Line (parse_words text (words text)) command e).1
+    from_words version text (words text) command (past (nat_lt longest_line (length text)) faults.Line (parse_words version text (words text)) command e).1

@@ -8,3 +8,4 @@ pub mod WordLists
 pub mod RoundTrip
 pub mod LawfulCommands
 pub mod CostsFixed
+pub mod Shifts

@@ -1,23 +1,24 @@
 -- A command's line is read as that command.
-use Rattle.std.proofs.Common.{◌≡◌, ℕ, suc, ◌-◌, ◌^◌, ◌≤◌, ◌<◌, Bool, true, false, cond, not, ◌&&◌, ltb, List, [], ◌∷◌, ◌++◌, codes, decimal, length, take, Some, None, Ok, Err, arith, refl, sym, ap, ◌∙◌, subst, get_or, append-nil, append_assoc, length-append, nat_le, nat_eq}
+use Rattle.std.proofs.Common.{◌≡◌, ℕ, suc, ◌-◌, ◌^◌, ◌≤◌, ◌<◌, Bool, true, false, cond, not, ◌&&◌, ltb, List, [], ◌∷◌, ◌++◌, codes, decimal, length, take, drop, Some, None, Ok, Err, arith, refl, sym, ap, ◌∙◌, subst, get_or, append-nil, append_assoc, length-append, nat_le, nat_lt, nat_eq, inl, inr, ◌+◌}
 use Rattle.std.specs.List.{list_all, starts_with}
 use Rattle.std.specs.Str.{all_ascii_digits}
 use Rattle.std.specs.Str.Parse.{digits_value}
-use Rattle.std.proofs.lemmas.Bool.{and_parts, and_from, false≢true, le-leb, le-ltb, leb-true}
+use Rattle.std.proofs.lemmas.Bool.{and_parts, and_from, false≢true, le-leb, le-ltb, leb-true, ltb-true, ltb-false, cases_Bool}
 use Rattle.std.proofs.lemmas.Bool.Decides.{nat_tests}
 use Rattle.std.proofs.lemmas.Fmt.{digits_decimal, digits_value-decimal, length-decimal-le, decimal_nonempty}
 use Rattle.std.proofs.lemmas.Str.Parse.{IsNumeralModel, numerals_by_value, tells_all_ascii_digits}
-use Rattle.map_model.specs.Words.{is_filled, words, is_name, is_name_byte, greatest_id, greatest_coordinate, longest_line}
+use Rattle.map_model.specs.Words.{is_filled, words, is_name, is_name_byte, greatest_id, greatest_weight, longest_line}
+use Rattle.map_model.specs.Version.{Version, One, Two, negatives, greatest_coordinate, kept, coordinate_text}
 use Rattle.map_model.specs.Shape.{Rect}
 use Rattle.map_model.specs.Shape.{Kind, Points, Segments, Point, Segment}
 use Rattle.map_model.specs.Index.{IndexSet, fits}
 use Rattle.map_model.specs.Answer as questions
-use Rattle.map_model.specs.Command.{Command, MakeLayer, Add, Drop, Ask, Get, Size, Recent}
-use Rattle.map_model.specs.Form.{Field, Id, Coordinate, Amount, limits_of, Form, form, is_ordered, verbs, verb_of, greatest_amount}
+use Rattle.map_model.specs.Command.{Command, Livemap, MakeLayer, Add, Move, Drop, Ask, Get, Size, Recent}
+use Rattle.map_model.specs.Form.{Field, Id, Coordinate, Weight, Amount, VersionNumber, limits_of, Form, form, is_ordered, verbs, verb_of, greatest_amount}
 use Rattle.map_model.specs.Form as forms
 use Rattle.map_model.specs.LineFault as faults
-use Rattle.map_model.specs.Grammar.{without_return, is_printable, is_digits, is_within, is_in_range, all_fields, has_words, Values, named, with_values, command_of, parse_indexes, parse_fields, parse_verb, parse_words, parse_text, parse}
-use Rattle.map_model.specs.Line.{kind_word, index_words, word_if, rect_words, spaced_words, command_line, IsCoordinate, IsAmount, IsRect, IsQuestion, IsCommand}
+use Rattle.map_model.specs.Grammar.{without_return, is_printable, has_minus, is_digits, is_within, is_in_range, kept_in, number_of, all_fields, has_words, Values, named, with_value, with_values, command_of, parse_indexes, parse_fields, parse_verb, parse_words, parse_text, parse}
+use Rattle.map_model.specs.Line.{kind_word, index_words, word_if, point_words, rect_words, spaced_words, command_line, IsCoordinate, IsWeight, IsAmount, IsRect, IsQuestion, IsCommand}
 use Rattle.map_model.proofs.WordLists.{is_plain, name_plain, digit_plain, list_all-weaker, IsPlainWord, ArePlainWords, words-spaced, spaced_printable, length-spaced, last_of_spaced}
 
 pub own : IsNumeralModel (λ ds. all_ascii_digits ds ≡ true) (digits_value 10)
@@ -48,9 +49,6 @@ number_word n h = record {
   short = length-decimal-le 20 n (omega arith) (omega arith) h;
 }
 
-number_digits : (field : Field) (n : ℕ) → Is64 n → is_digits field (decimal n) ≡ true
-number_digits field n h = and_from (is_filled (decimal n)) (all_ascii_digits (decimal n)) (filled_word (decimal n) (decimal_nonempty n h)) (digits_decimal own n h)
-
 name_word : (name : List ℕ) → is_name name ≡ true → IsPlainWord name
 name_word name h =
     let parts = and_parts (nat_le 1 (length name) && nat_le (length name) 16) (list_all is_name_byte name) h in
@@ -66,20 +64,33 @@ known_word word filled plain short = record { filled = filled; plain = plain; sh
 
 -- ---- fields that are written
 
--- a plain word that says what its field takes
-record Writes (field : Field) (word : List ℕ) : Type 0 where
+-- digits have no `-` before them
+minus_free : (version : Version) (field : Field) (word : List ℕ) → all_ascii_digits word ≡ true → has_minus version field word ≡ false
+minus_free One field word h = refl
+minus_free Two Id word h = refl
+minus_free Two Coordinate [] h = refl
+minus_free Two Coordinate (byte ∷ word) h = digit_first byte (and_parts (nat_le 48 byte && nat_le byte 57) (all_ascii_digits word) h).0
+  where
+    digit_first : (byte : ℕ) → (nat_le 48 byte && nat_le byte 57) ≡ true → (nat_eq 45 byte && true) ≡ false
+    digit_first byte h = grind (arith, nat_tests)
+minus_free Two Weight word h = refl
+minus_free Two Amount word h = refl
+minus_free Two VersionNumber word h = refl
+
+-- a plain word that says what its field takes: a number that is kept as this one
+record Writes (version : Version) (field : Field) (n : ℕ) (word : List ℕ) : Type 0 where
   plain : IsPlainWord word
-  written : is_digits field word ≡ true
-  within : is_in_range field word ≡ true
+  written : is_digits version field word ≡ true
+  within : is_in_range version field word ≡ true
+  said : number_of version field word ≡ n
 
-abbrev AllWrite : List Field → List (List ℕ) → Type 0
-AllWrite [] [] = Unit {0}
-AllWrite [] (word ∷ words) = ⊥
-AllWrite (field ∷ fields) [] = ⊥
-AllWrite (field ∷ fields) (word ∷ words) = Writes field word × AllWrite fields words
-
-fits_coordinate : (n : ℕ) → IsCoordinate n → Is64 n
-fits_coordinate n h = omega arith
+abbrev AllWrite : Version → List Field → List ℕ → List (List ℕ) → Type 0
+AllWrite version [] [] [] = Unit {0}
+AllWrite version [] [] (word ∷ words) = ⊥
+AllWrite version [] (n ∷ ns) words = ⊥
+AllWrite version (field ∷ fields) [] words = ⊥
+AllWrite version (field ∷ fields) (n ∷ ns) [] = ⊥
+AllWrite version (field ∷ fields) (n ∷ ns) (word ∷ words) = Writes version field n word × AllWrite version fields ns words
 
 fits_amount : (n : ℕ) → IsAmount n → Is64 n
 fits_amount n h = omega (arith, h.1)
@@ -87,50 +98,115 @@ fits_amount n h = omega (arith, h.1)
 fits_id : (n : ℕ) → n ≤ greatest_id → Is64 n
 fits_id n h = omega arith
 
-writes_number : (field : Field) (n : ℕ) → Is64 n → is_within field n ≡ true → Writes field (decimal n)
-writes_number field n fits within = record { plain = number_word n fits; written = number_digits field n fits; within = ap (is_within field) (value n fits) ∙ within }
+-- a number that is written without a sign
+writes_number : (version : Version) (field : Field) (n : ℕ) → Is64 n → is_within field n ≡ true → Writes version field (kept_in version field n) (decimal n)
+writes_number version field n fits within =
+    let digits : all_ascii_digits (decimal n) ≡ true = digits_decimal own n fits in
+    let free = minus_free version field (decimal n) digits in
+    record {
+      plain = number_word n fits;
+      written = ap (λ b. is_filled (cond b (drop 1 (decimal n)) (decimal n)) && all_ascii_digits (cond b (drop 1 (decimal n)) (decimal n))) free
+          ∙ and_from (is_filled (decimal n)) (all_ascii_digits (decimal n)) (filled_word (decimal n) (decimal_nonempty n fits)) digits;
+      within = ap (λ b. cond b (nat_le (digits_value 10 (drop 1 (decimal n))) negatives) (is_within field (digits_value 10 (decimal n)))) free
+          ∙ ap (is_within field) (value n fits) ∙ within;
+      said = ap (λ b. cond b (negatives - digits_value 10 (drop 1 (decimal n))) (kept_in version field (digits_value 10 (decimal n)))) free
+          ∙ ap (kept_in version field) (value n fits);
+    }
 
-an_id : (n : ℕ) → n ≤ greatest_id → Writes Id (decimal n)
-an_id n h = writes_number Id n (fits_id n h) (and_from (nat_le 0 n) (nat_le n greatest_id) (le-leb 0 n (omega arith)) (le-leb n greatest_id h))
+-- a coordinate of version 2 that is so far below zero
+writes_negative : (n : ℕ) → n ≤ negatives → Writes Two Coordinate (negatives - n) (45 ∷ decimal n)
+writes_negative n h =
+    let fits : Is64 n = omega arith in
+    let digits : all_ascii_digits (decimal n) ≡ true = digits_decimal own n fits in
+    record {
+      plain = record {
+        filled = refl;
+        plain = digits_plain (decimal n) digits;
+        short = omega (arith, length-decimal-le 10 n (omega arith) (omega arith) fits);
+      };
+      written = and_from (is_filled (decimal n)) (all_ascii_digits (decimal n)) (filled_word (decimal n) (decimal_nonempty n fits)) digits;
+      within = ap (λ m. nat_le m negatives) (value n fits) ∙ le-leb n negatives h;
+      said = ap (λ m. negatives - m) (value n fits);
+    }
 
-a_coordinate : (n : ℕ) → IsCoordinate n → Writes Coordinate (decimal n)
-a_coordinate n h = writes_number Coordinate n (fits_coordinate n h) (and_from (nat_le 0 n) (nat_le n greatest_coordinate) (le-leb 0 n (omega arith)) (le-leb n greatest_coordinate h))
+an_id : (version : Version) (n : ℕ) → n ≤ greatest_id → Writes version Id n (decimal n)
+an_id version n h = writes_number version Id n (fits_id n h) (and_from (nat_le 0 n) (nat_le n greatest_id) (le-leb 0 n (omega arith)) (le-leb n greatest_id h))
 
-an_amount : (n : ℕ) → IsAmount n → Writes Amount (decimal n)
-an_amount n h = writes_number Amount n (fits_amount n h) (and_from (nat_le 1 n) (nat_le n greatest_amount) (le-leb 1 n h.0) (le-leb n greatest_amount h.1))
+a_weight : (version : Version) (n : ℕ) → IsWeight n → Writes version Weight n (decimal n)
+a_weight version n h = writes_number version Weight n (omega arith) (and_from (nat_le 0 n) (nat_le n greatest_weight) (le-leb 0 n (omega arith)) (le-leb n greatest_weight h))
 
-all_plain : (fields : List Field) (words : List (List ℕ)) → AllWrite fields words → ArePlainWords words
-all_plain [] [] h = tt
-all_plain [] (word ∷ words) h = absurd h
-all_plain (field ∷ fields) [] h = absurd h
-all_plain (field ∷ fields) (word ∷ words) h = (h.0.plain, all_plain fields words h.1)
+an_amount : (version : Version) (n : ℕ) → IsAmount n → Writes version Amount n (decimal n)
+an_amount version n h = writes_number version Amount n (fits_amount n h) (and_from (nat_le 1 n) (nat_le n greatest_amount) (le-leb 1 n h.0) (le-leb n greatest_amount h.1))
+
+unsigned_coordinate : (version : Version) (n : ℕ) → n ≤ greatest_coordinate → Writes version Coordinate (kept version n) (decimal n)
+unsigned_coordinate version n h = writes_number version Coordinate n (omega arith) (and_from (nat_le 0 n) (nat_le n greatest_coordinate) (le-leb 0 n (omega arith)) (le-leb n greatest_coordinate h))
+
+a_coordinate : (version : Version) (n : ℕ) → IsCoordinate version n → Writes version Coordinate n (coordinate_text version n)
+a_coordinate One n h = unsigned_coordinate One n h
+a_coordinate Two n h = elim (cases_Bool (nat_lt n negatives)) [
+  | inl below ↦
+      let low : n < negatives = ltb-true n negatives below in
+      let back : negatives - (negatives - n) ≡ n = omega (arith, low) in
+      subst (λ b. Writes Two Coordinate n (cond b (45 ∷ decimal (negatives - n)) (decimal (n - negatives)))) (sym below)
+      (subst (λ m. Writes Two Coordinate m (45 ∷ decimal (negatives - n))) back (writes_negative (negatives - n) (omega arith)))
+  | inr above ↦
+      let high : negatives ≤ n = ltb-false n negatives above in
+      let back : negatives + (n - negatives) ≡ n = omega (arith, high) in
+      subst (λ b. Writes Two Coordinate n (cond b (45 ∷ decimal (negatives - n)) (decimal (n - negatives)))) (sym above)
+      (subst (λ m. Writes Two Coordinate m (decimal (n - negatives))) back (unsigned_coordinate Two (n - negatives) (omega (arith, h))))
+]
+
+all_plain : (version : Version) (fields : List Field) (ns : List ℕ) (words : List (List ℕ)) → AllWrite version fields ns words → ArePlainWords words
+all_plain version [] [] [] h = tt
+all_plain version [] [] (word ∷ words) h = absurd h
+all_plain version [] (n ∷ ns) words h = absurd h
+all_plain version (field ∷ fields) [] words h = absurd h
+all_plain version (field ∷ fields) (n ∷ ns) [] h = absurd h
+all_plain version (field ∷ fields) (n ∷ ns) (word ∷ words) h = (h.0.plain, all_plain version fields ns words h.1)
 
 -- a test that passes for each field passes for all of them
-all_pass : (test : Field → List ℕ → Bool) → ((field : Field) (word : List ℕ) → Writes field word → test field word ≡ true) → (fields : List Field) (words : List (List ℕ)) → AllWrite fields words → all_fields test fields words ≡ true
-all_pass test each [] [] h = refl
-all_pass test each [] (word ∷ words) h = absurd h
-all_pass test each (field ∷ fields) [] h = absurd h
-all_pass test each (field ∷ fields) (word ∷ words) h = and_from (test field word) (all_fields test fields words) (each field word h.0) (all_pass test each fields words h.1)
+all_pass : (version : Version) (test : Field → List ℕ → Bool) → ((field : Field) (n : ℕ) (word : List ℕ) → Writes version field n word → test field word ≡ true)
+    → (fields : List Field) (ns : List ℕ) (words : List (List ℕ)) → AllWrite version fields ns words → all_fields test fields words ≡ true
+all_pass version test each [] [] [] h = refl
+all_pass version test each [] [] (word ∷ words) h = absurd h
+all_pass version test each [] (n ∷ ns) words h = absurd h
+all_pass version test each (field ∷ fields) [] words h = absurd h
+all_pass version test each (field ∷ fields) (n ∷ ns) [] h = absurd h
+all_pass version test each (field ∷ fields) (n ∷ ns) (word ∷ words) h =
+    and_from (test field word) (all_fields test fields words) (each field n word h.0) (all_pass version test each fields ns words h.1)
 
-ordered_values : (a b : ℕ) → a ≤ b → Is64 b → nat_le (digits_value 10 (decimal a)) (digits_value 10 (decimal b)) ≡ true
-ordered_values a b h fits =
-    let small : Is64 a = omega arith in
-    (λ i. nat_le (value a small i) (value b fits i)) ∙ le-leb a b h
+-- numbers in their fields
+abbrev with_numbers : List Field → List ℕ → Values → Values
+with_numbers [] ns v = v
+with_numbers (field ∷ fields) [] v = v
+with_numbers (field ∷ fields) (n ∷ ns) v = with_numbers fields ns (with_value field n v)
+
+-- what words say is the numbers that they write
+with_values-written : (version : Version) (fields : List Field) (ns : List ℕ) (words : List (List ℕ)) (v : Values) → AllWrite version fields ns words
+    → with_values version fields words v ≡ with_numbers fields ns v
+with_values-written version [] [] [] v h = refl
+with_values-written version [] [] (word ∷ words) v h = absurd h
+with_values-written version [] (n ∷ ns) words v h = absurd h
+with_values-written version (field ∷ fields) [] words v h = absurd h
+with_values-written version (field ∷ fields) (n ∷ ns) [] v h = absurd h
+with_values-written version (field ∷ fields) (n ∷ ns) (word ∷ words) v h =
+    ap (λ m. with_values version fields words (with_value field m v)) h.0.said ∙ with_values-written version fields ns words (with_value field n v) h.1
 
 -- ---- lines
 
 -- a line of plain words is parsed by its words
-parse-spaced : (word : List ℕ) (more : List (List ℕ)) → ArePlainWords (word ∷ more) → length more ≤ 10 → starts_with nat_eq word (35 ∷ []) ≡ false → parse (spaced_words (word ∷ more)) ≡ parse_verb (verb_of word) more
-parse-spaced word more plain few begins =
+parse-spaced : (version : Version) (word : List ℕ) (more : List (List ℕ)) → ArePlainWords (word ∷ more) → length more ≤ 10 → starts_with nat_eq word (35 ∷ []) ≡ false
+    → parse version (spaced_words (word ∷ more)) ≡ parse_verb version (verb_of word) more
+parse-spaced version word more plain few begins =
     let line = spaced_words (word ∷ more) in
     let last : nat_eq (get_or line (length line - 1) 0) 13 ≡ false = not_return _ (last_of_spaced word more plain) in
     let kept : without_return line ≡ line = ap (λ b. cond b (take (length line - 1) line) line) last in
     let short : ltb longest_line (length line) ≡ false = le-ltb longest_line (length line) (omega (arith, length-spaced (word ∷ more) plain)) in
-    ap parse_text kept
-    ∙ ap (λ b. cond b (Err faults.Line) (parse_words line (words line))) short
-    ∙ ap (parse_words line) (words-spaced word more plain)
-    ∙ ap (λ b. cond b (Ok None) (cond (not (list_all is_printable line)) (Err faults.Line) (parse_verb (verb_of word) more))) begins
-    ∙ ap (λ b. cond (not b) (Err faults.Line) (parse_verb (verb_of word) more)) (spaced_printable (word ∷ more) plain)
+    ap (parse_text version) kept
+    ∙ ap (λ b. cond b (Err faults.Line) (parse_words version line (words line))) short
+    ∙ ap (parse_words version line) (words-spaced word more plain)
+    ∙ ap (λ b. cond b (Ok None) (cond (not (list_all is_printable line)) (Err faults.Line) (parse_verb version (verb_of word) more))) begins
+    ∙ ap (λ b. cond (not b) (Err faults.Line) (parse_verb version (verb_of word) more)) (spaced_printable (word ∷ more) plain)
   where
     not_return : (byte : ℕ) → is_plain byte ≡ true → nat_eq byte 13 ≡ false
     not_return byte h = grind (arith, nat_tests)
@@ -145,130 +221,156 @@ begins : (verb : forms.Verb) (word : List ℕ) → is_filled word ≡ true → l
 begins verb word filled plain short no_comment known = record { plain = record { filled = filled; plain = plain; short = short }; no_comment = no_comment; known = known }
 
 -- The words of a form without indexes are read as its command.
-says : (verb : forms.Verb) (word name : List ℕ) (more : List (List ℕ)) (command : Command) → IsCommandWord verb word → is_name name ≡ true → AllWrite (form verb).fields more → length more ≤ 9
-    → has_words (form verb) more ≡ true → is_ordered (form verb).order (with_values (form verb).fields more (named name)).places ≡ true → (form verb).has_indexes ≡ false
-    → command_of verb (with_values (form verb).fields more (named name)) ≡ command
-    → parse (spaced_words (word ∷ name ∷ more)) ≡ Ok (Some command)
-says verb word name more command front h write few many ordered free is =
+says : (version : Version) (verb : forms.Verb) (word name : List ℕ) (ns : List ℕ) (more : List (List ℕ)) (command : Command) → IsCommandWord verb word → is_name name ≡ true
+    → AllWrite version (form verb).fields ns more → length more ≤ 9
+    → has_words (form verb) more ≡ true → is_ordered (form verb).order (with_numbers (form verb).fields ns (named name)).places ≡ true
+    → (form verb).has_name ≡ true → (form verb).has_indexes ≡ false
+    → command_of verb (with_numbers (form verb).fields ns (named name)) ≡ command
+    → parse version (spaced_words (word ∷ name ∷ more)) ≡ Ok (Some command)
+says version verb word name ns more command front h write few many ordered called free is =
     let f = form verb in
-    let read : parse_fields verb f name more ≡ Ok (Some (command_of verb (with_values f.fields more (named name)))) =
-    rw (many, h, all_pass is_digits (λ _ _ w. w.written) f.fields more write, all_pass is_in_range (λ _ _ w. w.within) f.fields more write, ordered, free) refl in
-    parse-spaced word (name ∷ more) (front.plain, (name_word name h, all_plain f.fields more write)) (omega arith) front.no_comment
-    ∙ ap (λ v. parse_verb v (name ∷ more)) front.known
+    let same = with_values-written version f.fields ns more (named name) write in
+    let digits = all_pass version (is_digits version) (λ _ _ _ w. w.written) f.fields ns more write in
+    let ranged = all_pass version (is_in_range version) (λ _ _ _ w. w.within) f.fields ns more write in
+    let inorder : is_ordered f.order (with_values version f.fields more (named name)).places ≡ true = ap (λ (v : Values). is_ordered f.order v.places) same ∙ ordered in
+    let read : parse_fields version verb f name more ≡ Ok (Some (command_of verb (with_values version f.fields more (named name)))) =
+    rw (many, called, h, digits, ranged, inorder, free) refl in
+    parse-spaced version word (name ∷ more) (front.plain, (name_word name h, all_plain version f.fields ns more write)) (omega arith) front.no_comment
+    ∙ ap (λ v. parse_verb version v (name ∷ more)) front.known
+    ∙ ap (λ b. cond b (parse_fields version verb f name more) (parse_fields version verb f [] (name ∷ more))) called
     ∙ read
+    ∙ ap (λ (v : Values). Ok (Some (command_of verb v))) same
     ∙ ap (λ c. Ok (Some c)) is
 
 -- ---- one form after the other
 
-abbrev Says : Command → Type 0
-Says command = parse (command_line command) ≡ Ok (Some command)
+abbrev Says : Version → Command → Type 0
+Says version command = parse version (command_line version command) ≡ Ok (Some command)
 
-says_point : (name : List ℕ) (id x y w : ℕ) → is_name name ≡ true → id ≤ greatest_id → IsCoordinate x → IsCoordinate y → IsCoordinate w → Says (Add name id (Point x y w))
-unfolding form verbs command_of
-says_point name id x y w named hid hx hy hw =
-    says forms.Add (codes "add") name (decimal id ∷ decimal x ∷ decimal y ∷ decimal w ∷ []) (Add name id (Point x y w)) (begins forms.Add (codes "add") refl refl (omega arith) refl refl)
-    named (an_id id hid, (a_coordinate x hx, (a_coordinate y hy, (a_coordinate w hw, tt)))) (omega arith) refl refl refl (λ i. Add name (value id (fits_id id hid) i) (Point (value x (fits_coordinate x hx) i) (value y (fits_coordinate y hy) i) (value w (fits_coordinate w hw) i)))
+-- the end of a lower one, where the upper one is within the limits
+lower : (version : Version) (lo hi : ℕ) → lo ≤ hi → IsCoordinate version hi → IsCoordinate version lo
+lower version lo hi ordered h = omega (arith, h)
 
-says_segment : (name : List ℕ) (id lo hi y : ℕ) → is_name name ≡ true → lo ≤ hi → id ≤ greatest_id → IsCoordinate hi → IsCoordinate y → Says (Add name id (Segment lo hi y))
+says_livemap : (version chosen : Version) → Says version (Livemap chosen)
 unfolding form verbs command_of
-says_segment name id lo hi y named ordered hid hhi hy =
-    let hlo : IsCoordinate lo = omega arith in
-    says forms.Seg (codes "seg") name (decimal id ∷ decimal lo ∷ decimal hi ∷ decimal y ∷ []) (Add name id (Segment lo hi y)) (begins forms.Seg (codes "seg") refl refl (omega arith) refl refl)
-    named (an_id id hid, (a_coordinate lo hlo, (a_coordinate hi hhi, (a_coordinate y hy, tt)))) (omega arith) refl (ordered_values lo hi ordered (fits_coordinate hi hhi)) refl (λ i. Add name (value id (fits_id id hid) i) (Segment (value lo (fits_coordinate lo hlo) i) (value hi (fits_coordinate hi hhi) i) (value y (fits_coordinate y hy) i)))
+says_livemap One One = refl
+says_livemap One Two = refl
+says_livemap Two One = refl
+says_livemap Two Two = refl
 
-says_drop : (name : List ℕ) (id : ℕ) → is_name name ≡ true → id ≤ greatest_id → Says (Drop name id)
+says_point : (version : Version) (name : List ℕ) (id x y w : ℕ) → is_name name ≡ true → id ≤ greatest_id → IsCoordinate version x → IsCoordinate version y → IsWeight w → Says version (Add name id (Point x y w))
 unfolding form verbs command_of
-says_drop name id named hid =
-    says forms.Drop (codes "drop") name (decimal id ∷ []) (Drop name id) (begins forms.Drop (codes "drop") refl refl (omega arith) refl refl)
-    named (an_id id hid, tt) (omega arith) refl refl refl (λ i. Drop name (value id (fits_id id hid) i))
+says_point version name id x y w named hid hx hy hw =
+    says version forms.Add (codes "add") name (id ∷ x ∷ y ∷ w ∷ []) (point_words version id x y w) (Add name id (Point x y w)) (begins forms.Add (codes "add") refl refl (omega arith) refl refl)
+    named (an_id version id hid, (a_coordinate version x hx, (a_coordinate version y hy, (a_weight version w hw, tt)))) (omega arith) refl refl refl refl refl
 
-says_near : (name : List ℕ) (x y : ℕ) → is_name name ≡ true → IsCoordinate x → IsCoordinate y → Says (Ask name (questions.Near x y))
+says_move : (version : Version) (name : List ℕ) (id x y w : ℕ) → is_name name ≡ true → id ≤ greatest_id → IsCoordinate version x → IsCoordinate version y → IsWeight w → Says version (Move name id x y w)
 unfolding form verbs command_of
-says_near name x y named hx hy =
-    says forms.Near (codes "near") name (decimal x ∷ decimal y ∷ []) (Ask name (questions.Near x y)) (begins forms.Near (codes "near") refl refl (omega arith) refl refl)
-    named (a_coordinate x hx, (a_coordinate y hy, tt)) (omega arith) refl refl refl (λ i. Ask name (questions.Near (value x (fits_coordinate x hx) i) (value y (fits_coordinate y hy) i)))
+says_move version name id x y w named hid hx hy hw =
+    says version forms.Move (codes "move") name (id ∷ x ∷ y ∷ w ∷ []) (point_words version id x y w) (Move name id x y w) (begins forms.Move (codes "move") refl refl (omega arith) refl refl)
+    named (an_id version id hid, (a_coordinate version x hx, (a_coordinate version y hy, (a_weight version w hw, tt)))) (omega arith) refl refl refl refl refl
 
-says_nearest : (name : List ℕ) (k x y : ℕ) → is_name name ≡ true → IsAmount k → IsCoordinate x → IsCoordinate y → Says (Ask name (questions.Nearest k x y))
+says_segment : (version : Version) (name : List ℕ) (id lo hi y : ℕ) → is_name name ≡ true → lo ≤ hi → id ≤ greatest_id → IsCoordinate version hi → IsCoordinate version y → Says version (Add name id (Segment lo hi y))
 unfolding form verbs command_of
-says_nearest name k x y named hk hx hy =
-    says forms.Nearest (codes "nearest") name (decimal k ∷ decimal x ∷ decimal y ∷ []) (Ask name (questions.Nearest k x y)) (begins forms.Nearest (codes "nearest") refl refl (omega arith) refl refl)
-    named (an_amount k hk, (a_coordinate x hx, (a_coordinate y hy, tt))) (omega arith) refl refl refl (λ i. Ask name (questions.Nearest (value k (fits_amount k hk) i) (value x (fits_coordinate x hx) i) (value y (fits_coordinate y hy) i)))
+says_segment version name id lo hi y named ordered hid hhi hy =
+    says version forms.Seg (codes "seg") name (id ∷ lo ∷ hi ∷ y ∷ []) (decimal id ∷ coordinate_text version lo ∷ coordinate_text version hi ∷ coordinate_text version y ∷ []) (Add name id (Segment lo hi y)) (begins forms.Seg (codes "seg") refl refl (omega arith) refl refl)
+    named (an_id version id hid, (a_coordinate version lo (lower version lo hi ordered hhi), (a_coordinate version hi hhi, (a_coordinate version y hy, tt)))) (omega arith) refl (le-leb lo hi ordered) refl refl refl
 
-says_above : (name : List ℕ) (x1 x2 y : ℕ) → is_name name ≡ true → x1 ≤ x2 → IsCoordinate x2 → IsCoordinate y → Says (Ask name (questions.Above x1 x2 y))
+says_drop : (version : Version) (name : List ℕ) (id : ℕ) → is_name name ≡ true → id ≤ greatest_id → Says version (Drop name id)
 unfolding form verbs command_of
-says_above name x1 x2 y named ordered hx2 hy =
-    let hx1 : IsCoordinate x1 = omega arith in
-    says forms.Above (codes "above") name (decimal x1 ∷ decimal x2 ∷ decimal y ∷ []) (Ask name (questions.Above x1 x2 y)) (begins forms.Above (codes "above") refl refl (omega arith) refl refl)
-    named (a_coordinate x1 hx1, (a_coordinate x2 hx2, (a_coordinate y hy, tt))) (omega arith) refl (ordered_values x1 x2 ordered (fits_coordinate x2 hx2)) refl (λ i. Ask name (questions.Above (value x1 (fits_coordinate x1 hx1) i) (value x2 (fits_coordinate x2 hx2) i) (value y (fits_coordinate y hy) i)))
+says_drop version name id named hid =
+    says version forms.Drop (codes "drop") name (id ∷ []) (decimal id ∷ []) (Drop name id) (begins forms.Drop (codes "drop") refl refl (omega arith) refl refl)
+    named (an_id version id hid, tt) (omega arith) refl refl refl refl refl
 
-says_top : (name : List ℕ) (x1 x2 : ℕ) → is_name name ≡ true → x1 ≤ x2 → IsCoordinate x2 → Says (Ask name (questions.Top x1 x2))
+says_near : (version : Version) (name : List ℕ) (x y : ℕ) → is_name name ≡ true → IsCoordinate version x → IsCoordinate version y → Says version (Ask name (questions.Near x y))
 unfolding form verbs command_of
-says_top name x1 x2 named ordered hx2 =
-    let hx1 : IsCoordinate x1 = omega arith in
-    says forms.Top (codes "top") name (decimal x1 ∷ decimal x2 ∷ []) (Ask name (questions.Top x1 x2)) (begins forms.Top (codes "top") refl refl (omega arith) refl refl)
-    named (a_coordinate x1 hx1, (a_coordinate x2 hx2, tt)) (omega arith) refl (ordered_values x1 x2 ordered (fits_coordinate x2 hx2)) refl (λ i. Ask name (questions.Top (value x1 (fits_coordinate x1 hx1) i) (value x2 (fits_coordinate x2 hx2) i)))
+says_near version name x y named hx hy =
+    says version forms.Near (codes "near") name (x ∷ y ∷ []) (coordinate_text version x ∷ coordinate_text version y ∷ []) (Ask name (questions.Near x y)) (begins forms.Near (codes "near") refl refl (omega arith) refl refl)
+    named (a_coordinate version x hx, (a_coordinate version y hy, tt)) (omega arith) refl refl refl refl refl
 
-says_stab : (name : List ℕ) (x : ℕ) → is_name name ≡ true → IsCoordinate x → Says (Ask name (questions.Stab x))
+says_nearest : (version : Version) (name : List ℕ) (k x y : ℕ) → is_name name ≡ true → IsAmount k → IsCoordinate version x → IsCoordinate version y → Says version (Ask name (questions.Nearest k x y))
 unfolding form verbs command_of
-says_stab name x named hx =
-    says forms.Stab (codes "stab") name (decimal x ∷ []) (Ask name (questions.Stab x)) (begins forms.Stab (codes "stab") refl refl (omega arith) refl refl)
-    named (a_coordinate x hx, tt) (omega arith) refl refl refl (λ i. Ask name (questions.Stab (value x (fits_coordinate x hx) i)))
+says_nearest version name k x y named hk hx hy =
+    says version forms.Nearest (codes "nearest") name (k ∷ x ∷ y ∷ []) (decimal k ∷ coordinate_text version x ∷ coordinate_text version y ∷ []) (Ask name (questions.Nearest k x y)) (begins forms.Nearest (codes "nearest") refl refl (omega arith) refl refl)
+    named (an_amount version k hk, (a_coordinate version x hx, (a_coordinate version y hy, tt))) (omega arith) refl refl refl refl refl
 
-says_stabcount : (name : List ℕ) (x : ℕ) → is_name name ≡ true → IsCoordinate x → Says (Ask name (questions.StabCount x))
+says_above : (version : Version) (name : List ℕ) (x1 x2 y : ℕ) → is_name name ≡ true → x1 ≤ x2 → IsCoordinate version x2 → IsCoordinate version y → Says version (Ask name (questions.Above x1 x2 y))
 unfolding form verbs command_of
-says_stabcount name x named hx =
-    says forms.StabCount (codes "stabcount") name (decimal x ∷ []) (Ask name (questions.StabCount x)) (begins forms.StabCount (codes "stabcount") refl refl (omega arith) refl refl)
-    named (a_coordinate x hx, tt) (omega arith) refl refl refl (λ i. Ask name (questions.StabCount (value x (fits_coordinate x hx) i)))
+says_above version name x1 x2 y named ordered hx2 hy =
+    says version forms.Above (codes "above") name (x1 ∷ x2 ∷ y ∷ []) (coordinate_text version x1 ∷ coordinate_text version x2 ∷ coordinate_text version y ∷ []) (Ask name (questions.Above x1 x2 y)) (begins forms.Above (codes "above") refl refl (omega arith) refl refl)
+    named (a_coordinate version x1 (lower version x1 x2 ordered hx2), (a_coordinate version x2 hx2, (a_coordinate version y hy, tt))) (omega arith) refl (le-leb x1 x2 ordered) refl refl refl
 
-says_get : (name : List ℕ) (id : ℕ) → is_name name ≡ true → id ≤ greatest_id → Says (Get name id)
+says_top : (version : Version) (name : List ℕ) (x1 x2 : ℕ) → is_name name ≡ true → x1 ≤ x2 → IsCoordinate version x2 → Says version (Ask name (questions.Top x1 x2))
 unfolding form verbs command_of
-says_get name id named hid =
-    says forms.Get (codes "get") name (decimal id ∷ []) (Get name id) (begins forms.Get (codes "get") refl refl (omega arith) refl refl)
-    named (an_id id hid, tt) (omega arith) refl refl refl (λ i. Get name (value id (fits_id id hid) i))
+says_top version name x1 x2 named ordered hx2 =
+    says version forms.Top (codes "top") name (x1 ∷ x2 ∷ []) (coordinate_text version x1 ∷ coordinate_text version x2 ∷ []) (Ask name (questions.Top x1 x2)) (begins forms.Top (codes "top") refl refl (omega arith) refl refl)
+    named (a_coordinate version x1 (lower version x1 x2 ordered hx2), (a_coordinate version x2 hx2, tt)) (omega arith) refl (le-leb x1 x2 ordered) refl refl refl
 
-says_size : (name : List ℕ) → is_name name ≡ true → Says (Size name)
+says_stab : (version : Version) (name : List ℕ) (x : ℕ) → is_name name ≡ true → IsCoordinate version x → Says version (Ask name (questions.Stab x))
 unfolding form verbs command_of
-says_size name named =
-    says forms.Size (codes "size") name ([]) (Size name) (begins forms.Size (codes "size") refl refl (omega arith) refl refl)
-    named tt (omega arith) refl refl refl refl
+says_stab version name x named hx =
+    says version forms.Stab (codes "stab") name (x ∷ []) (coordinate_text version x ∷ []) (Ask name (questions.Stab x)) (begins forms.Stab (codes "stab") refl refl (omega arith) refl refl)
+    named (a_coordinate version x hx, tt) (omega arith) refl refl refl refl refl
 
-says_recent : (name : List ℕ) (k : ℕ) → is_name name ≡ true → IsAmount k → Says (Recent name k)
+says_stabcount : (version : Version) (name : List ℕ) (x : ℕ) → is_name name ≡ true → IsCoordinate version x → Says version (Ask name (questions.StabCount x))
 unfolding form verbs command_of
-says_recent name k named hk =
-    says forms.Recent (codes "recent") name (decimal k ∷ []) (Recent name k) (begins forms.Recent (codes "recent") refl refl (omega arith) refl refl)
-    named (an_amount k hk, tt) (omega arith) refl refl refl (λ i. Recent name (value k (fits_amount k hk) i))
+says_stabcount version name x named hx =
+    says version forms.StabCount (codes "stabcount") name (x ∷ []) (coordinate_text version x ∷ []) (Ask name (questions.StabCount x)) (begins forms.StabCount (codes "stabcount") refl refl (omega arith) refl refl)
+    named (a_coordinate version x hx, tt) (omega arith) refl refl refl refl refl
+
+says_get : (version : Version) (name : List ℕ) (id : ℕ) → is_name name ≡ true → id ≤ greatest_id → Says version (Get name id)
+unfolding form verbs command_of
+says_get version name id named hid =
+    says version forms.Get (codes "get") name (id ∷ []) (decimal id ∷ []) (Get name id) (begins forms.Get (codes "get") refl refl (omega arith) refl refl)
+    named (an_id version id hid, tt) (omega arith) refl refl refl refl refl
+
+says_size : (version : Version) (name : List ℕ) → is_name name ≡ true → Says version (Size name)
+unfolding form verbs command_of
+says_size version name named =
+    says version forms.Size (codes "size") name ([]) ([]) (Size name) (begins forms.Size (codes "size") refl refl (omega arith) refl refl)
+    named tt (omega arith) refl refl refl refl refl
+
+says_recent : (version : Version) (name : List ℕ) (k : ℕ) → is_name name ≡ true → IsAmount k → Says version (Recent name k)
+unfolding form verbs command_of
+says_recent version name k named hk =
+    says version forms.Recent (codes "recent") name (k ∷ []) (decimal k ∷ []) (Recent name k) (begins forms.Recent (codes "recent") refl refl (omega arith) refl refl)
+    named (an_amount version k hk, tt) (omega arith) refl refl refl refl refl
 
 -- the three forms with a rectangle
-says_rect : (verb : forms.Verb) (word name : List ℕ) (rect : Rect) (command : Command) → IsCommandWord verb word → is_name name ≡ true → IsRect rect → form verb ≡ forms.row word forms.corner_fields forms.Corners
+says_rect : (version : Version) (verb : forms.Verb) (word name : List ℕ) (rect : Rect) (command : Command) → IsCommandWord verb word → is_name name ≡ true → IsRect version rect
+    → form verb ≡ forms.row word forms.corner_fields forms.Corners
     → command_of verb (record (named name) { places = rect.x1 ∷ rect.y1 ∷ rect.x2 ∷ rect.y2 ∷ [] }) ≡ command
-    → parse (spaced_words (word ∷ name ∷ rect_words rect)) ≡ Ok (Some command)
-says_rect verb word name rect command front h inside row is =
-    let h1 : IsCoordinate rect.x1 = omega (arith, inside.0, inside.2) in
-    let h2 : IsCoordinate rect.y1 = omega (arith, inside.1, inside.3) in
-    let more = rect_words rect in
-    let write : AllWrite forms.corner_fields more = (a_coordinate rect.x1 h1, (a_coordinate rect.y1 h2, (a_coordinate rect.x2 inside.2, (a_coordinate rect.y2 inside.3, tt)))) in
-    let corners : is_ordered forms.Corners (with_values forms.corner_fields more (named name)).places ≡ true =
-    and_from _ _ (ordered_values rect.x1 rect.x2 inside.0 (fits_coordinate rect.x2 inside.2)) (ordered_values rect.y1 rect.y2 inside.1 (fits_coordinate rect.y2 inside.3)) in
-    says verb word name more command front h
-    (subst (λ f. AllWrite f.fields more) (sym row) write) (omega arith)
-    (ap (λ f. has_words f more) row)
-    (ap (λ f. is_ordered f.order (with_values f.fields more (named name)).places) row ∙ corners)
-    (ap (λ f. f.has_indexes) row)
-    (ap (λ f. command_of verb (with_values f.fields more (named name))) row
-    ∙ (λ i. command_of verb (record (named name) { places = value rect.x1 (fits_coordinate rect.x1 h1) i ∷ value rect.y1 (fits_coordinate rect.y1 h2) i ∷ value rect.x2 (fits_coordinate rect.x2 inside.2) i ∷ value rect.y2 (fits_coordinate rect.y2 inside.3) i ∷ [] }))
-    ∙ is)
+    → parse version (spaced_words (word ∷ name ∷ rect_words version rect)) ≡ Ok (Some command)
+says_rect version verb word name rect command front h inside row is =
+    let more = rect_words version rect in
+    let ns = rect.x1 ∷ rect.y1 ∷ rect.x2 ∷ rect.y2 ∷ [] in
+    let write : AllWrite version forms.corner_fields ns more = (
+      a_coordinate version rect.x1 (lower version rect.x1 rect.x2 inside.0 inside.2),
+      (a_coordinate version rect.y1 (lower version rect.y1 rect.y2 inside.1 inside.3), (a_coordinate version rect.x2 inside.2, (a_coordinate version rect.y2 inside.3, tt))),
+    ) in
+    let corners : is_ordered forms.Corners ns ≡ true = and_from _ _ (le-leb rect.x1 rect.x2 inside.0) (le-leb rect.y1 rect.y2 inside.1) in
+    says version verb word name ns more command front h
+    (subst (λ (f : Form). AllWrite version f.fields ns more) (sym row) write) (omega arith)
+    (ap (λ (f : Form). has_words f more) row)
+    (ap (λ (f : Form). is_ordered f.order (with_numbers f.fields ns (named name)).places) row ∙ corners)
+    (ap (λ (f : Form). f.has_name) row)
+    (ap (λ (f : Form). f.has_indexes) row)
+    (ap (λ (f : Form). command_of verb (with_numbers f.fields ns (named name))) row ∙ is)
 
-says_count : (name : List ℕ) (rect : Rect) → is_name name ≡ true → IsRect rect → Says (Ask name (questions.CountIn rect))
+says_count : (version : Version) (name : List ℕ) (rect : Rect) → is_name name ≡ true → IsRect version rect → Says version (Ask name (questions.CountIn rect))
 unfolding form verbs command_of
-says_count name rect named inside = says_rect forms.Count (codes "count") name rect (Ask name (questions.CountIn rect)) (begins forms.Count (codes "count") refl refl (omega arith) refl refl) named inside refl refl
+says_count version name rect named inside =
+    says_rect version forms.Count (codes "count") name rect (Ask name (questions.CountIn rect)) (begins forms.Count (codes "count") refl refl (omega arith) refl refl) named inside refl refl
 
-says_sum : (name : List ℕ) (rect : Rect) → is_name name ≡ true → IsRect rect → Says (Ask name (questions.SumIn rect))
+says_sum : (version : Version) (name : List ℕ) (rect : Rect) → is_name name ≡ true → IsRect version rect → Says version (Ask name (questions.SumIn rect))
 unfolding form verbs command_of
-says_sum name rect named inside = says_rect forms.Sum (codes "sum") name rect (Ask name (questions.SumIn rect)) (begins forms.Sum (codes "sum") refl refl (omega arith) refl refl) named inside refl refl
+says_sum version name rect named inside =
+    says_rect version forms.Sum (codes "sum") name rect (Ask name (questions.SumIn rect)) (begins forms.Sum (codes "sum") refl refl (omega arith) refl refl) named inside refl refl
 
-says_list : (name : List ℕ) (rect : Rect) → is_name name ≡ true → IsRect rect → Says (Ask name (questions.ListIn rect))
+says_list : (version : Version) (name : List ℕ) (rect : Rect) → is_name name ≡ true → IsRect version rect → Says version (Ask name (questions.ListIn rect))
 unfolding form verbs command_of
-says_list name rect named inside = says_rect forms.ListIds (codes "list") name rect (Ask name (questions.ListIn rect)) (begins forms.ListIds (codes "list") refl refl (omega arith) refl refl) named inside refl refl
+says_list version name rect named inside =
+    says_rect version forms.ListIds (codes "list") name rect (Ask name (questions.ListIn rect)) (begins forms.ListIds (codes "list") refl refl (omega arith) refl refl) named inside refl refl
 
 -- ---- layers
 
@@ -334,41 +436,43 @@ few_indexes s =
     omega (arith, few_words s.range (codes "range"), few_words s.near (codes "near"), few_words s.top (codes "top"), few_words s.stab (codes "stab"), length-append ((a ++ b) ++ c) d, length-append (a ++ b) c, length-append a b)
 
 -- a kind and some words behind the name of a layer
-layer_fields : (name : List ℕ) (kind : Kind) (words : List (List ℕ)) → is_name name ≡ true → 1 ≤ length words
-    → parse_fields forms.Layer (form forms.Layer) name (kind_word kind ∷ words) ≡ parse_indexes forms.Layer (named name) kind words
+layer_fields : (version : Version) (name : List ℕ) (kind : Kind) (words : List (List ℕ)) → is_name name ≡ true → 1 ≤ length words
+    → parse_fields version forms.Layer (form forms.Layer) name (kind_word kind ∷ words) ≡ parse_indexes forms.Layer (named name) kind words
 unfolding form
-layer_fields name Points words h some = rw (le-leb 2 (suc (length words)) (omega arith), h) refl
-layer_fields name Segments words h some = rw (le-leb 2 (suc (length words)) (omega arith), h) refl
+layer_fields version name Points words h some = rw (le-leb 2 (suc (length words)) (omega arith), h) refl
+layer_fields version name Segments words h some = rw (le-leb 2 (suc (length words)) (omega arith), h) refl
 
-says_layer : (name : List ℕ) (kind : Kind) (s : IndexSet) → is_name name ≡ true → fits kind s ≡ true → Says (MakeLayer name kind s)
+says_layer : (version : Version) (name : List ℕ) (kind : Kind) (s : IndexSet) → is_name name ≡ true → fits kind s ≡ true → Says version (MakeLayer name kind s)
 unfolding form verbs
-says_layer name kind s h fitting =
+says_layer version name kind s h fitting =
     let read = indexes_read kind s (named name) fitting in
-    parse-spaced (codes "layer") (name ∷ kind_word kind ∷ index_words s)
+    parse-spaced version (codes "layer") (name ∷ kind_word kind ∷ index_words s)
     (known_word (codes "layer") refl refl (omega arith), (name_word name h, layer_words_plain kind s))
     (omega (arith, few_indexes s)) refl
-    ∙ layer_fields name kind (index_words s) h read.some
+    ∙ layer_fields version name kind (index_words s) h read.some
     ∙ read.read
 
 -- ---- every command
 
-says_question : (name : List ℕ) (question : questions.Question) → is_name name ≡ true → IsQuestion question → Says (Ask name question)
-says_question name (questions.CountIn rect) named h = says_count name rect named h
-says_question name (questions.SumIn rect) named h = says_sum name rect named h
-says_question name (questions.ListIn rect) named h = says_list name rect named h
-says_question name (questions.Near x y) named h = says_near name x y named h.0 h.1
-says_question name (questions.Nearest k x y) named h = says_nearest name k x y named h.0 h.1 h.2
-says_question name (questions.Above x1 x2 y) named h = says_above name x1 x2 y named h.0 h.1 h.2
-says_question name (questions.Top x1 x2) named h = says_top name x1 x2 named h.0 h.1
-says_question name (questions.Stab x) named h = says_stab name x named h
-says_question name (questions.StabCount x) named h = says_stabcount name x named h
+says_question : (version : Version) (name : List ℕ) (question : questions.Question) → is_name name ≡ true → IsQuestion version question → Says version (Ask name question)
+says_question version name (questions.CountIn rect) named h = says_count version name rect named h
+says_question version name (questions.SumIn rect) named h = says_sum version name rect named h
+says_question version name (questions.ListIn rect) named h = says_list version name rect named h
+says_question version name (questions.Near x y) named h = says_near version name x y named h.0 h.1
+says_question version name (questions.Nearest k x y) named h = says_nearest version name k x y named h.0 h.1 h.2
+says_question version name (questions.Above x1 x2 y) named h = says_above version name x1 x2 y named h.0 h.1 h.2
+says_question version name (questions.Top x1 x2) named h = says_top version name x1 x2 named h.0 h.1
+says_question version name (questions.Stab x) named h = says_stab version name x named h
+says_question version name (questions.StabCount x) named h = says_stabcount version name x named h
 
-pub parse-command_line : (command : Command) → IsCommand command → Says command
-parse-command_line (MakeLayer name kind indexes) h = says_layer name kind indexes h.named h.in_limits
-parse-command_line (Add name id (Point x y w)) h = says_point name id x y w h.named h.in_limits.0 h.in_limits.1.0 h.in_limits.1.1 h.in_limits.1.2
-parse-command_line (Add name id (Segment lo hi y)) h = says_segment name id lo hi y h.named h.in_limits.1.0 h.in_limits.0 h.in_limits.1.1 h.in_limits.1.2
-parse-command_line (Drop name id) h = says_drop name id h.named h.in_limits
-parse-command_line (Ask name question) h = says_question name question h.named h.in_limits
-parse-command_line (Get name id) h = says_get name id h.named h.in_limits
-parse-command_line (Size name) h = says_size name h.named
-parse-command_line (Recent name k) h = says_recent name k h.named h.in_limits
+pub parse-command_line : (version : Version) (command : Command) → IsCommand version command → Says version command
+parse-command_line version (Livemap chosen) h = says_livemap version chosen
+parse-command_line version (MakeLayer name kind indexes) h = says_layer version name kind indexes h.named h.in_limits
+parse-command_line version (Add name id (Point x y w)) h = says_point version name id x y w h.named h.in_limits.0 h.in_limits.1.0 h.in_limits.1.1 h.in_limits.1.2
+parse-command_line version (Add name id (Segment lo hi y)) h = says_segment version name id lo hi y h.named h.in_limits.1.0 h.in_limits.0 h.in_limits.1.1 h.in_limits.1.2
+parse-command_line version (Move name id x y w) h = says_move version name id x y w h.named h.in_limits.0 h.in_limits.1.0 h.in_limits.1.1 h.in_limits.1.2
+parse-command_line version (Drop name id) h = says_drop version name id h.named h.in_limits
+parse-command_line version (Ask name question) h = says_question version name question h.named h.in_limits
+parse-command_line version (Get name id) h = says_get version name id h.named h.in_limits
+parse-command_line version (Size name) h = says_size version name h.named
+parse-command_line version (Recent name k) h = says_recent version name k h.named h.in_limits

@@ -1,5 +1,5 @@
 -- What a command cost, as its reply may tell: turns and marks of an update, parts and touches of a question.
-use Rattle.std.specs.Prelude.{◌≡◌, ℕ, zero, suc, ◌+◌, ◌*◌, ◌/◌, ◌^◌, ◌<◌, ◌≤◌, ⊤, Bool, true, List, [], ◌∷◌, ◌++◌, codes, decimal, nat_lt, if◌then◌else◌}
+use Rattle.std.specs.Prelude.{◌≡◌, ℕ, zero, suc, ◌+◌, ◌*◌, ◌/◌, ◌^◌, ◌<◌, ◌≤◌, ⊤, Bool, true, false, List, [], ◌∷◌, ◌++◌, codes, decimal, nat_lt, if◌then◌else◌}
 use Rattle.map_model.specs.Index.{index_count}
 use Rattle.map_model.specs.State.{Layer, live_count}
 
@@ -64,38 +64,72 @@ marks_up_to level = 18 * level + 6
 abbrev pub parts_up_to : ℕ → ℕ
 parts_up_to level = 3 * (level + 1)
 
+-- turns of a move in one index, up to a level: it is seven ticks where an update is six
+abbrev pub move_turns_up_to : ℕ → ℕ
+move_turns_up_to level = 14 * (level * level) + 126 * level + 56
+
+-- marks of a move in one index, up to a level
+abbrev pub move_marks_up_to : ℕ → ℕ
+move_marks_up_to level = 20 * level + 6
+
 -- the bounds in one index of a layer of n live items
 pub record Bounds : Type 0 where
   pub level : ℕ
   pub turns : ℕ
   pub marks : ℕ
+  pub move_turns : ℕ
+  pub move_marks : ℕ
   pub parts : ℕ
 
 -- the bounds in one index of a layer of n live items, by their greatest level
 abbrev pub bounds_at : ℕ → Bounds
 bounds_at n =
     let level = greatest_level n in
-    record { level = level; turns = turns_up_to level; marks = marks_up_to level; parts = parts_up_to level }
+    record { level = level; turns = turns_up_to level; marks = marks_up_to level; move_turns = move_turns_up_to level; move_marks = move_marks_up_to level; parts = parts_up_to level }
+
+-- what an update does with an item
+pub data Update : Type 0 where
+  Adds : Update
+  Drops : Update
+  Moves : Update
+
+-- the most turns of an update in one index
+abbrev pub turns_of : Update → Bounds → ℕ
+turns_of Adds bounds = bounds.turns
+turns_of Drops bounds = bounds.turns
+turns_of Moves bounds = bounds.move_turns
+
+-- the most marks of an update in one index
+abbrev pub marks_of : Update → Bounds → ℕ
+marks_of Adds bounds = bounds.marks
+marks_of Drops bounds = bounds.marks
+marks_of Moves bounds = bounds.move_marks
+
+-- an item comes in, so that some turns are taken in each index
+abbrev pub brings : Update → Bool
+brings Adds = true
+brings Drops = false
+brings Moves = true
 
 -- the most turns of an update of a layer: it goes to each index
-abbrev pub turn_bound : Layer → ℕ
-turn_bound layer = index_count layer.indexes * (bounds_at (live_count layer)).turns
+abbrev pub turn_bound : Update → Layer → ℕ
+turn_bound update layer = index_count layer.indexes * turns_of update (bounds_at (live_count layer))
 
 -- the most marks of an update of a layer
-abbrev pub mark_bound : Layer → ℕ
-mark_bound layer = index_count layer.indexes * (bounds_at (live_count layer)).marks
+abbrev pub mark_bound : Update → Layer → ℕ
+mark_bound update layer = index_count layer.indexes * marks_of update (bounds_at (live_count layer))
 
 -- the most parts that a question to a layer asks: they are of one index
 abbrev pub part_bound : Layer → ℕ
 part_bound layer = (bounds_at (live_count layer)).parts
 
--- what an update of a layer may have spent; an add takes at least three turns an index
-pub record IsSpent (layer : Layer) (adds : Bool) (spent : Spent) : Type 0 where
-  pub turn_bound_told : spent.turn_bound ≡ turn_bound layer
-  pub mark_bound_told : spent.mark_bound ≡ mark_bound layer
+-- what an update of a layer may have spent; an add or a move takes at least three turns an index
+pub record IsSpent (layer : Layer) (update : Update) (spent : Spent) : Type 0 where
+  pub turn_bound_told : spent.turn_bound ≡ turn_bound update layer
+  pub mark_bound_told : spent.mark_bound ≡ mark_bound update layer
   pub turns_bounded : spent.turns ≤ spent.turn_bound
   pub marks_bounded : spent.marks ≤ spent.mark_bound
-  pub add_takes_turns : adds ≡ true → 3 * index_count layer.indexes ≤ spent.turns
+  pub takes_turns : brings update ≡ true → 3 * index_count layer.indexes ≤ spent.turns
 
 -- what a question to a layer may have asked; where the layer has items, at least one part
 pub record IsAsked (layer : Layer) (asked : QuestionCost) : Type 0 where

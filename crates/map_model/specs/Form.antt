@@ -2,18 +2,23 @@
 -- in order.
 use Rattle.std.specs.Prelude.{ℕ, Bool, true, false, ◌&&◌, List, [], ◌∷◌, Option, codes, bytes_eq, nat_le, slice_index}
 use Rattle.std.specs.List.{find}
-use Rattle.map_model.specs.Words.{greatest_id, greatest_coordinate}
+use Rattle.map_model.specs.Words.{greatest_id, greatest_weight}
+use Rattle.map_model.specs.Version.{greatest_coordinate}
 
 -- what number stands in a word
 pub data Field : Type 0 where
   -- an identifier
   Id : Field
-  -- a coordinate or a weight
+  -- a coordinate, which may be below zero in version 2
   Coordinate : Field
+  -- a weight
+  Weight : Field
   -- how many are asked for
   Amount : Field
+  -- a version of the script
+  VersionNumber : Field
 
--- the least and the greatest number of a field
+-- the least and the greatest number of a field, where it has no `-`
 pub record Limits : Type 0 where
   pub least : ℕ
   pub greatest : ℕ
@@ -22,11 +27,13 @@ pub record Limits : Type 0 where
 abbrev pub greatest_amount : ℕ
 greatest_amount = 64
 
--- an identifier has 64 bits, a coordinate or a weight 31, and an amount is from 1 to 64
+-- an identifier has 64 bits, a coordinate without its sign and a weight 31, an amount is from 1 to 64, and a version 1 or 2
 abbrev pub limits_of : Field → Limits
 limits_of Id = record { least = 0; greatest = greatest_id }
 limits_of Coordinate = record { least = 0; greatest = greatest_coordinate }
+limits_of Weight = record { least = 0; greatest = greatest_weight }
 limits_of Amount = record { least = 1; greatest = greatest_amount }
+limits_of VersionNumber = record { least = 1; greatest = 2 }
 
 -- which coordinates are in order
 pub data Order : Type 0 where
@@ -43,9 +50,11 @@ is_ordered Free places = true
 is_ordered Ends places = nat_le (slice_index places 0) (slice_index places 1)
 is_ordered Corners places = nat_le (slice_index places 0) (slice_index places 2) && nat_le (slice_index places 1) (slice_index places 3)
 
--- a line's form: a command word, the name of a layer, numbers, and for a new layer its kind and indexes
+-- a line's form: a command word, mostly the name of a layer, numbers, and for a new layer its kind and indexes
 pub record Form : Type 0 where
   pub word : List ℕ
+  -- whether the name of a layer follows
+  pub has_name : Bool
   -- the numbers after the name
   pub fields : List Field
   -- whether a kind and one or more indexes follow
@@ -54,9 +63,11 @@ pub record Form : Type 0 where
 
 -- the command words, one a form
 pub data Verb : Type 0 where
+  Livemap : Verb
   Layer : Verb
   Add : Verb
   Seg : Verb
+  Move : Verb
   Drop : Verb
   Count : Verb
   Sum : Verb
@@ -71,19 +82,25 @@ pub data Verb : Type 0 where
   Size : Verb
   Recent : Verb
 
--- a form whose numbers are all
+-- a form of a name and numbers
 abbrev pub row : List ℕ → List Field → Order → Form
-row word fields order = record { word = word; fields = fields; has_indexes = false; order = order }
+row word fields order = record { word = word; has_name = true; fields = fields; has_indexes = false; order = order }
 
 -- the corners of a rectangle
 abbrev pub corner_fields : List Field
 corner_fields = Coordinate ∷ Coordinate ∷ Coordinate ∷ Coordinate ∷ []
 
+-- an identifier, a place and a weight
+abbrev pub point_fields : List Field
+point_fields = Id ∷ Coordinate ∷ Coordinate ∷ Weight ∷ []
+
 -- the table: each command word with the fields of the numbers after the name, and which of them are in order
 unfoldable pub form : Verb → Form
-form Layer = record { word = codes "layer"; fields = []; has_indexes = true; order = Free }
-form Add = row (codes "add") (Id ∷ Coordinate ∷ Coordinate ∷ Coordinate ∷ []) Free
+form Livemap = record { word = codes "livemap"; has_name = false; fields = VersionNumber ∷ []; has_indexes = false; order = Free }
+form Layer = record { word = codes "layer"; has_name = true; fields = []; has_indexes = true; order = Free }
+form Add = row (codes "add") point_fields Free
 form Seg = row (codes "seg") (Id ∷ Coordinate ∷ Coordinate ∷ Coordinate ∷ []) Ends
+form Move = row (codes "move") point_fields Free
 form Drop = row (codes "drop") (Id ∷ []) Free
 form Count = row (codes "count") corner_fields Corners
 form Sum = row (codes "sum") corner_fields Corners
@@ -100,7 +117,7 @@ form Recent = row (codes "recent") (Amount ∷ []) Free
 
 -- all command words
 unfoldable pub verbs : List Verb
-verbs = Layer ∷ Add ∷ Seg ∷ Drop ∷ Count ∷ Sum ∷ ListIds ∷ Near ∷ Nearest ∷ Above ∷ Top ∷ Stab ∷ StabCount ∷ Get ∷ Size ∷ Recent ∷ []
+verbs = Livemap ∷ Layer ∷ Add ∷ Seg ∷ Move ∷ Drop ∷ Count ∷ Sum ∷ ListIds ∷ Near ∷ Nearest ∷ Above ∷ Top ∷ Stab ∷ StabCount ∷ Get ∷ Size ∷ Recent ∷ []
 
 -- the verb of a command word
 abbrev pub verb_of : List ℕ → Option Verb

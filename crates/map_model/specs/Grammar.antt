@@ -1,17 +1,18 @@
--- What a line of bytes without its line feed says: nothing, a command, or the first fault that holds, step by step.
-use Rattle.std.specs.Prelude.{◌==◌, ℕ, ◌+◌, ◌-◌, Bool, true, ◌&&◌, ◌||◌, not, List, [], ◌∷◌, ◌++◌, length, take, drop, Option, Some, None, Result, Ok, Err, nat_le, nat_lt, slice_index, bytes_eq, codes, if◌then◌else◌}
+-- What a line of bytes without its line feed says in a version of the script: nothing, a command, or the first fault that holds, step by step.
+use Rattle.std.specs.Prelude.{◌==◌, ℕ, ◌+◌, ◌-◌, Bool, true, false, ◌&&◌, ◌||◌, not, List, [], ◌∷◌, ◌++◌, length, take, drop, Option, Some, None, Result, Ok, Err, nat_le, nat_lt, slice_index, bytes_eq, nat_eq, codes, if◌then◌else◌}
 use Rattle.std.specs.List.{list_all, list_any, starts_with}
 use Rattle.std.specs.Str.{all_ascii_digits}
 use Rattle.std.specs.Str.Parse.{digits_value}
+use Rattle.map_model.specs.Version.{Version, One, Two, negatives, kept}
 use Rattle.map_model.specs.Shape.{Rect}
 use Rattle.map_model.specs.Words.{words, is_filled, is_name, longest_line}
 use Rattle.map_model.specs.Shape.{Kind, Points, Segments, Point, Segment}
 use Rattle.map_model.specs.Index.{IndexSet, no_indexes}
 use Rattle.map_model.specs.Answer as questions
-use Rattle.map_model.specs.Command.{Command, MakeLayer, Add, Drop, Ask, Get, Size, Recent}
+use Rattle.map_model.specs.Command.{Command, Livemap, MakeLayer, Add, Move, Drop, Ask, Get, Size, Recent}
 use Rattle.map_model.specs.LineFault.{LineFault}
 use Rattle.map_model.specs.LineFault as faults
-use Rattle.map_model.specs.Form.{Field, Id, Coordinate, Amount, limits_of, Form, form, is_ordered, verb_of}
+use Rattle.map_model.specs.Form.{Field, Id, Coordinate, Weight, Amount, VersionNumber, limits_of, Form, form, is_ordered, verb_of}
 use Rattle.map_model.specs.Form as verbs
 
 -- ---- bytes
@@ -26,17 +27,46 @@ is_printable byte = (byte == 9) || (nat_le 32 byte && nat_le byte 126)
 
 -- ---- fields
 
--- one or more ASCII digits
-abbrev pub is_digits : Field → List ℕ → Bool
-is_digits field word = is_filled word && all_ascii_digits word
+-- the word begins with a `-`, and the field is one that may have it: a coordinate of version 2
+abbrev pub has_minus : Version → Field → List ℕ → Bool
+has_minus One field word = false
+has_minus Two Id word = false
+has_minus Two Coordinate word = starts_with nat_eq word (45 ∷ [])
+has_minus Two Weight word = false
+has_minus Two Amount word = false
+has_minus Two VersionNumber word = false
+
+-- the word without that `-`
+abbrev pub unsigned : Version → Field → List ℕ → List ℕ
+unsigned version field word = if has_minus version field word then drop 1 word else word
+
+-- one or more ASCII digits, after a `-` where one may stand
+abbrev pub is_digits : Version → Field → List ℕ → Bool
+is_digits version field word = is_filled (unsigned version field word) && all_ascii_digits (unsigned version field word)
 
 -- a number within the limits of its field
 abbrev pub is_within : Field → ℕ → Bool
 is_within field n = nat_le (limits_of field).least n && nat_le n (limits_of field).greatest
 
--- the number that a word's digits say is within the limits of its field
-abbrev pub is_in_range : Field → List ℕ → Bool
-is_in_range field word = is_within field (digits_value 10 word)
+-- the number that a word says is within the limits of its field, or at most 2 ^ 31 below zero
+abbrev pub is_in_range : Version → Field → List ℕ → Bool
+is_in_range version field word =
+    if has_minus version field word then nat_le (digits_value 10 (drop 1 word)) negatives
+    else is_within field (digits_value 10 word)
+
+-- what a number without `-` is kept as
+abbrev pub kept_in : Version → Field → ℕ → ℕ
+kept_in version Coordinate n = kept version n
+kept_in version Id n = n
+kept_in version Weight n = n
+kept_in version Amount n = n
+kept_in version VersionNumber n = n
+
+-- what the number that a word says is kept as
+abbrev pub number_of : Version → Field → List ℕ → ℕ
+number_of version field word =
+    if has_minus version field word then negatives - digits_value 10 (drop 1 word)
+    else kept_in version field (digits_value 10 word)
 
 -- a test passes for each field and the word that stands in it
 abbrev pub all_fields : (Field → List ℕ → Bool) → List Field → List (List ℕ) → Bool
@@ -52,6 +82,7 @@ has_words f words = if f.has_indexes then nat_le (length f.fields + 2) (length w
 
 -- what the words after the command word say
 pub record Values : Type 0 where
+  pub version : Version
   pub name : List ℕ
   pub id : ℕ
   -- coordinates and weights, in the order of the line
@@ -62,19 +93,25 @@ pub record Values : Type 0 where
 
 -- a name and nothing else
 abbrev pub named : List ℕ → Values
-named name = record { name = name; id = 0; places = []; amount = 0; kind = Points; indexes = no_indexes }
+named name = record { version = One; name = name; id = 0; places = []; amount = 0; kind = Points; indexes = no_indexes }
+
+-- the version of a number
+abbrev pub version_of : ℕ → Version
+version_of n = if n == 2 then Two else One
 
 -- the values, and a number in its field
 abbrev pub with_value : Field → ℕ → Values → Values
 with_value Id n v = record v { id = n }
 with_value Coordinate n v = record v { places = v.places ++ n ∷ [] }
+with_value Weight n v = record v { places = v.places ++ n ∷ [] }
 with_value Amount n v = record v { amount = n }
+with_value VersionNumber n v = record v { version = version_of n }
 
 -- the values, and those of the words in these fields
-abbrev pub with_values : List Field → List (List ℕ) → Values → Values
-with_values [] words v = v
-with_values (field ∷ fields) [] v = v
-with_values (field ∷ fields) (word ∷ words) v = with_values fields words (with_value field (digits_value 10 word) v)
+abbrev pub with_values : Version → List Field → List (List ℕ) → Values → Values
+with_values version [] words v = v
+with_values version (field ∷ fields) [] v = v
+with_values version (field ∷ fields) (word ∷ words) v = with_values version fields words (with_value field (number_of version field word) v)
 
 -- the place of a number in the order of the line
 abbrev pub place : Values → ℕ → ℕ
@@ -86,9 +123,11 @@ rect_of v = record { x1 = place v 0; y1 = place v 1; x2 = place v 2; y2 = place 
 
 -- the command of a verb with these values
 unfoldable pub command_of : verbs.Verb → Values → Command
+command_of verbs.Livemap v = Livemap v.version
 command_of verbs.Layer v = MakeLayer v.name v.kind v.indexes
 command_of verbs.Add v = Add v.name v.id (Point (place v 0) (place v 1) (place v 2))
 command_of verbs.Seg v = Add v.name v.id (Segment (place v 0) (place v 1) (place v 2))
+command_of verbs.Move v = Move v.name v.id (place v 0) (place v 1) (place v 2)
 command_of verbs.Drop v = Drop v.name v.id
 command_of verbs.Count v = Ask v.name (questions.CountIn (rect_of v))
 command_of verbs.Sum v = Ask v.name (questions.SumIn (rect_of v))
@@ -144,41 +183,45 @@ parse_kind verb v (word ∷ words) =
 -- ---- lines
 
 -- the name and the words after it, in the form of a verb: the first fault that holds
-abbrev pub parse_fields : verbs.Verb → Form → List ℕ → List (List ℕ) → Parsed
-parse_fields verb f name words =
+abbrev pub parse_fields : Version → verbs.Verb → Form → List ℕ → List (List ℕ) → Parsed
+parse_fields version verb f name words =
     if not (has_words f words) then Err faults.Fields
-    else (if not (is_name name) then Err faults.Name
-    else (if not (all_fields is_digits f.fields words) then Err faults.Number
-    else (if not (all_fields is_in_range f.fields words) then Err faults.Range
-    else (if not (is_ordered f.order (with_values f.fields words (named name)).places) then Err faults.Order
-    else (if f.has_indexes then parse_kind verb (with_values f.fields words (named name)) (drop (length f.fields) words)
-    else Ok (Some (command_of verb (with_values f.fields words (named name)))))))))
+    else (if f.has_name && not (is_name name) then Err faults.Name
+    else (if not (all_fields (is_digits version) f.fields words) then Err faults.Number
+    else (if not (all_fields (is_in_range version) f.fields words) then Err faults.Range
+    else (if not (is_ordered f.order (with_values version f.fields words (named name)).places) then Err faults.Order
+    else (if f.has_indexes then parse_kind verb (with_values version f.fields words (named name)) (drop (length f.fields) words)
+    else Ok (Some (command_of verb (with_values version f.fields words (named name)))))))))
+
+-- the words after the command word, in a form with a name: the first one is the name
+abbrev pub parse_named : Version → verbs.Verb → Form → List (List ℕ) → Parsed
+parse_named version verb f [] = Err faults.Fields
+parse_named version verb f (name ∷ words) = parse_fields version verb f name words
 
 -- the words after the command word
-abbrev pub parse_form : verbs.Verb → Form → List (List ℕ) → Parsed
-parse_form verb f [] = Err faults.Fields
-parse_form verb f (name ∷ words) = parse_fields verb f name words
+abbrev pub parse_form : Version → verbs.Verb → Form → List (List ℕ) → Parsed
+parse_form version verb f words = if f.has_name then parse_named version verb f words else parse_fields version verb f [] words
 
 -- the words after a command word that was looked up: Command where there is none
-abbrev pub parse_verb : Option verbs.Verb → List (List ℕ) → Parsed
-parse_verb None words = Err faults.Command
-parse_verb (Some verb) words = parse_form verb (form verb) words
+abbrev pub parse_verb : Version → Option verbs.Verb → List (List ℕ) → Parsed
+parse_verb version None words = Err faults.Command
+parse_verb version (Some verb) words = parse_form version verb (form verb) words
 
 -- a line with no word, or whose first word begins with `#`, says nothing, whatever other bytes it has
-abbrev pub parse_words : List ℕ → List (List ℕ) → Parsed
-parse_words line [] = Ok None
-parse_words line (word ∷ words) =
+abbrev pub parse_words : Version → List ℕ → List (List ℕ) → Parsed
+parse_words version line [] = Ok None
+parse_words version line (word ∷ words) =
     if starts_with (λ a b. a == b) word (35 ∷ []) then Ok None
     else (if not (list_all is_printable line) then Err faults.Line
-    else parse_verb (verb_of word) words)
+    else parse_verb version (verb_of word) words)
 
 -- a line whose carriage return is dropped: Line where it has more than 256 bytes
-abbrev pub parse_text : List ℕ → Parsed
-parse_text line = if nat_lt longest_line (length line) then Err faults.Line else parse_words line (words line)
+abbrev pub parse_text : Version → List ℕ → Parsed
+parse_text version line = if nat_lt longest_line (length line) then Err faults.Line else parse_words version line (words line)
 
--- What a line says. The first fault that holds is the answer, in this order: more than 256 bytes, one carriage return at the end not counted
+-- What a line says in a version of the script. The first fault that holds is the answer, in this order: more than 256 bytes, one carriage return at the end not counted
 -- (Line); a line without a word or of a comment says nothing; a byte that isn't printable (Line); no command word (Command); another number of
--- words than the form's (Fields); no name (Name); a number that isn't digits (Number), or past its limits (Range); coordinates out of order
+-- words than the form's (Fields); no name (Name); a number that isn't digits, after a `-` for a coordinate of version 2 (Number), or past its limits (Range); coordinates out of order
 -- (Order); no kind (Kind); an index that the kind doesn't take, or that comes twice (Index).
-abbrev pub parse : List ℕ → Parsed
-parse line = parse_text (without_return line)
+abbrev pub parse : Version → List ℕ → Parsed
+parse version line = parse_text version (without_return line)

@@ -1,3 +1,4 @@
+pub mod Version
 pub mod Shape
 pub mod Index
 pub mod State
@@ -15,6 +16,7 @@ pub mod Grammar
 pub mod Line
 pub mod Text
 pub mod Output
+pub mod Shift
 pub mod WorkedRows
 pub mod WorkedLines
 pub mod WorkedBounds

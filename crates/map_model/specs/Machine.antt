@@ -1,11 +1,12 @@
 -- The machine that scans a map of layers: one command, its reply and the map after it. The first refusal that holds is
 -- the reply, and the map then stays as it is.
 use Rattle.std.specs.Prelude.{ℕ, Bool, true, false, not, List, [], ◌∷◌, ◌++◌, length, nat_le, Option, Some, None, is_some, if◌then◌else◌}
-use Rattle.map_model.specs.Shape.{Kind, Points, Segments, Shape, kind_of}
+use Rattle.map_model.specs.Version as versions
+use Rattle.map_model.specs.Shape.{Kind, Points, Segments, Shape, Point, kind_of}
 use Rattle.map_model.specs.Index.{IndexSet, has}
-use Rattle.map_model.specs.State.{Layer, State, most_layers, most_items, live_count, is_live, shape_of, layer_named, with_items, with_item, without_item}
+use Rattle.map_model.specs.State.{Layer, State, most_layers, live_count, is_live, shape_of, layer_named, with_items, with_item, without_item}
 use Rattle.map_model.specs.Answer.{Question, answer_over, index_of, kind_asked, latest}
-use Rattle.map_model.specs.Command.{Command, MakeLayer, Add, Drop, Ask, Get, Size, Recent}
+use Rattle.map_model.specs.Command.{Command, Livemap, MakeLayer, Add, Move, Drop, Ask, Get, Size, Recent}
 use Rattle.map_model.specs.Refusal.{Refusal, Taken, NoRoom, NoLayer, Index, Duplicate, Unknown, Full}
 use Rattle.map_model.specs.Refusal as refusals
 use Rattle.map_model.specs.Reply.{Reply, Made, Updated, Answered, Got, Sized, Latest, Refused}
@@ -32,24 +33,38 @@ is_same_kind Segments Segments = true
 
 -- a layer has the name
 abbrev pub is_taken : List ℕ → State → Bool
-is_taken name state = is_some (layer_named name state)
+is_taken name state = is_some (layer_named name state.layers)
+
+-- the version of the lines that follow; Version where a layer stands
+abbrev pub choose_version : State → versions.Version → List Layer → Outcome
+choose_version state version [] = replied (record state { version = version }) Made
+choose_version state version (layer ∷ layers) = refused state refusals.Version
 
 -- an empty layer comes at the end; Taken where one has the name, then NoRoom where there are eight
 abbrev pub make_layer : State → List ℕ → Kind → IndexSet → Outcome
 make_layer state name kind indexes =
     if is_taken name state then refused state Taken
-    else (if nat_le most_layers (length state) then refused state NoRoom
-    else replied (state ++ record { name = name; kind = kind; indexes = indexes; items = [] } ∷ []) Made)
+    else (if nat_le most_layers (length state.layers) then refused state NoRoom
+    else replied (record state { layers = state.layers ++ record { name = name; kind = kind; indexes = indexes; items = [] } ∷ [] }) Made)
 
 -- the item comes at the end of its layer; NoLayer, then Kind where the shape is of the other kind, Duplicate where the identifier is live,
--- Full where the layer has 65,536 items
+-- Full where the layer has as many items as one may have
 abbrev pub add_to : State → List ℕ → ℕ → Shape → Option Layer → Outcome
 add_to state name id shape None = refused state NoLayer
 add_to state name id shape (Some layer) =
     if not (is_same_kind layer.kind (kind_of shape)) then refused state refusals.Kind
     else (if is_live id layer.items then refused state (Duplicate id)
-    else (if nat_le most_items (live_count layer) then refused state Full
+    else (if nat_le state.most_items (live_count layer) then refused state Full
     else replied (with_items name (with_item (record { id = id; shape = shape })) state) Updated))
+
+-- the point of an identifier goes to the end of its layer with this place and weight; NoLayer, then Kind where the layer has segments, Unknown
+-- where the identifier isn't live
+abbrev pub move_in : State → List ℕ → ℕ → Shape → Option Layer → Outcome
+move_in state name id shape None = refused state NoLayer
+move_in state name id shape (Some layer) =
+    if not (is_same_kind layer.kind (kind_of shape)) then refused state refusals.Kind
+    else (if is_live id layer.items then replied (with_items name (λ items. with_item (record { id = id; shape = shape }) (without_item id items)) state) Updated
+    else refused state (Unknown id))
 
 -- the item goes; NoLayer, then Unknown where the identifier isn't live
 abbrev pub drop_from : State → List ℕ → ℕ → Option Layer → Outcome
@@ -88,10 +103,12 @@ recent_of state k (Some layer) = replied state (Latest (latest k layer.items))
 
 -- What a command makes of a map, and its reply. The first refusal that holds is the reply, and the map then stays as it is.
 abbrev pub step : State → Command → Outcome
+step state (Livemap version) = choose_version state version state.layers
 step state (MakeLayer name kind indexes) = make_layer state name kind indexes
-step state (Add name id shape) = add_to state name id shape (layer_named name state)
-step state (Drop name id) = drop_from state name id (layer_named name state)
-step state (Ask name question) = ask_of state question (layer_named name state)
-step state (Get name id) = get_from state id (layer_named name state)
-step state (Size name) = size_of state (layer_named name state)
-step state (Recent name k) = recent_of state k (layer_named name state)
+step state (Add name id shape) = add_to state name id shape (layer_named name state.layers)
+step state (Move name id x y w) = move_in state name id (Point x y w) (layer_named name state.layers)
+step state (Drop name id) = drop_from state name id (layer_named name state.layers)
+step state (Ask name question) = ask_of state question (layer_named name state.layers)
+step state (Get name id) = get_from state id (layer_named name state.layers)
+step state (Size name) = size_of state (layer_named name state.layers)
+step state (Recent name k) = recent_of state k (layer_named name state.layers)

@@ -23,8 +23,10 @@ pub data Refusal : Type 0 where
   Duplicate : (id : ℕ) → Refusal
   -- the layer has no item of this identifier
   Unknown : (id : ℕ) → Refusal
-  -- the layer has 65,536 items already
+  -- the layer has as many items as one of this map may have
   Full : Refusal
+  -- a layer stands already, so that the version stays
+  Version : Refusal
   -- memory is lacking
   NoMemory : Refusal
 
@@ -45,6 +47,7 @@ refusal_text NoRoom = codes "no room"
 refusal_text (Duplicate id) = codes "no duplicate " ++ decimal id
 refusal_text (Unknown id) = codes "no unknown " ++ decimal id
 refusal_text Full = codes "no full"
+refusal_text Version = codes "no version"
 refusal_text NoMemory = codes "no memory"
 
 -- what a line with a fault is refused as

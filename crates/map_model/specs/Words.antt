@@ -34,9 +34,9 @@ is_name word = nat_le 1 (length word) && nat_le (length word) 16 && list_all is_
 abbrev pub is_number : ℕ → List ℕ → Bool
 is_number limit word = is_filled word && all_ascii_digits word && nat_le (digits_value 10 word) limit
 
--- the greatest coordinate or weight
-abbrev pub greatest_coordinate : ℕ
-greatest_coordinate = 2 ^ 31 - 1
+-- the greatest weight
+abbrev pub greatest_weight : ℕ
+greatest_weight = 2 ^ 31 - 1
 
 -- the greatest identifier
 abbrev pub greatest_id : ℕ

@@ -14,10 +14,13 @@
 
 ghost use Rattle.std.specs.Prelude.{◌≡◌, ℕ, ◌+◌, ◌*◌, ◌^◌, ◌<◌, ◌≤◌, Bool, true, false, List, [], ◌∷◌, ◌++◌, Ok, Some, None, Contains, codes, IsTrue, nat_eq};
 ghost use Rattle.std.specs.List.{starts_with};
+ghost use Rattle.map_model.specs.Answer.{Question, answer_over};
+ghost use Rattle.map_model.specs.Shift.{shifted_items, shifted_question, shifted_answer, shifted_found};
 ghost use Rattle.map_model.specs.Text.{lines, one_line};
-ghost use Rattle.map_model.specs.State.{Layer, State, HasDistinctKeys, empty_map};
+ghost use Rattle.map_model.specs.Version.{Version};
+ghost use Rattle.map_model.specs.State.{Item, Layer, State, HasDistinctKeys, empty_map_of, shape_of};
 ghost use Rattle.map_model.specs.Machine.{step};
-ghost use Rattle.map_model.specs.Cost.{Cost, Spent, QuestionCost, Updating, Asking, Fits64, IsSpent, IsAsked, greatest_level};
+ghost use Rattle.map_model.specs.Cost.{Cost, Update, Spent, QuestionCost, Updating, Asking, Fits64, IsSpent, IsAsked, greatest_level};
 ghost use Rattle.map_model.specs.Reply.{Reply, reply_text, reply_line, is_refusal};
 ghost use Rattle.map_model.specs.Command.{Command};
 ghost use Rattle.map_model.specs.Grammar.{parse};
@@ -72,7 +75,7 @@ pub fn without_refused_memory()
 /// In every map that a script leads to, no two layers have the same name, and no two items of a layer the same
 /// identifier.
 pub fn keys_are_distinct()
-    ensures empty { HasDistinctKeys empty_map }
+    ensures empty { (most : ℕ) → HasDistinctKeys (empty_map_of most) }
     ensures step { (state : State) (command : Command) → HasDistinctKeys state → HasDistinctKeys (step state command).state }
     ensures output { (ledger : Bool) (start end : State) (script : List (List ℕ)) (written : List ℕ) →
         Output ledger start script written end → HasDistinctKeys start → HasDistinctKeys end }
@@ -80,28 +83,36 @@ pub fn keys_are_distinct()
 
 /// A reply is one line, which begins with `no ` exactly where it is a refusal.
 pub fn replies_are_lines()
-    ensures one_line { (ledger : Bool) (reply : Reply) (cost : Cost) →
-        (text : List ℕ) × (reply_line ledger reply cost ≡ text ++ 10 ∷ []) × (one_line text ≡ true) }
-    ensures refusals { (reply : Reply) (rest : List ℕ) → starts_with nat_eq (reply_text reply ++ rest) (codes "no ") ≡ is_refusal reply }
+    ensures one_line { (version : Version) (ledger : Bool) (reply : Reply) (cost : Cost) →
+        (text : List ℕ) × (reply_line version ledger reply cost ≡ text ++ 10 ∷ []) × (one_line text ≡ true) }
+    ensures refusals { (version : Version) (reply : Reply) (rest : List ℕ) → starts_with nat_eq (reply_text version reply ++ rest) (codes "no ") ≡ is_refusal reply }
 {}
 
 /// With the ledger a reply's line tells what the reply cost: two costs that make the same line of it are the same. An update's
 /// numbers always have few enough bits for it, and so have a question's, but for its touches.
 pub fn costs_are_fixed()
-    ensures fixed { (reply : Reply) (first second : Cost) → Fits64 first → Fits64 second →
-        reply_line true reply first ≡ reply_line true reply second → first ≡ second }
-    ensures updates { (layer : Layer) (adds : Bool) (spent : Spent) → IsSpent layer adds spent → Fits64 (Updating spent) }
+    ensures fixed { (version : Version) (reply : Reply) (first second : Cost) → Fits64 first → Fits64 second →
+        reply_line version true reply first ≡ reply_line version true reply second → first ≡ second }
+    ensures updates { (layer : Layer) (update : Update) (spent : Spent) → IsSpent layer update spent → Fits64 (Updating spent) }
     ensures questions { (layer : Layer) (asked : QuestionCost) → IsAsked layer asked → asked.touches < 2 ^ 64 → Fits64 (Asking asked) }
 {}
 
-/// A command is read from its own line, whatever its numbers within their limits. Made scripts stand on it.
+/// In either version a command is read from its own line, whatever its numbers within their limits. Made scripts stand on it.
 pub fn commands_are_read()
-    ensures { (command : Command) → IsCommand command → parse (command_line command) ≡ Ok (Some command) }
+    ensures { (version : Version) (command : Command) → IsCommand version command → parse version (command_line version command) ≡ Ok (Some command) }
 {}
 
-/// What a line says is a command: its name is one, and its numbers are within their limits and in order.
+/// What a line says is a command of its version: its name is one, and its numbers are within their limits and in order.
 pub fn read_commands_are_lawful()
-    ensures { (line : List ℕ) (command : Command) → parse line ≡ Ok (Some command) → IsCommand command }
+    ensures { (version : Version) (line : List ℕ) (command : Command) → parse version line ≡ Ok (Some command) → IsCommand version command }
+{}
+
+/// A question about items that are moved alike is answered as before, but for the height that the highest point has; and a shape is found where
+/// it was moved. So the answers of version 2 are those of kept coordinates.
+pub fn shifts_keep_answers()
+    ensures answers { (dx dy : ℕ) (items : List Item) (question : Question) →
+        answer_over (shifted_items dx dy items) (shifted_question dx dy question) ≡ shifted_answer dy (answer_over items question) }
+    ensures shapes { (dx dy : ℕ) (items : List Item) (id : ℕ) → shape_of id (shifted_items dx dy items) ≡ shifted_found dx dy (shape_of id items) }
 {}
 
 /// The greatest level is the greatest one whose power of two is at most twice the live items and ten more.

@@ -6,4 +6,4 @@ use Rattle.map_model.proofs.worked_rows.Goals as goal
 
 pub returns : goal.returns
 unfolding digits form verbs command_of
-returns c = record { empty = refl; silent = refl; refused = refl; whole = refl; counted = refl; largest = refl; nearest = refl; farthest = refl; dropped = refl; added_again = refl; first_faults = refl; segments = refl; highest = refl; layers = refl; town = refl }
+returns c = record { empty = refl; silent = refl; refused = refl; whole = refl; counted = refl; largest = refl; nearest = refl; farthest = refl; dropped = refl; added_again = refl; first_faults = refl; segments = refl; highest = refl; layers = refl; town = refl; signed = refl; versions = refl; highest_signed = refl; moved = refl; full = refl }
