@@ -26,6 +26,7 @@ mod shape;
 mod shaped;
 mod spent;
 mod sum_in;
+mod version;
 
 pub use count_in::CountIn;
 pub use found::Found;
@@ -47,3 +48,4 @@ pub use shape::Shape;
 pub use shaped::Shaped;
 pub use spent::Spent;
 pub use sum_in::SumIn;
+pub use version::{Version, coordinates_are_kept};
