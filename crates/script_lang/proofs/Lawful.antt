@@ -41,12 +41,12 @@ wide : (n : ℕ) → IsCoordinate One n → IsCoordinate Two n
 wide n h = omega (arith, h)
 
 wide_question : (name : List ℕ) (question : questions.Question) → InLimits One (commands.Ask name question) → InLimits Two (commands.Ask name question)
-wide_question name (questions.CountIn rect) h = (h.0, h.1.0, wide rect.x2 h.1.1.0, wide rect.y2 h.1.1.1)
-wide_question name (questions.SumIn rect) h = (h.0, h.1.0, wide rect.x2 h.1.1.0, wide rect.y2 h.1.1.1)
-wide_question name (questions.ListIn rect) h = (h.0, h.1.0, wide rect.x2 h.1.1.0, wide rect.y2 h.1.1.1)
+wide_question name (questions.CountIn rect) h = (h.0, h.1, wide rect.x2 h.2, wide rect.y2 h.3)
+wide_question name (questions.SumIn rect) h = (h.0, h.1, wide rect.x2 h.2, wide rect.y2 h.3)
+wide_question name (questions.ListIn rect) h = (h.0, h.1, wide rect.x2 h.2, wide rect.y2 h.3)
 wide_question name (questions.Near x y) h = (wide x h.0, wide y h.1)
-wide_question name (questions.Nearest k x y) h = (h.0, wide x h.1.0, wide y h.1.1)
-wide_question name (questions.Above x1 x2 y) h = (h.0, wide x2 h.1.0, wide y h.1.1)
+wide_question name (questions.Nearest k x y) h = (h.0, wide x h.1, wide y h.2)
+wide_question name (questions.Above x1 x2 y) h = (h.0, wide x2 h.1, wide y h.2)
 wide_question name (questions.Top x1 x2) h = (h.0, wide x2 h.1)
 wide_question name (questions.Stab x) h = wide x h
 wide_question name (questions.StabCount x) h = wide x h
@@ -56,9 +56,9 @@ widened : (version : Version) (command : commands.Command) → InLimits version 
 widened Two command h = h
 widened One (commands.Livemap chosen) h = h
 widened One (commands.MakeLayer name kind indexes) h = h
-widened One (commands.Add name id (shapes.Point x y w)) h = (h.0, wide x h.1.0, wide y h.1.1.0, h.1.1.1)
-widened One (commands.Add name id (shapes.Segment lo hi y)) h = (h.0, h.1.0, wide hi h.1.1.0, wide y h.1.1.1)
-widened One (commands.Move name id x y w) h = (h.0, wide x h.1.0, wide y h.1.1.0, h.1.1.1)
+widened One (commands.Add name id (shapes.Point x y w)) h = (h.0, (wide x h.1.0, wide y h.1.1, h.1.2))
+widened One (commands.Add name id (shapes.Segment lo hi y)) h = (h.0, (h.1.0, wide hi h.1.1, wide y h.1.2))
+widened One (commands.Move name id x y w) h = (h.0, (wide x h.1.0, wide y h.1.1, h.1.2))
 widened One (commands.Drop name id) h = h
 widened One (commands.Ask name question) h = wide_question name question h
 widened One (commands.Get name id) h = h
