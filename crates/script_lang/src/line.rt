@@ -128,18 +128,33 @@ fn write_point_question(
         PointQuestion::SumIn(q) => write_numbers(b"sum", name, &corners(version, q.0), line),
         PointQuestion::ListIn(q) => write_numbers(b"list", name, &corners(version, q.0), line),
         PointQuestion::Near(q) => {
-            write_numbers(b"near", name, &[place(version, q.x), place(version, q.y)], line)
+            write_numbers(
+                b"near",
+                name,
+                &[place(version, q.x), place(version, q.y)],
+                line,
+            )
         }
         PointQuestion::NearK(q) => {
             let k = Number::Plain(q.k as u64);
-            write_numbers(b"nearest", name, &[k, place(version, q.x), place(version, q.y)], line)
+            write_numbers(
+                b"nearest",
+                name,
+                &[k, place(version, q.x), place(version, q.y)],
+                line,
+            )
         }
         PointQuestion::Above(q) => {
             let (x1, x2) = (place(version, q.x1), place(version, q.x2));
             write_numbers(b"above", name, &[x1, x2, place(version, q.y)], line)
         }
         PointQuestion::Top(q) => {
-            write_numbers(b"top", name, &[place(version, q.x1), place(version, q.x2)], line)
+            write_numbers(
+                b"top",
+                name,
+                &[place(version, q.x1), place(version, q.x2)],
+                line,
+            )
         }
     }
 }

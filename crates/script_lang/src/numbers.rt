@@ -83,7 +83,11 @@ impl Numbers {
 fn version_in(number: u64) -> Version
     ensures { result ≡ version_in number }
 {
-    if number == 2 { Version::Two } else { Version::One }
+    if number == 2 {
+        Version::Two
+    } else {
+        Version::One
+    }
 }
 
 /// The numbers of the first words of a text, one a field, and what stands behind them: `None` where
