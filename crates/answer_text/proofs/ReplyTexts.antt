@@ -2,7 +2,9 @@
 use Rattle.std.proofs.Common.{◌≡◌, ℕ, Bool, false, cond, nat_eq, List, [], ◌∷◌, ◌++◌, codes, length, Some, None, map, arith, refl, sym, ap, ◌∙◌, append-nil, append_assoc, subst}
 use Rattle.std.specs.List.{flat_map}
 use Rattle.map_io.specs.SinkTold.{SinkTold}
-use Rattle.map_model.specs.Reply.{spaced, numbers_or_none, shape_numbers, found_numbers, answer_text, reply_text, reply_line}
+use Rattle.map_model.specs.Version.{Version}
+use Rattle.map_model.specs.Shape as model
+use Rattle.map_model.specs.Reply.{spaced, spaced_coordinate, numbers_or_none, shape_text, found_numbers, answer_text, reply_text, reply_line}
 use Rattle.map_model.specs.Refusal.{refusal_text}
 use Rattle.std.proofs.lemmas.List.Concat.{flat_map-append}
 use Rattle.map_shapes.specs.declared.found.Found as shapes
@@ -18,14 +20,21 @@ use Rattle.answer_text.specs.declared.reply.Reply.{Reply}
 use Rattle.answer_text.specs.declared.reply.Reply.TheVariants as variants
 use Rattle.answer_text.specs.Reply.{refusal_of, reply_of, cost_of}
 use Rattle.answer_text.specs.Pieces.{DeliversLines, CutOffInPieces}
-use Rattle.answer_text.specs.Texts.{refusal_word, answer_word, reply_word, spaced_all, found_text, refusal_numbers, answer_numbers, reply_numbers, answer_ids, listed_ids, answers_none, none_text, tail_text}
+use Rattle.answer_text.specs.Texts.{refusal_word, answer_word, reply_word, spaced_all, found_text, refusal_numbers, answer_numbers, shape_numbers, reply_numbers, answer_ids, listed_ids, answers_none, none_text, tail_text}
 
 -- one number
 one : (word : List ℕ) (n : ℕ) → word ++ spaced_all (n ∷ []) ≡ word ++ spaced n
 one word n = ap (λ (z : List ℕ). word ++ z) (append-nil (spaced n))
 
-two : (m n : ℕ) → spaced_all (m ∷ n ∷ []) ≡ spaced m ++ spaced n
-two m n = ap (λ (z : List ℕ). spaced m ++ z) (append-nil (spaced n))
+two : (a b : List ℕ) → a ++ (b ++ []) ≡ a ++ b
+two a b = ap (λ (z : List ℕ). a ++ z) (append-nil b)
+
+three : (a b c : List ℕ) → a ++ (b ++ (c ++ [])) ≡ (a ++ b) ++ c
+three a b c = ap (λ (z : List ℕ). a ++ z) (two b c) ∙ sym (append_assoc a b c)
+
+shape_told : (version : Version) (shape : model.Shape) → shape_numbers version shape ≡ shape_text version shape
+shape_told version (model.Point x y w) = three (spaced_coordinate version x) (spaced_coordinate version y) (spaced w)
+shape_told version (model.Segment lo hi y) = three (spaced_coordinate version lo) (spaced_coordinate version hi) (spaced_coordinate version y)
 
 cause_text : (cause : Refusal) → refusal_word cause ++ refusal_numbers cause ≡ refusal_text (refusal_of cause)
 cause_text causes.Line = refl
@@ -43,6 +52,7 @@ cause_text causes.NoRoom = refl
 cause_text (causes.Duplicate id) = one (codes "no duplicate") id
 cause_text (causes.Unknown id) = one (codes "no unknown") id
 cause_text causes.Full = refl
+cause_text causes.Version = refl
 cause_text causes.NoMemory = refl
 
 all_founds : (fs : List shapes.Found) → flat_map found_text fs ≡ spaced_all (flat_map found_numbers (map found_of fs))
@@ -67,40 +77,40 @@ founds_or_none [] = refl
 founds_or_none (f ∷ fs) = ap (λ (z : List ℕ). flat_map found_text (f ∷ fs) ++ z) (some f fs) ∙ append-nil (flat_map found_text (f ∷ fs)) ∙ all_founds (f ∷ fs)
 
 -- the parts behind the word
-abbrev behind : Reply → List ℕ
-behind reply = (reply_numbers reply ++ spaced_all (listed_ids reply)) ++ none_text reply
+abbrev behind : Version → Reply → List ℕ
+behind version reply = (reply_numbers version reply ++ spaced_all (listed_ids reply)) ++ none_text reply
 
 no_list : (word numbers text : List ℕ) → word ++ numbers ≡ text → word ++ ((numbers ++ []) ++ []) ≡ text
 no_list word numbers text is = ap (λ (z : List ℕ). word ++ z) (append-nil (numbers ++ []) ∙ append-nil numbers) ∙ is
 
-answer_behind : (answer : AnyAnswer) → answer_word answer ++ ((answer_numbers answer ++ spaced_all (answer_ids answer)) ++ cond (answers_none answer) (codes " none") []) ≡ answer_text (answer_of answer)
-answer_behind (answers.Counted n) = no_list (codes "count") (spaced_all (n ∷ [])) _ (one (codes "count") n)
-answer_behind (answers.Summed n) = no_list (codes "sum") (spaced_all (n ∷ [])) _ (one (codes "sum") n)
-answer_behind (answers.Listed ids) = ap (λ (z : List ℕ). codes "list" ++ z) (ids_or_none ids)
-answer_behind (answers.NearestOne None) = refl
-answer_behind (answers.NearestOne (Some found)) = no_list (codes "near") (found_text found) _ refl
-answer_behind (answers.NearestOnes found) =
+answer_behind : (version : Version) (answer : AnyAnswer) → answer_word answer ++ ((answer_numbers version answer ++ spaced_all (answer_ids answer)) ++ cond (answers_none answer) (codes " none") []) ≡ answer_text version (answer_of answer)
+answer_behind version (answers.Counted n) = no_list (codes "count") (spaced_all (n ∷ [])) _ (one (codes "count") n)
+answer_behind version (answers.Summed n) = no_list (codes "sum") (spaced_all (n ∷ [])) _ (one (codes "sum") n)
+answer_behind version (answers.Listed ids) = ap (λ (z : List ℕ). codes "list" ++ z) (ids_or_none ids)
+answer_behind version (answers.NearestOne None) = refl
+answer_behind version (answers.NearestOne (Some found)) = no_list (codes "near") (found_text found) _ refl
+answer_behind version (answers.NearestOnes found) =
     ap (λ (z : List ℕ). codes "nearest" ++ (z ++ none_of found)) (append-nil (flat_map found_text found))
     ∙ ap (λ (z : List ℕ). codes "nearest" ++ z) (founds_or_none found)
-answer_behind (answers.ListedAbove ids) = ap (λ (z : List ℕ). codes "above" ++ z) (ids_or_none ids)
-answer_behind (answers.Highest None) = refl
-answer_behind (answers.Highest (Some peak)) = no_list (codes "top") (spaced_all (peak.id ∷ peak.y ∷ [])) _ (ap (λ (z : List ℕ). codes "top" ++ z) (two peak.id peak.y))
-answer_behind (answers.Stabbed ids) = ap (λ (z : List ℕ). codes "stab" ++ z) (ids_or_none ids)
-answer_behind (answers.StabCounted n) = no_list (codes "stabcount") (spaced_all (n ∷ [])) _ (one (codes "stabcount") n)
+answer_behind version (answers.ListedAbove ids) = ap (λ (z : List ℕ). codes "above" ++ z) (ids_or_none ids)
+answer_behind version (answers.Highest None) = refl
+answer_behind version (answers.Highest (Some peak)) = no_list (codes "top") (spaced peak.id ++ (spaced_coordinate version peak.y ++ [])) _ (ap (λ (z : List ℕ). codes "top" ++ z) (two (spaced peak.id) (spaced_coordinate version peak.y)))
+answer_behind version (answers.Stabbed ids) = ap (λ (z : List ℕ). codes "stab" ++ z) (ids_or_none ids)
+answer_behind version (answers.StabCounted n) = no_list (codes "stabcount") (spaced_all (n ∷ [])) _ (one (codes "stabcount") n)
 
-text_behind : (reply : Reply) → reply_word reply ++ behind reply ≡ reply_text (reply_of reply)
-text_behind variants.Made = refl
-text_behind (variants.Updated spent) = refl
-text_behind (variants.Answered answer asked) = answer_behind answer
-text_behind (variants.Got shape) = no_list (codes "get") (spaced_all (shape_numbers (model_shape shape))) _ refl
-text_behind (variants.Size n) = no_list (codes "size") (spaced_all (n ∷ [])) _ (one (codes "size") n)
-text_behind (variants.Recent ids) = ap (λ (z : List ℕ). codes "recent" ++ z) (ids_or_none ids)
-text_behind (variants.Refused cause) = no_list (refusal_word cause) (refusal_numbers cause) _ (cause_text cause)
+text_behind : (version : Version) (reply : Reply) → reply_word reply ++ behind version reply ≡ reply_text version (reply_of reply)
+text_behind version variants.Made = refl
+text_behind version (variants.Updated spent) = refl
+text_behind version (variants.Answered answer asked) = answer_behind version answer
+text_behind version (variants.Got shape) = no_list (codes "get") (shape_numbers version (model_shape shape)) _ (ap (λ (z : List ℕ). codes "get" ++ z) (shape_told version (model_shape shape)))
+text_behind version (variants.Size n) = no_list (codes "size") (spaced_all (n ∷ [])) _ (one (codes "size") n)
+text_behind version (variants.Recent ids) = ap (λ (z : List ℕ). codes "recent" ++ z) (ids_or_none ids)
+text_behind version (variants.Refused cause) = no_list (refusal_word cause) (refusal_numbers cause) _ (cause_text cause)
 
 -- ---- the line behind an empty piece
 
-abbrev parts_text : Reply → List ℕ → List ℕ → List ℕ → List ℕ → List ℕ
-parts_text reply word ids none tail = ((((word ++ reply_numbers reply) ++ spaced_all ids) ++ none) ++ tail) ++ 10 ∷ []
+abbrev parts_text : Version → Reply → List ℕ → List ℕ → List ℕ → List ℕ → List ℕ
+parts_text version reply word ids none tail = ((((word ++ reply_numbers version reply) ++ spaced_all ids) ++ none) ++ tail) ++ 10 ∷ []
 
 -- what the parts of a line are
 record AreParts (ledger : Bool) (reply : Reply) (piece word ids none tail : List ℕ) : Type 0 where
@@ -110,22 +120,22 @@ record AreParts (ledger : Bool) (reply : Reply) (piece word ids none tail : List
   none_is : none ≡ none_text reply
   tail_is : tail ≡ tail_text ledger reply
 
-line_of_reply : (ledger : Bool) (reply : Reply) (piece word ids none tail : List ℕ) → AreParts ledger reply piece word ids none tail → piece ++ parts_text reply word ids none tail ≡ reply_line ledger (reply_of reply) (cost_of reply)
-line_of_reply ledger reply piece word ids none tail h =
-    let numbers = reply_numbers reply in
-    (λ i. h.begun i ++ parts_text reply (h.word_is i) (h.ids_are i) (h.none_is i) (h.tail_is i))
+line_of_reply : (version : Version) (ledger : Bool) (reply : Reply) (piece word ids none tail : List ℕ) → AreParts ledger reply piece word ids none tail → piece ++ parts_text version reply word ids none tail ≡ reply_line version ledger (reply_of reply) (cost_of reply)
+line_of_reply version ledger reply piece word ids none tail h =
+    let numbers = reply_numbers version reply in
+    (λ i. h.begun i ++ parts_text version reply (h.word_is i) (h.ids_are i) (h.none_is i) (h.tail_is i))
     ∙ ap (λ (z : List ℕ). ((z ++ none_text reply) ++ tail_text ledger reply) ++ 10 ∷ []) (append_assoc (reply_word reply) numbers (spaced_all (listed_ids reply)))
-    ∙ ap (λ (z : List ℕ). (z ++ tail_text ledger reply) ++ 10 ∷ []) (append_assoc (reply_word reply) (numbers ++ spaced_all (listed_ids reply)) (none_text reply) ∙ text_behind reply)
+    ∙ ap (λ (z : List ℕ). (z ++ tail_text ledger reply) ++ 10 ∷ []) (append_assoc (reply_word reply) (numbers ++ spaced_all (listed_ids reply)) (none_text reply) ∙ text_behind version reply)
 
 -- parts that were written are the line, and a proper prefix of them is one of it
-pub line_appended : (ledger : Bool) (reply : Reply) (o n : SinkTold) (piece word ids none tail : List ℕ) → DeliversLines o n (piece ++ parts_text reply word ids none tail) 1
+pub line_appended : (version : Version) (ledger : Bool) (reply : Reply) (o n : SinkTold) (piece word ids none tail : List ℕ) → DeliversLines o n (piece ++ parts_text version reply word ids none tail) 1
     → piece ≡ [] → word ≡ reply_word reply → ids ≡ listed_ids reply → none ≡ none_text reply → tail ≡ tail_text ledger reply
-    → DeliversLines o n (reply_line ledger (reply_of reply) (cost_of reply)) 1
-line_appended ledger reply o n piece word ids none tail h begun word_is ids_are none_is tail_is =
-    subst (λ (z : List ℕ). DeliversLines o n z 1) (line_of_reply ledger reply piece word ids none tail (record { begun = begun; word_is = word_is; ids_are = ids_are; none_is = none_is; tail_is = tail_is })) h
+    → DeliversLines o n (reply_line version ledger (reply_of reply) (cost_of reply)) 1
+line_appended version ledger reply o n piece word ids none tail h begun word_is ids_are none_is tail_is =
+    subst (λ (z : List ℕ). DeliversLines o n z 1) (line_of_reply version ledger reply piece word ids none tail (record { begun = begun; word_is = word_is; ids_are = ids_are; none_is = none_is; tail_is = tail_is })) h
 
-pub line_cut : (ledger : Bool) (reply : Reply) (o n : SinkTold) (piece word ids none tail : List ℕ) → CutOffInPieces o n (piece ++ parts_text reply word ids none tail)
+pub line_cut : (version : Version) (ledger : Bool) (reply : Reply) (o n : SinkTold) (piece word ids none tail : List ℕ) → CutOffInPieces o n (piece ++ parts_text version reply word ids none tail)
     → piece ≡ [] → word ≡ reply_word reply → ids ≡ listed_ids reply → none ≡ none_text reply → tail ≡ tail_text ledger reply
-    → CutOffInPieces o n (reply_line ledger (reply_of reply) (cost_of reply))
-line_cut ledger reply o n piece word ids none tail h begun word_is ids_are none_is tail_is =
-    subst (CutOffInPieces o n) (line_of_reply ledger reply piece word ids none tail (record { begun = begun; word_is = word_is; ids_are = ids_are; none_is = none_is; tail_is = tail_is })) h
+    → CutOffInPieces o n (reply_line version ledger (reply_of reply) (cost_of reply))
+line_cut version ledger reply o n piece word ids none tail h begun word_is ids_are none_is tail_is =
+    subst (CutOffInPieces o n) (line_of_reply version ledger reply piece word ids none tail (record { begun = begun; word_is = word_is; ids_are = ids_are; none_is = none_is; tail_is = tail_is })) h

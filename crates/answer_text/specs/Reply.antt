@@ -27,6 +27,7 @@ refusal_of causes.NoRoom = refusals.NoRoom
 refusal_of (causes.Duplicate id) = refusals.Duplicate id
 refusal_of (causes.Unknown id) = refusals.Unknown id
 refusal_of causes.Full = refusals.Full
+refusal_of causes.Version = refusals.Version
 refusal_of causes.NoMemory = refusals.NoMemory
 
 -- a reply without what it cost, as the definitions have it

@@ -1,6 +1,9 @@
 -- A reply's line by its parts: a word or two, numbers, identifiers or ` none`, and what it cost.
-use Rattle.std.specs.Prelude.{◌==◌, ℕ, List, [], ◌∷◌, Bool, false, Some, None, is_none, codes, length, flat_map, if◌then◌else◌}
-use Rattle.map_model.specs.Reply.{spaced, shape_numbers}
+use Rattle.std.specs.Prelude.{◌==◌, ℕ, List, [], ◌∷◌, ◌++◌, Bool, false, Some, None, is_none, codes, decimal, length, flat_map, if◌then◌else◌}
+use Rattle.std.specs.Fmt.{signed_decimal}
+use Rattle.map_model.specs.Version.{Version}
+use Rattle.map_model.specs.Shape as model
+use Rattle.map_model.specs.Reply.{spaced, spaced_coordinate}
 use Rattle.map_model.specs.Cost.{cost_text}
 use Rattle.map_shapes.specs.declared.found.Found as shapes
 use Rattle.map_shapes.specs.Shape.{model_shape}
@@ -10,6 +13,8 @@ use Rattle.answer_text.specs.declared.refusal.Refusal.{Refusal}
 use Rattle.answer_text.specs.declared.refusal.Refusal.TheVariants as causes
 use Rattle.answer_text.specs.declared.reply.Reply.{Reply}
 use Rattle.answer_text.specs.declared.reply.Reply.TheVariants as variants
+use Rattle.answer_text.specs.declared.texts.Number.{Number}
+use Rattle.answer_text.specs.declared.texts.Number.TheVariants.{Plain, Wide, Signed}
 use Rattle.answer_text.specs.Reply.{cost_of}
 
 abbrev pub refusal_word : Refusal → List ℕ
@@ -28,6 +33,7 @@ refusal_word causes.NoRoom = codes "no room"
 refusal_word (causes.Duplicate id) = codes "no duplicate"
 refusal_word (causes.Unknown id) = codes "no unknown"
 refusal_word causes.Full = codes "no full"
+refusal_word causes.Version = codes "no version"
 refusal_word causes.NoMemory = codes "no memory"
 
 abbrev pub answer_word : AnyAnswer → List ℕ
@@ -50,7 +56,17 @@ reply_word (variants.Size n) = codes "size"
 reply_word (variants.Recent ids) = codes "recent"
 reply_word (variants.Refused cause) = refusal_word cause
 
--- numbers, each behind a space
+-- a number as it is written
+abbrev pub number_text : Number → List ℕ
+number_text (Plain n) = decimal n
+number_text (Wide n) = decimal n
+number_text (Signed z) = signed_decimal z
+
+-- a number behind a space
+abbrev pub spaced_number : Number → List ℕ
+spaced_number n = 32 ∷ number_text n
+
+-- numbers without a sign, each behind a space
 abbrev pub spaced_all : List ℕ → List ℕ
 spaced_all ns = flat_map spaced ns
 
@@ -63,27 +79,32 @@ refusal_numbers (causes.Unknown id) = spaced_all (id ∷ [])
 refusal_numbers _ = []
 
 -- the numbers of an answer but the identifiers that it lists
-abbrev pub answer_numbers : AnyAnswer → List ℕ
-answer_numbers (answers.Counted n) = spaced_all (n ∷ [])
-answer_numbers (answers.Summed n) = spaced_all (n ∷ [])
-answer_numbers (answers.Listed ids) = []
-answer_numbers (answers.NearestOne None) = []
-answer_numbers (answers.NearestOne (Some found)) = found_text found
-answer_numbers (answers.NearestOnes found) = flat_map found_text found
-answer_numbers (answers.ListedAbove ids) = []
-answer_numbers (answers.Highest None) = []
-answer_numbers (answers.Highest (Some peak)) = spaced_all (peak.id ∷ peak.y ∷ [])
-answer_numbers (answers.Stabbed ids) = []
-answer_numbers (answers.StabCounted n) = spaced_all (n ∷ [])
+abbrev pub answer_numbers : Version → AnyAnswer → List ℕ
+answer_numbers version (answers.Counted n) = spaced_all (n ∷ [])
+answer_numbers version (answers.Summed n) = spaced_all (n ∷ [])
+answer_numbers version (answers.Listed ids) = []
+answer_numbers version (answers.NearestOne None) = []
+answer_numbers version (answers.NearestOne (Some found)) = found_text found
+answer_numbers version (answers.NearestOnes found) = flat_map found_text found
+answer_numbers version (answers.ListedAbove ids) = []
+answer_numbers version (answers.Highest None) = []
+answer_numbers version (answers.Highest (Some peak)) = spaced peak.id ++ (spaced_coordinate version peak.y ++ [])
+answer_numbers version (answers.Stabbed ids) = []
+answer_numbers version (answers.StabCounted n) = spaced_all (n ∷ [])
 
-abbrev pub reply_numbers : Reply → List ℕ
-reply_numbers variants.Made = []
-reply_numbers (variants.Updated spent) = []
-reply_numbers (variants.Answered answer asked) = answer_numbers answer
-reply_numbers (variants.Got shape) = spaced_all (shape_numbers (model_shape shape))
-reply_numbers (variants.Size n) = spaced_all (n ∷ [])
-reply_numbers (variants.Recent ids) = []
-reply_numbers (variants.Refused cause) = refusal_numbers cause
+-- the numbers of a shape
+abbrev pub shape_numbers : Version → model.Shape → List ℕ
+shape_numbers version (model.Point x y w) = spaced_coordinate version x ++ (spaced_coordinate version y ++ (spaced w ++ []))
+shape_numbers version (model.Segment lo hi y) = spaced_coordinate version lo ++ (spaced_coordinate version hi ++ (spaced_coordinate version y ++ []))
+
+abbrev pub reply_numbers : Version → Reply → List ℕ
+reply_numbers version variants.Made = []
+reply_numbers version (variants.Updated spent) = []
+reply_numbers version (variants.Answered answer asked) = answer_numbers version answer
+reply_numbers version (variants.Got shape) = shape_numbers version (model_shape shape)
+reply_numbers version (variants.Size n) = spaced_all (n ∷ [])
+reply_numbers version (variants.Recent ids) = []
+reply_numbers version (variants.Refused cause) = refusal_numbers cause
 
 abbrev pub answer_ids : AnyAnswer → List ℕ
 answer_ids (answers.Listed ids) = ids

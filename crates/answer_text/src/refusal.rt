@@ -11,7 +11,7 @@ pub enum Refusal {
     Fields,
     /// Not a name.
     Name,
-    /// Not one or more digits.
+    /// Not one or more digits, behind a `-` where a coordinate of version 2 stands.
     Number,
     /// A number past its limits.
     Range,
@@ -33,6 +33,8 @@ pub enum Refusal {
     Unknown { id: u64 },
     /// No further item has room in the layer.
     Full,
+    /// A layer stands, so that the version stays.
+    Version,
     /// Memory wasn't given.
     NoMemory,
 }

@@ -6,9 +6,9 @@ use map_shapes::{QuestionCost, Recent, Shape, Spent};
 /// What a command is answered, with what it cost.
 #[derive(Drop)]
 pub enum Reply {
-    /// A layer was made.
+    /// A layer was made, or a version chosen.
     Made,
-    /// An item was added or dropped.
+    /// An item was added, moved or dropped.
     Updated {
         spent: Spent,
     },
@@ -17,6 +17,7 @@ pub enum Reply {
         answer: AnyAnswer,
         asked: QuestionCost,
     },
+    /// Coordinates are as they are kept.
     Got {
         shape: Shape,
     },

@@ -1,16 +1,30 @@
 // The texts that replies are made of.
-ghost use Rattle.std.specs.Prelude.{◌≡◌, ◌+◌, ◌≤◌, ◌∷◌, ◌++◌, length, decimal};
+ghost use Rattle.std.specs.Prelude.{◌≡◌, ◌+◌, ◌≤◌, ◌++◌, length, decimal, flat_map};
 ghost use Rattle.map_model.specs.Cost.{out_of};
-ghost use Rattle.map_model.specs.Reply.{spaced};
-ghost use Rattle.answer_text.specs.Texts.{refusal_word, answer_word, reply_word, answer_ids, listed_ids, answers_none, has_none, none_text};
+ghost use Rattle.map_model.specs.Reply.{spaced_coordinate};
+ghost use Rattle.answer_text.specs.Texts.{refusal_word, answer_word, reply_word, answer_ids, listed_ids, answers_none, has_none, none_text, spaced_number, shape_numbers};
+ghost use Rattle.map_shapes.specs.Shape.{model_shape};
+ghost use Rattle.map_shapes.specs.Version.{version_of};
 
 use crate::{Refusal, Reply, append};
 use arrayvec::ArrayVec;
 use itoa::Buffer;
 use map_questions::AnyAnswer;
+use map_shapes::{Shape, Version};
 
 /// A short text in place.
 pub type Text = ArrayVec<u8, 64>;
+
+/// A number of a line.
+#[derive(Clone, Copy)]
+pub enum Number {
+    /// One without a sign.
+    Plain(u64),
+    /// A squared distance.
+    Wide(u128),
+    /// A coordinate.
+    Signed(i64),
+}
 
 /// The word or two that a reply's line begins with.
 pub fn reply_word(reply: &Reply) -> &'static [u8]
@@ -64,6 +78,7 @@ fn refusal_word(cause: Refusal) -> &'static [u8]
         Refusal::Duplicate { .. } => b"no duplicate",
         Refusal::Unknown { .. } => b"no unknown",
         Refusal::Full => b"no full",
+        Refusal::Version => b"no version",
         Refusal::NoMemory => b"no memory",
     }
 }
@@ -135,12 +150,40 @@ fn answers_none(answer: &AnyAnswer) -> bool
     }
 }
 
+/// A kept coordinate, as it is written.
+pub fn place(version: Version, kept: u32) -> Number
+    ensures { spaced_number result ≡ spaced_coordinate (version_of version) kept }
+{
+    Number::Signed(version.coordinate(kept))
+}
+
+/// The numbers of a shape.
+pub fn shape_numbers(version: Version, shape: Shape) -> [Number; 3]
+    ensures { flat_map spaced_number result ≡ shape_numbers (version_of version) (model_shape shape) }
+{
+    match shape {
+        Shape::Point { x, y, w } => {
+            let w = Number::Plain(u64::from(w));
+            [place(version, x), place(version, y), w]
+        }
+        Shape::Segment { lo, hi, y } => {
+            [place(version, lo), place(version, hi), place(version, y)]
+        }
+    }
+}
+
 /// A space and a number.
-pub fn spaced(n: u64) -> Text
-    ensures { result.items ≡ spaced n }
+pub fn spaced(n: Number) -> Text
+    ensures { result.items ≡ spaced_number n }
 {
     let mut text = Text::new();
-    append_number(&mut text, b" ", n);
+    let mut digits = Buffer::new();
+    append(&mut text, b" ");
+    match n {
+        Number::Plain(n) => append(&mut text, digits.format(n).as_bytes()),
+        Number::Wide(n) => append(&mut text, digits.format(n).as_bytes()),
+        Number::Signed(n) => append(&mut text, digits.format(n).as_bytes()),
+    }
     text
 }
 

@@ -1,32 +1,39 @@
 // A reply's line, to a sink.
 ghost use Rattle.std.specs.Prelude.{◌≡◌, ◌<◌, ◌≤◌, ◌++◌, length, decimal, flat_map, OnOk, OnErr};
-ghost use Rattle.map_model.specs.Reply.{spaced, shape_numbers, reply_line};
+ghost use Rattle.map_model.specs.Reply.{reply_line};
 ghost use Rattle.map_model.specs.Cost as costs;
-ghost use Rattle.map_shapes.specs.Shape.{model_shape};
 ghost use Rattle.map_shapes.specs.Cost.{spent_of, asked_of};
+ghost use Rattle.map_shapes.specs.Version.{version_of};
 ghost use Rattle.answer_text.specs.Reply.{reply_of, cost_of};
 ghost use Rattle.answer_text.specs.Pieces.{DeliversLines, CutOffInPieces, Gathers};
-ghost use Rattle.answer_text.specs.Texts.{answer_numbers, reply_numbers, refusal_numbers, spaced_all, found_text, tail_text};
+ghost use Rattle.answer_text.specs.Texts.{answer_numbers, reply_numbers, refusal_numbers, spaced_all, spaced_number, found_text, tail_text};
 
 use crate::piece::{Piece, finish, put};
-use crate::texts::{labelled, listed_ids, none_text, out_of, reply_word, spaced};
+use crate::texts::{
+    Number, labelled, listed_ids, none_text, out_of, place, reply_word, shape_numbers, spaced,
+};
 use crate::{Refusal, Reply};
 use map_io::{Sink, WriteFault};
 use map_questions::AnyAnswer;
-use map_shapes::{Found, QuestionCost, Shape, Spent};
+use map_shapes::{Found, QuestionCost, Spent, Version};
 
-/// Writes a reply's line with its line feed; with the ledger, what it cost stands at its end.
+/// Writes a reply's line of a version with its line feed; with the ledger, what it cost stands at its end.
 ///
 /// The sink is handed pieces of 64 bytes, and at last what is left; where it takes fewer bytes of one, the rest of that. It
 /// takes no memory.
-pub fn write_reply<K: Sink>(reply: &Reply, ledger: bool, sink: &mut K) -> Result<(), WriteFault>
-    ensures delivered { OnOk result (DeliversLines (K.told sink.old) (K.told sink.new) (reply_line ledger (reply_of reply.now) (cost_of reply.now)) 1) }
-    ensures cut_off { OnErr result (CutOffInPieces (K.told sink.old) (K.told sink.new) (reply_line ledger (reply_of reply.now) (cost_of reply.now))) }
+pub fn write_reply<K: Sink>(
+    reply: &Reply,
+    ledger: bool,
+    version: Version,
+    sink: &mut K,
+) -> Result<(), WriteFault>
+    ensures delivered { OnOk result (DeliversLines (K.told sink.old) (K.told sink.new) (reply_line (version_of version) ledger (reply_of reply.now) (cost_of reply.now)) 1) }
+    ensures cut_off { OnErr result (CutOffInPieces (K.told sink.old) (K.told sink.new) (reply_line (version_of version) ledger (reply_of reply.now) (cost_of reply.now))) }
 {
     let mut piece = Piece::new();
     put(&mut piece, reply_word(reply), sink)?;
-    put_reply_numbers(&mut piece, reply, sink)?;
-    put_numbers(&mut piece, listed_ids(reply), sink)?;
+    put_reply_numbers(&mut piece, reply, version, sink)?;
+    put_ids(&mut piece, listed_ids(reply), sink)?;
     put(&mut piece, none_text(reply), sink)?;
     put_tail(&mut piece, reply, ledger, sink)?;
     put(&mut piece, b"\n", sink)?;
@@ -38,16 +45,17 @@ pub fn write_reply<K: Sink>(reply: &Reply, ledger: bool, sink: &mut K) -> Result
 fn put_reply_numbers<K: Sink>(
     piece: &mut Piece,
     reply: &Reply,
+    version: Version,
     sink: &mut K,
 ) -> Result<(), WriteFault>
     requires { length piece.old.items < 64 }
-    ensures gathered { OnOk result (Gathers (K.told sink.old) (K.told sink.new) piece.old.items piece.new.items (reply_numbers reply.now)) }
-    ensures cut_off { OnErr result (CutOffInPieces (K.told sink.old) (K.told sink.new) (piece.old.items ++ reply_numbers reply.now)) }
+    ensures gathered { OnOk result (Gathers (K.told sink.old) (K.told sink.new) piece.old.items piece.new.items (reply_numbers (version_of version) reply.now)) }
+    ensures cut_off { OnErr result (CutOffInPieces (K.told sink.old) (K.told sink.new) (piece.old.items ++ reply_numbers (version_of version) reply.now)) }
 {
     match reply {
-        Reply::Answered { answer, .. } => put_answer_numbers(piece, answer, sink),
-        Reply::Size { n } => put_numbers(piece, &[*n], sink),
-        Reply::Got { shape } => put_numbers(piece, &shape_numbers(*shape), sink),
+        Reply::Answered { answer, .. } => put_answer_numbers(piece, answer, version, sink),
+        Reply::Size { n } => put_ids(piece, &[*n], sink),
+        Reply::Got { shape } => put_numbers(piece, &shape_numbers(version, *shape), sink),
         Reply::Refused { cause } => put_refusal_numbers(piece, *cause, sink),
         Reply::Made | Reply::Updated { .. } | Reply::Recent { .. } => Ok(()),
     }
@@ -58,35 +66,28 @@ fn put_reply_numbers<K: Sink>(
 fn put_answer_numbers<K: Sink>(
     piece: &mut Piece,
     answer: &AnyAnswer,
+    version: Version,
     sink: &mut K,
 ) -> Result<(), WriteFault>
     requires { length piece.old.items < 64 }
-    ensures gathered { OnOk result (Gathers (K.told sink.old) (K.told sink.new) piece.old.items piece.new.items (answer_numbers answer.now)) }
-    ensures cut_off { OnErr result (CutOffInPieces (K.told sink.old) (K.told sink.new) (piece.old.items ++ answer_numbers answer.now)) }
+    ensures gathered { OnOk result (Gathers (K.told sink.old) (K.told sink.new) piece.old.items piece.new.items (answer_numbers (version_of version) answer.now)) }
+    ensures cut_off { OnErr result (CutOffInPieces (K.told sink.old) (K.told sink.new) (piece.old.items ++ answer_numbers (version_of version) answer.now)) }
 {
     match answer {
         AnyAnswer::Counted(n) | AnyAnswer::Summed(n) | AnyAnswer::StabCounted(n) => {
-            put_numbers(piece, &[*n], sink)
+            put_ids(piece, &[*n], sink)
         }
-        AnyAnswer::NearestOne(Some(found)) => put_numbers(piece, &[found.id, found.dist], sink),
+        AnyAnswer::NearestOne(Some(found)) => put_found(piece, *found, sink),
         AnyAnswer::NearestOnes(found) => put_pairs(piece, found.as_slice(), sink),
         AnyAnswer::Highest(Some(peak)) => {
-            put_numbers(piece, &[peak.id, u64::from(peak.y)], sink)
+            let height = place(version, peak.y);
+            put_numbers(piece, &[Number::Plain(peak.id), height], sink)
         }
         AnyAnswer::NearestOne(None)
         | AnyAnswer::Highest(None)
         | AnyAnswer::Listed(_)
         | AnyAnswer::ListedAbove(_)
         | AnyAnswer::Stabbed(_) => Ok(()),
-    }
-}
-
-fn shape_numbers(shape: Shape) -> [u64; 3]
-    ensures { result ≡ shape_numbers (model_shape shape) }
-{
-    match shape {
-        Shape::Point { x, y, w } => [u64::from(x), u64::from(y), u64::from(w)],
-        Shape::Segment { lo, hi, y } => [u64::from(lo), u64::from(hi), u64::from(y)],
     }
 }
 
@@ -101,21 +102,47 @@ fn put_refusal_numbers<K: Sink>(
     ensures cut_off { OnErr result (CutOffInPieces (K.told sink.old) (K.told sink.new) (piece.old.items ++ refusal_numbers cause)) }
 {
     match cause {
-        Refusal::Duplicate { id } | Refusal::Unknown { id } => put_numbers(piece, &[id], sink),
+        Refusal::Duplicate { id } | Refusal::Unknown { id } => put_ids(piece, &[id], sink),
         _ => Ok(()),
     }
 }
 
-/// Numbers, each behind a space.
-fn put_numbers<K: Sink>(piece: &mut Piece, numbers: &[u64], sink: &mut K) -> Result<(), WriteFault>
+/// Identifiers, or other numbers without a sign, each behind a space.
+fn put_ids<K: Sink>(piece: &mut Piece, ids: &[u64], sink: &mut K) -> Result<(), WriteFault>
     requires { length piece.old.items < 64 }
-    ensures gathered { OnOk result (Gathers (K.told sink.old) (K.told sink.new) piece.old.items piece.new.items (spaced_all numbers.now)) }
-    ensures cut_off { OnErr result (CutOffInPieces (K.told sink.old) (K.told sink.new) (piece.old.items ++ spaced_all numbers.now)) }
+    ensures gathered { OnOk result (Gathers (K.told sink.old) (K.told sink.new) piece.old.items piece.new.items (spaced_all ids.now)) }
+    ensures cut_off { OnErr result (CutOffInPieces (K.told sink.old) (K.told sink.new) (piece.old.items ++ spaced_all ids.now)) }
+{
+    for id in ids {
+        put_number(piece, Number::Plain(*id), sink)?;
+    }
+    Ok(())
+}
+
+/// Numbers, each behind a space.
+fn put_numbers<K: Sink>(
+    piece: &mut Piece,
+    numbers: &[Number],
+    sink: &mut K,
+) -> Result<(), WriteFault>
+    requires { length piece.old.items < 64 }
+    ensures gathered { OnOk result (Gathers (K.told sink.old) (K.told sink.new) piece.old.items piece.new.items (flat_map spaced_number numbers.now)) }
+    ensures cut_off { OnErr result (CutOffInPieces (K.told sink.old) (K.told sink.new) (piece.old.items ++ flat_map spaced_number numbers.now)) }
 {
     for number in numbers {
         put_number(piece, *number, sink)?;
     }
     Ok(())
+}
+
+/// An identifier with its distance.
+fn put_found<K: Sink>(piece: &mut Piece, found: Found, sink: &mut K) -> Result<(), WriteFault>
+    requires { length piece.old.items < 64 }
+    ensures gathered { OnOk result (Gathers (K.told sink.old) (K.told sink.new) piece.old.items piece.new.items (found_text found)) }
+    ensures cut_off { OnErr result (CutOffInPieces (K.told sink.old) (K.told sink.new) (piece.old.items ++ found_text found)) }
+{
+    let numbers = [Number::Plain(found.id), Number::Wide(found.dist)];
+    put_numbers(piece, &numbers, sink)
 }
 
 /// Identifiers with their distances.
@@ -125,7 +152,7 @@ fn put_pairs<K: Sink>(piece: &mut Piece, found: &[Found], sink: &mut K) -> Resul
     ensures cut_off { OnErr result (CutOffInPieces (K.told sink.old) (K.told sink.new) (piece.old.items ++ flat_map found_text found.now)) }
 {
     for point in found {
-        put_numbers(piece, &[point.id, point.dist], sink)?;
+        put_found(piece, *point, sink)?;
     }
     Ok(())
 }
@@ -185,10 +212,10 @@ fn put_asked<K: Sink>(
 }
 
 /// A space and a number.
-fn put_number<K: Sink>(piece: &mut Piece, n: u64, sink: &mut K) -> Result<(), WriteFault>
+fn put_number<K: Sink>(piece: &mut Piece, n: Number, sink: &mut K) -> Result<(), WriteFault>
     requires some_room { length piece.old.items < 64 }
-    ensures gathered { OnOk result (Gathers (K.told sink.old) (K.told sink.new) piece.old.items piece.new.items (spaced n)) }
-    ensures cut_off { OnErr result (CutOffInPieces (K.told sink.old) (K.told sink.new) (piece.old.items ++ (spaced n))) }
+    ensures gathered { OnOk result (Gathers (K.told sink.old) (K.told sink.new) piece.old.items piece.new.items (spaced_number n)) }
+    ensures cut_off { OnErr result (CutOffInPieces (K.told sink.old) (K.told sink.new) (piece.old.items ++ spaced_number n)) }
 {
     put(piece, spaced(n).as_slice(), sink)
 }

@@ -1,4 +1,5 @@
 //! A line of each form, and lines that are wrong in each way.
+use map_shapes::Version;
 use script_lang::{Limits, LineFault, parse, parse_number};
 use std::alloc::{AllocError, Global};
 use std::test::Fail;
@@ -68,10 +69,35 @@ const LINES: [(&[u8], Result<&str, LineFault>); 49] = [
     (b"top a 9 0", Err(LineFault::Order)),
 ];
 
+/// Lines of version 2, in the same way.
+const SIGNED: [(&[u8], Result<&str, LineFault>); 14] = [
+    (b"livemap 02", Ok("livemap 2")),
+    (b"livemap 3", Err(LineFault::Range)),
+    (b"livemap a 1", Err(LineFault::Fields)),
+    (
+        b"move a 7 -2147483648 2147483647 9",
+        Ok("move a 7 -2147483648 2147483647 9"),
+    ),
+    (b"add a 7 -0 -007 9", Ok("add a 7 0 -7 9")),
+    (b"count a -5 -6 -4 0", Ok("count a -5 -6 -4 0")),
+    (b"stab a -1", Ok("stab a -1")),
+    (b"count a -4 0 -5 1", Err(LineFault::Order)),
+    (b"add a 7 0 0 -1", Err(LineFault::Number)),
+    (b"get a -1", Err(LineFault::Number)),
+    (b"near a - 0", Err(LineFault::Number)),
+    (b"near a --1 0", Err(LineFault::Number)),
+    (b"near a -2147483649 0", Err(LineFault::Range)),
+    (b"near a 2147483648 0", Err(LineFault::Range)),
+];
+
 /// The plain line of a line's command, nothing where it says nothing, or its first fault.
-fn said(alloc: Global, line: &[u8]) -> Result<Result<Vec<u8>, LineFault>, AllocError> {
-    match parse(line) {
-        Ok(Some(command)) => Ok(Ok(command.line(alloc)?)),
+fn said(
+    alloc: Global,
+    line: &[u8],
+    version: Version,
+) -> Result<Result<Vec<u8>, LineFault>, AllocError> {
+    match parse(line, version) {
+        Ok(Some(command)) => Ok(Ok(command.line(version, alloc)?)),
         Ok(None) => Ok(Ok(Vec::new(alloc))),
         Err(fault) => Ok(Err(fault)),
     }
@@ -80,7 +106,15 @@ fn said(alloc: Global, line: &[u8]) -> Result<Result<Vec<u8>, LineFault>, AllocE
 #[test]
 fn lines_are_read_and_written(rt: HostRuntime) -> Result<(), Fail> {
     for (line, wanted) in LINES {
-        let is_so = match (said(rt.alloc(), line)?, wanted) {
+        let is_so = match (said(rt.alloc(), line, Version::One)?, wanted) {
+            (Ok(plain), Ok(wanted)) => plain.as_slice() == wanted.as_bytes(),
+            (Err(fault), Err(wanted)) => fault == wanted,
+            _ => false,
+        };
+        assert!(rt; is_so, "{line:?}");
+    }
+    for (line, wanted) in SIGNED {
+        let is_so = match (said(rt.alloc(), line, Version::Two)?, wanted) {
             (Ok(plain), Ok(wanted)) => plain.as_slice() == wanted.as_bytes(),
             (Err(fault), Err(wanted)) => fault == wanted,
             _ => false,

@@ -4,7 +4,7 @@ ghost use Rattle.std.specs.Prelude.{◌<◌};
 use answer_text::{Refusal, Reply, write_reply};
 use map_io::{MemSink, WriteFault};
 use map_questions::AnyAnswer;
-use map_shapes::{IdList, QuestionCost, Spent};
+use map_shapes::{IdList, QuestionCost, Spent, Version};
 use std::alloc::{AllocError, Global};
 use std::test::Fail;
 
@@ -36,7 +36,7 @@ fn written_before(
 {
     let failing = vec![in alloc; call]?;
     let mut sink = MemSink::new(vec![in alloc; 0u8; 300]?, 300, failing);
-    let ended = write_reply(reply, ledger, &mut sink);
+    let ended = write_reply(reply, ledger, Version::One, &mut sink);
     Ok((ended, Vec::from_slice(alloc, sink.written())?))
 }
 

@@ -1,5 +1,5 @@
 //! Which points of a span are high.
-ghost use Rattle.std.specs.Prelude.{◌≡◌, ◌≤◌, ◌<◌, ◌^◌, [], true};
+ghost use Rattle.std.specs.Prelude.{◌≡◌, ◌≤◌, [], true};
 ghost use Rattle.std.specs.List.Sorted.{IsNonDecreasing};
 ghost use Rattle.map_model.specs.Shape.{is_above};
 ghost use Rattle.map_shapes.specs.Ascending.{sorted_union};
@@ -19,8 +19,6 @@ pub struct Above {
     pub x2: u32,
     pub y: u32,
     pub ghost x_ordered: { x1 ≤ x2 },
-    pub ghost x_in_range: { x2 < 2 ^ 31 },
-    pub ghost y_in_range: { y < 2 ^ 31 },
 }
 
 impl Above {

@@ -1,5 +1,5 @@
 //! Which point is nearest.
-ghost use Rattle.std.specs.Prelude.{◌≡◌, ◌<◌, ◌^◌, false, None};
+ghost use Rattle.std.specs.Prelude.{◌≡◌, false, None};
 ghost use Rattle.map_shapes.specs.Found.{nearer_le};
 ghost use Rattle.map_questions.specs.FirstFew.{first_of_both};
 ghost use Rattle.map_questions.specs.Questions.{near, found_at};
@@ -15,8 +15,6 @@ use std::alloc::Global;
 pub struct Near {
     pub x: u32,
     pub y: u32,
-    pub ghost x_in_range: { x < 2 ^ 31 },
-    pub ghost y_in_range: { y < 2 ^ 31 },
 }
 
 impl Near {

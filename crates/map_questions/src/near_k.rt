@@ -1,5 +1,5 @@
 //! Which points are nearest.
-ghost use Rattle.std.specs.Prelude.{◌≡◌, ◌≤◌, ◌<◌, ◌^◌, [], false};
+ghost use Rattle.std.specs.Prelude.{◌≡◌, ◌≤◌, [], false};
 ghost use Rattle.map_shapes.specs.Found.{nearer_le};
 ghost use Rattle.map_questions.specs.FirstFew.{IsFirstFew, first_few_of_both};
 ghost use Rattle.map_questions.specs.Questions.{near_k, found_at};
@@ -19,8 +19,6 @@ pub struct NearK {
     pub y: u32,
     pub ghost some: { 1 ≤ k },
     pub ghost few: { k ≤ 64 },
-    pub ghost x_in_range: { x < 2 ^ 31 },
-    pub ghost y_in_range: { y < 2 ^ 31 },
 }
 
 impl NearK {

@@ -1,5 +1,5 @@
 //! Which segments lie over a place.
-ghost use Rattle.std.specs.Prelude.{◌≡◌, ◌<◌, ◌^◌, [], true};
+ghost use Rattle.std.specs.Prelude.{◌≡◌, [], true};
 ghost use Rattle.std.specs.List.Sorted.{IsNonDecreasing};
 ghost use Rattle.map_model.specs.Shape.{is_stabbed};
 ghost use Rattle.map_shapes.specs.Ascending.{sorted_union};
@@ -16,7 +16,6 @@ use std::alloc::Global;
 #[derive(Clone, Copy, Debug)]
 pub struct Stab {
     pub x: u32,
-    pub ghost x_in_range: { x < 2 ^ 31 },
 }
 
 impl Stab {

@@ -1,5 +1,5 @@
 //! How many segments lie over a place.
-ghost use Rattle.std.specs.Prelude.{◌≡◌, ◌<◌, ◌^◌, false};
+ghost use Rattle.std.specs.Prelude.{◌≡◌, false};
 ghost use Rattle.query_laws.specs.Sums.{capped_add, FitsU64};
 ghost use Rattle.map_model.specs.Shape.{is_stabbed};
 ghost use Rattle.map_shapes.specs.Segment.{shape_of_segment};
@@ -14,7 +14,6 @@ use std::alloc::Global;
 #[derive(Clone, Copy, Debug)]
 pub struct StabCount {
     pub x: u32,
-    pub ghost x_in_range: { x < 2 ^ 31 },
 }
 
 impl StabCount {

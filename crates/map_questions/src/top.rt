@@ -1,5 +1,5 @@
 //! Which point of a span is highest.
-ghost use Rattle.std.specs.Prelude.{◌≡◌, ◌≤◌, ◌<◌, ◌^◌, false, None};
+ghost use Rattle.std.specs.Prelude.{◌≡◌, ◌≤◌, false, None};
 ghost use Rattle.map_model.specs.Shape.{is_between};
 ghost use Rattle.map_shapes.specs.Found.{higher_le};
 ghost use Rattle.map_shapes.specs.Point.{shape_of};
@@ -18,7 +18,6 @@ pub struct Top {
     pub x1: u32,
     pub x2: u32,
     pub ghost x_ordered: { x1 ≤ x2 },
-    pub ghost x_in_range: { x2 < 2 ^ 31 },
 }
 
 impl Top {

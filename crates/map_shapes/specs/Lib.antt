@@ -12,3 +12,4 @@ pub mod Segment
 pub mod Shape
 pub mod Found
 pub mod Cost
+pub mod Version

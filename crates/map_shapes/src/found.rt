@@ -3,10 +3,10 @@ ghost use Rattle.std.specs.Prelude.{◌≡◌, not};
 ghost use Rattle.map_shapes.specs.Found.{nearer_le};
 
 /// A point by its squared distance from a place, and its identifier. Distances are at most
-/// 9,223,372,028,264,841,218.
+/// 36,893,488,130,239,234,050, which takes 65 bits.
 #[derive(Clone, Copy, Debug, Default, PartialEq, Eq)]
 pub struct Found {
-    pub dist: u64,
+    pub dist: u128,
     pub id: u64,
 }
 

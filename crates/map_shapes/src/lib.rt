@@ -1,7 +1,7 @@
 //! The shapes of a map, the names of its layers, the questions about points in a rectangle, and what replies tell.
 //!
-//! A [`Point`], a [`Segment`] and a [`Rect`] have their ranges and orders as ghost fields: no other value can be made. Points and
-//! segments are items in two orders. [`CountIn`] and [`SumIn`] are tallied by a `Total`, which stays at 2^64 - 1 and never
+//! A [`Segment`] and a [`Rect`] have their order as ghost fields, and a [`Point`] the range of its weight: no other value can be
+//! made. A coordinate is any u32, as a [`Version`] keeps it. Points and segments are items in two orders. [`CountIn`] and [`SumIn`] are tallied by a `Total`, which stays at 2^64 - 1 and never
 //! refuses, and [`ListIn`] by an [`IdTally`], which refuses where memory isn't given.
 #![tactic(auto)]
 
@@ -26,6 +26,7 @@ mod shape;
 mod shaped;
 mod spent;
 mod sum_in;
+mod version;
 
 pub use count_in::CountIn;
 pub use found::Found;
@@ -47,3 +48,4 @@ pub use shape::Shape;
 pub use shaped::Shaped;
 pub use spent::Spent;
 pub use sum_in::SumIn;
+pub use version::{Version, coordinates_are_kept};

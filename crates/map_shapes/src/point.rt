@@ -3,8 +3,8 @@ ghost use Rattle.std.specs.Prelude.{◌<◌, ◌^◌};
 
 use crate::Rect;
 
-/// A point of a layer. Coordinates and weights are at most 2,147,483,647; `stamp` is the number of adds that its
-/// layer accepted before it.
+/// A point of a layer. Coordinates are as they are kept ([`Version`](crate::Version)), and a weight is at most 2,147,483,647;
+/// `stamp` is the number of adds that its layer accepted before it.
 #[derive(Clone, Copy, Debug)]
 pub struct Point {
     pub id: u64,
@@ -12,8 +12,6 @@ pub struct Point {
     pub y: u32,
     pub w: u32,
     pub stamp: u64,
-    pub ghost x_in_range: { x < 2 ^ 31 },
-    pub ghost y_in_range: { y < 2 ^ 31 },
     pub ghost w_in_range: { w < 2 ^ 31 },
 }
 
@@ -31,13 +29,11 @@ impl Point {
     }
 
     /// The square of its distance from a place.
-    pub fn squared_distance(&self, x: u32, y: u32) -> u64
-        requires x_in_range { x < 2 ^ 31 }
-        requires y_in_range { y < 2 ^ 31 }
+    pub fn squared_distance(&self, x: u32, y: u32) -> u128
         ensures { result ≡ squared_distance x y (shape_of self.now) }
     {
         let across = u64::from(self.x.abs_diff(x));
         let up = u64::from(self.y.abs_diff(y));
-        across * across + up * up
+        u128::from(across * across) + u128::from(up * up)
     }
 }

@@ -1,7 +1,7 @@
 // A closed rectangle.
-ghost use Rattle.std.specs.Prelude.{◌≤◌, ◌<◌, ◌^◌};
+ghost use Rattle.std.specs.Prelude.{◌≤◌};
 
-/// A rectangle with its border. Coordinates are at most 2,147,483,647, and no lower end is past its upper end.
+/// A rectangle with its border. No lower end is past its upper end.
 #[derive(Clone, Copy, Debug)]
 pub struct Rect {
     pub x1: u32,
@@ -10,6 +10,4 @@ pub struct Rect {
     pub y2: u32,
     pub ghost x_ordered: { x1 ≤ x2 },
     pub ghost y_ordered: { y1 ≤ y2 },
-    pub ghost x_in_range: { x2 < 2 ^ 31 },
-    pub ghost y_in_range: { y2 < 2 ^ 31 },
 }

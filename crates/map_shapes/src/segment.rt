@@ -1,8 +1,8 @@
 // A horizontal segment.
-ghost use Rattle.std.specs.Prelude.{◌<◌, ◌≤◌, ◌^◌};
+ghost use Rattle.std.specs.Prelude.{◌≤◌};
 
-/// A segment of a layer, from (`lo`, `y`) to (`hi`, `y`), its ends included. Coordinates are at most 2,147,483,647;
-/// `stamp` is the number of adds that its layer accepted before it.
+/// A segment of a layer, from (`lo`, `y`) to (`hi`, `y`), its ends included. Coordinates are as they are kept; `stamp` is the
+/// number of adds that its layer accepted before it.
 #[derive(Clone, Copy, Debug)]
 pub struct Segment {
     pub id: u64,
@@ -11,8 +11,6 @@ pub struct Segment {
     pub y: u32,
     pub stamp: u64,
     pub ghost ordered: { lo ≤ hi },
-    pub ghost hi_in_range: { hi < 2 ^ 31 },
-    pub ghost y_in_range: { y < 2 ^ 31 },
 }
 
 impl Segment {

@@ -7,6 +7,7 @@ use Rattle.std.proofs.lemmas.Bool.Decides.{nat_tests}
 use Rattle.map_model.specs.Words.{words, longest_line}
 use Rattle.map_model.specs.Grammar.{parse, parse_words, without_return}
 use Rattle.map_model.specs.LineFault as faults
+use Rattle.map_model.specs.Version.{Version}
 use Rattle.script_lang.specs.Front.{longest_front}
 
 -- a carriage return is one byte
@@ -18,19 +19,19 @@ return_is_short line = cases (slice_index line (length line - 1) == 13)
     cases false = omega arith
 
 -- a line of more than 256 bytes, and a carriage return, is too long
-long_is_refused : (line : List ℕ) → longest_front ≤ length line → parse line ≡ Err faults.Line
-long_is_refused line long =
+long_is_refused : (version : Version) (line : List ℕ) → longest_front ≤ length line → parse version line ≡ Err faults.Line
+long_is_refused version line long =
     let longer : longest_line < length (without_return line) = omega (arith, long, return_is_short line) in
     let is : nat_lt longest_line (length (without_return line)) ≡ true = grind (arith, nat_tests, longer) in
-    ap (λ (b : Bool). if b then Err faults.Line else parse_words (without_return line) (words (without_return line))) is
+    ap (λ (b : Bool). if b then Err faults.Line else parse_words version (without_return line) (words (without_return line))) is
 
--- A line is read by its front.
-pub parse-front : (line : List ℕ) → parse (take longest_front line) ≡ parse line
-parse-front line = cases (cases_Bool (nat_lt (length line) longest_front))
+-- A line of either version is read by its front.
+pub parse-front : (version : Version) (line : List ℕ) → parse version (take longest_front line) ≡ parse version line
+parse-front version line = cases (cases_Bool (nat_lt (length line) longest_front))
   where
-    cases : (nat_lt (length line) longest_front ≡ true) ⊎ (nat_lt (length line) longest_front ≡ false) → parse (take longest_front line) ≡ parse line
-    cases (inl short) = ap parse (take_all longest_front line (grind (arith, nat_tests, short)))
+    cases : (nat_lt (length line) longest_front ≡ true) ⊎ (nat_lt (length line) longest_front ≡ false) → parse version (take longest_front line) ≡ parse version line
+    cases (inl short) = ap (parse version) (take_all longest_front line (grind (arith, nat_tests, short)))
     cases (inr long) =
         let enough : longest_front ≤ length line = grind (arith, nat_tests, long) in
         let full : longest_front ≤ length (take longest_front line) = omega (arith, length-take-le longest_front line enough) in
-        long_is_refused (take longest_front line) full ∙ sym (long_is_refused line enough)
+        long_is_refused version (take longest_front line) full ∙ sym (long_is_refused version line enough)

@@ -6,8 +6,11 @@ use Rattle.map_model.specs.Shape as shapes
 use Rattle.map_model.specs.Index.{IndexSet, index_count}
 use Rattle.map_model.specs.LineFault as faults
 use Rattle.map_model.specs.Form as model
+use Rattle.map_model.specs.Version.{Version, One, Two}
+use Rattle.map_model.specs.Answer as questions
+use Rattle.map_model.specs.Command as commands
 use Rattle.map_model.specs.Grammar.{Values, parse, parse_text, parse_words, command_of}
-use Rattle.map_model.specs.Line.{InLimits}
+use Rattle.map_model.specs.Line.{IsCoordinate, InLimits}
 use Rattle.map_model.proofs.LawfulCommands.{IsCommand-parsed}
 use Rattle.script_lang.specs.declared.reading.Read.{Read}
 use Rattle.script_lang.specs.Form.{verb_of, form_of}
@@ -23,9 +26,9 @@ abbrev pub values : Read → List ℕ → shapes.Kind → IndexSet → Values
 values read name kind indexes = record (values_in name read.numbers) { kind = kind; indexes = indexes }
 
 -- no step finds a fault
-pub record Passes (line : List ℕ) (read : Read) (name : List ℕ) (kind : shapes.Kind) (indexes : IndexSet) : Type 0 where
+pub record Passes (version : Version) (line : List ℕ) (read : Read) (name : List ℕ) (kind : shapes.Kind) (indexes : IndexSet) : Type 0 where
   pub short : length line ≤ longest_line
-  pub said : said (Ok (Some read)) ≡ parse_printable (words line)
+  pub said : said (Ok (Some read)) ≡ parse_printable version (words line)
   pub ended : has_end read.form.now.has_indexes (length (rest_of read)) ≡ true
   pub named : name_field read.name.now ≡ Some name
   pub digits : read.numbers.are_digits ≡ true
@@ -34,8 +37,36 @@ pub record Passes (line : List ℕ) (read : Read) (name : List ℕ) (kind : shap
   pub layer : layer_in (rest_of read) ≡ Ok (kind, indexes)
   pub each_once : length (rest_of read) ≤ index_count indexes + 1
 
-pub in_limits : (line : List ℕ) (read : Read) (name : List ℕ) (kind : shapes.Kind) (indexes : IndexSet) → Passes line read name kind indexes → InLimits (command_of (verb_of read.form.now.verb) (values read name kind indexes))
-in_limits line read name kind indexes h =
+wide : (n : ℕ) → IsCoordinate One n → IsCoordinate Two n
+wide n h = omega (arith, h)
+
+wide_question : (name : List ℕ) (question : questions.Question) → InLimits One (commands.Ask name question) → InLimits Two (commands.Ask name question)
+wide_question name (questions.CountIn rect) h = (h.0, h.1, wide rect.x2 h.2, wide rect.y2 h.3)
+wide_question name (questions.SumIn rect) h = (h.0, h.1, wide rect.x2 h.2, wide rect.y2 h.3)
+wide_question name (questions.ListIn rect) h = (h.0, h.1, wide rect.x2 h.2, wide rect.y2 h.3)
+wide_question name (questions.Near x y) h = (wide x h.0, wide y h.1)
+wide_question name (questions.Nearest k x y) h = (h.0, wide x h.1, wide y h.2)
+wide_question name (questions.Above x1 x2 y) h = (h.0, wide x2 h.1, wide y h.2)
+wide_question name (questions.Top x1 x2) h = (h.0, wide x2 h.1)
+wide_question name (questions.Stab x) h = wide x h
+wide_question name (questions.StabCount x) h = wide x h
+
+-- what is within the limits of version 1 is within those of version 2
+widened : (version : Version) (command : commands.Command) → InLimits version command → InLimits Two command
+widened Two command h = h
+widened One (commands.Livemap chosen) h = h
+widened One (commands.MakeLayer name kind indexes) h = h
+widened One (commands.Add name id (shapes.Point x y w)) h = (h.0, (wide x h.1.0, wide y h.1.1, h.1.2))
+widened One (commands.Add name id (shapes.Segment lo hi y)) h = (h.0, (h.1.0, wide hi h.1.1, wide y h.1.2))
+widened One (commands.Move name id x y w) h = (h.0, (wide x h.1.0, wide y h.1.1, h.1.2))
+widened One (commands.Drop name id) h = h
+widened One (commands.Ask name question) h = wide_question name question h
+widened One (commands.Get name id) h = h
+widened One (commands.Size name) h = h
+widened One (commands.Recent name k) h = h
+
+pub in_limits : (version : Version) (line : List ℕ) (read : Read) (name : List ℕ) (kind : shapes.Kind) (indexes : IndexSet) → Passes version line read name kind indexes → InLimits Two (command_of (verb_of read.form.now.verb) (values read name kind indexes))
+in_limits version line read name kind indexes h =
     let verb = verb_of read.form.now.verb in
     let f = form_of read.form.now in
     let rest = rest_of read in
@@ -43,15 +74,15 @@ in_limits line read name kind indexes h =
     let command = command_of verb (values read name kind indexes) in
     let short : nat_lt longest_line (length line) ≡ false = grind (arith, nat_tests, h.short) in
     let each_once : nat_lt (index_count indexes + 1) (length rest) ≡ false = grind (arith, nat_tests, h.each_once) in
-    let said : parse_printable (words line) ≡ Ok (Some command) =
+    let said : parse_printable version (words line) ≡ Ok (Some command) =
     sym h.said
     ∙ ap (λ b. cond (not b) (Err faults.Fields) (finished verb f rest read.numbers (name_field read.name.now))) h.ended
     ∙ ap (finished verb f rest read.numbers) h.named
     ∙ (λ i. cond (not (h.digits i)) (Err faults.Number) (cond (not (h.in_range i)) (Err faults.Range) (cond (not (h.ordered i)) (Err faults.Order) (layered verb v (length rest) (h.layer i)))))
     ∙ ap (λ b. cond b (Err faults.Index) (Ok (Some command))) each_once in
-    let read_as : parse line ≡ Ok (Some command) =
-    ap parse_text (whole_line line (command_prints line command said))
-    ∙ ap (λ b. cond b (Err faults.Line) (parse_words line (words line))) short
-    ∙ sym (line_last line (words line) refl)
+    let read_as : parse version line ≡ Ok (Some command) =
+    ap (parse_text version) (whole_line line (command_prints version line command said))
+    ∙ ap (λ b. cond b (Err faults.Line) (parse_words version line (words line))) short
+    ∙ sym (line_last version line (words line) refl)
     ∙ ap (looked_at_last line) said in
-    (IsCommand-parsed line command read_as).in_limits
+    widened version command (IsCommand-parsed version line command read_as).in_limits

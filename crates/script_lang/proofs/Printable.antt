@@ -13,9 +13,10 @@ use Rattle.map_model.specs.Shape.{Kind, Points, Segments}
 use Rattle.map_model.specs.LineFault.{LineFault}
 use Rattle.map_model.specs.LineFault as faults
 use Rattle.map_model.specs.Command.{Command}
-use Rattle.map_model.specs.Form.{Field, Form, form, is_ordered, verb_of, verbs}
+use Rattle.map_model.specs.Version.{Version, One, Two}
+use Rattle.map_model.specs.Form.{Field, Id, Coordinate, Weight, Amount, VersionNumber, Form, form, is_ordered, verb_of, verbs}
 use Rattle.map_model.specs.Form as model
-use Rattle.map_model.specs.Grammar.{is_printable, is_digits, is_in_range, all_fields, has_words, Values, named, with_values, command_of, takes_word, is_distinct, Parsed, parse_indexes, parse_kind, parse_fields, parse_verb, parse_words, without_return}
+use Rattle.map_model.specs.Grammar.{is_printable, has_minus, unsigned, is_digits, is_in_range, all_fields, has_words, Values, named, with_values, command_of, takes_word, is_distinct, Parsed, parse_indexes, parse_kind, parse_fields, parse_named, parse_form, parse_verb, parse_words, without_return}
 use Rattle.script_lang.specs.declared.command.Command as script
 use Rattle.script_lang.specs.declared.line_fault.LineFault as errors
 use Rattle.script_lang.specs.LineFault.{fault_of}
@@ -81,9 +82,11 @@ same_prints word known same h = ap prints ((bytes_eq-Decides word known).0 same)
 
 verb_prints : (verb : model.Verb) → prints (form verb).word ≡ true
 unfolding form
+verb_prints model.Livemap = refl
 verb_prints model.Layer = refl
 verb_prints model.Add = refl
 verb_prints model.Seg = refl
+verb_prints model.Move = refl
 verb_prints model.Drop = refl
 verb_prints model.Count = refl
 verb_prints model.Sum = refl
@@ -121,13 +124,34 @@ all_taken_print kind (word ∷ words) h =
     let parts = and_parts (takes_word kind word) (list_all (takes_word kind) words) h in
     and_from (prints word) (list_all prints words) (taken_prints kind word parts.0) (all_taken_print kind words parts.1)
 
+-- a coordinate below zero
+minus_prints : (version : Version) (field : Field) (word : List ℕ) → has_minus version field word ≡ true → prints (drop 1 word) ≡ true → prints word ≡ true
+minus_prints One field word h behind = absurd (true≢false (sym h))
+minus_prints Two Id word h behind = absurd (true≢false (sym h))
+minus_prints Two Coordinate [] h behind = refl
+minus_prints Two Coordinate (byte ∷ word) h behind = and_from (is_printable byte) (prints word) (minus byte h) behind
+  where
+    minus : (byte : ℕ) → (nat_eq 45 byte && true) ≡ true → is_printable byte ≡ true
+    minus byte h = grind (arith, nat_tests)
+minus_prints Two Weight word h behind = absurd (true≢false (sym h))
+minus_prints Two Amount word h behind = absurd (true≢false (sym h))
+minus_prints Two VersionNumber word h behind = absurd (true≢false (sym h))
+
+number_prints : (version : Version) (field : Field) (word : List ℕ) → is_digits version field word ≡ true → prints word ≡ true
+number_prints version field word h =
+    let digits : all_ascii_digits (unsigned version field word) ≡ true = (and_parts (is_filled (unsigned version field word)) (all_ascii_digits (unsigned version field word)) h).1 in
+    elim (cases_Bool (has_minus version field word)) [
+      | inl minus ↦ minus_prints version field word minus (digits_print (drop 1 word) (sym (ap (λ b. all_ascii_digits (cond b (drop 1 word) word)) minus) ∙ digits))
+      | inr plain ↦ digits_print word (sym (ap (λ b. all_ascii_digits (cond b (drop 1 word) word)) plain) ∙ digits)
+    ]
+
 -- words in their fields, and those behind them
-fields_print : (fields : List Field) (words : List (List ℕ)) → all_fields is_digits fields words ≡ true → list_all prints (drop (length fields) words) ≡ true → list_all prints words ≡ true
-fields_print [] words digits behind = behind
-fields_print (field ∷ fields) [] digits behind = refl
-fields_print (field ∷ fields) (word ∷ words) digits behind =
-    let parts = and_parts (is_digits field word) (all_fields is_digits fields words) digits in
-    and_from (prints word) (list_all prints words) (digits_print word (and_parts (is_filled word) (all_ascii_digits word) parts.0).1) (fields_print fields words parts.1 behind)
+fields_print : (version : Version) (fields : List Field) (words : List (List ℕ)) → all_fields (is_digits version) fields words ≡ true → list_all prints (drop (length fields) words) ≡ true → list_all prints words ≡ true
+fields_print version [] words digits behind = behind
+fields_print version (field ∷ fields) [] digits behind = refl
+fields_print version (field ∷ fields) (word ∷ words) digits behind =
+    let parts = and_parts (is_digits version field word) (all_fields (is_digits version) fields words) digits in
+    and_from (prints word) (list_all prints words) (number_prints version field word parts.0) (fields_print version fields words parts.1 behind)
 
 -- ---- a command
 
@@ -176,24 +200,33 @@ end_prints verb v f words said many e = elim (cases_Bool f.has_indexes) [
   | inr none ↦ none_behind (length f.fields) words (sym (ap (λ b. cond b (nat_le (length f.fields + 2) (length words)) (nat_eq (length words) (length f.fields))) none) ∙ many)
 ]
 
-fields_said : (verb : model.Verb) (f : Form) (name : List ℕ) (words : List (List ℕ)) (said : Option Command) → parse_fields verb f name words ≡ Ok said → list_all prints (name ∷ words) ≡ true
-fields_said verb f name words said e =
+-- the words of a form, and its name, where it has one
+fields_said : (version : Version) (verb : model.Verb) (f : Form) (name : List ℕ) (words : List (List ℕ)) (said : Option Command) → parse_fields version verb f name words ≡ Ok said
+    → ((f.has_name && not (is_name name)) ≡ false) × (list_all prints words ≡ true)
+fields_said version verb f name words said e =
     let many = past (not (has_words f words)) faults.Fields _ said e in
-    let called = past (not (is_name name)) faults.Name _ said many.1 in
-    let digits = past (not (all_fields is_digits f.fields words)) faults.Number _ said called.1 in
-    let ranged = past (not (all_fields is_in_range f.fields words)) faults.Range _ said digits.1 in
-    let ordered = past (not (is_ordered f.order (with_values f.fields words (named name)).places)) faults.Order _ said ranged.1 in
-    let behind = end_prints verb (with_values f.fields words (named name)) f words said (holds (has_words f words) many.0) ordered.1 in
-    and_from (prints name) (list_all prints words) (name_prints name (holds (is_name name) called.0)) (fields_print f.fields words (holds (all_fields is_digits f.fields words) digits.0) behind)
+    let called = past (f.has_name && not (is_name name)) faults.Name _ said many.1 in
+    let digits = past (not (all_fields (is_digits version) f.fields words)) faults.Number _ said called.1 in
+    let ranged = past (not (all_fields (is_in_range version) f.fields words)) faults.Range _ said digits.1 in
+    let ordered = past (not (is_ordered f.order (with_values version f.fields words (named name)).places)) faults.Order _ said ranged.1 in
+    let behind = end_prints verb (with_values version f.fields words (named name)) f words said (holds (has_words f words) many.0) ordered.1 in
+    (called.0, fields_print version f.fields words (holds (all_fields (is_digits version) f.fields words) digits.0) behind)
 
-verb_said : (found : Option model.Verb) (words : List (List ℕ)) (said : Option Command) → parse_verb found words ≡ Ok said → list_all prints words ≡ true
-verb_said None words said e = absurd (let never : Err faults.Command ≡ Ok said = e in cc)
-verb_said (Some verb) [] said e = refl
-verb_said (Some verb) (name ∷ words) said e = fields_said verb (form verb) name words said e
+form_said : (version : Version) (verb : model.Verb) (f : Form) (b : Bool) → f.has_name ≡ b → (words : List (List ℕ)) (said : Option Command) → cond b (parse_named version verb f words) (parse_fields version verb f [] words) ≡ Ok said
+    → list_all prints words ≡ true
+form_said version verb f true has' [] said e = refl
+form_said version verb f true has' (name ∷ words) said e =
+    let parts = fields_said version verb f name words said e in
+    and_from (prints name) (list_all prints words) (name_prints name (holds (is_name name) (sym (ap (λ b. b && not (is_name name)) has') ∙ parts.0))) parts.1
+form_said version verb f false has' words said e = (fields_said version verb f [] words said e).1
 
-verb_known : (found : Option model.Verb) (word : List ℕ) (words : List (List ℕ)) (said : Option Command) → found ≡ verb_of word → parse_verb found words ≡ Ok said → prints word ≡ true
-verb_known None word words said is e = absurd (let never : Err faults.Command ≡ Ok said = e in cc)
-verb_known (Some verb) word words said is e = found_prints verbs word verb (sym is)
+verb_said : (version : Version) (found : Option model.Verb) (words : List (List ℕ)) (said : Option Command) → parse_verb version found words ≡ Ok said → list_all prints words ≡ true
+verb_said version None words said e = absurd (let never : Err faults.Command ≡ Ok said = e in cc)
+verb_said version (Some verb) words said e = form_said version verb (form verb) (form verb).has_name refl words said e
+
+verb_known : (version : Version) (found : Option model.Verb) (word : List ℕ) (words : List (List ℕ)) (said : Option Command) → found ≡ verb_of word → parse_verb version found words ≡ Ok said → prints word ≡ true
+verb_known version None word words said is e = absurd (let never : Err faults.Command ≡ Ok said = e in cc)
+verb_known version (Some verb) word words said is e = found_prints verbs word verb (sym is)
 
 -- ---- the whole line
 
@@ -207,31 +240,31 @@ verb_last line (Ok said) h = sym (ap (λ b. cond (not b) (Err faults.Line) (Ok s
 verb_last line (Err fault) h = refl
 
 -- It is enough to look at the bytes of a line where its words say a fault.
-pub line_last : (line : List ℕ) (found : List (List ℕ)) → words line ≡ found → looked_at_last line (parse_printable found) ≡ parse_words line found
-line_last line [] is = refl
-line_last line (word ∷ found) is =
+pub line_last : (version : Version) (line : List ℕ) (found : List (List ℕ)) → words line ≡ found → looked_at_last line (parse_printable version found) ≡ parse_words version line found
+line_last version line [] is = refl
+line_last version line (word ∷ found) is =
     let verb = verb_of word in
-    let told : Bool → Parsed = λ b. looked_at_last line (cond b (Ok None) (parse_verb verb found)) in
-    let said : Bool → Parsed = λ b. cond b (Ok None) (cond (not (prints line)) (Err faults.Line) (parse_verb verb found)) in
+    let told : Bool → Parsed = λ b. looked_at_last line (cond b (Ok None) (parse_verb version verb found)) in
+    let said : Bool → Parsed = λ b. cond b (Ok None) (cond (not (prints line)) (Err faults.Line) (parse_verb version verb found)) in
     elim (cases_Bool (starts_with (λ a b. nat_eq a b) word (35 ∷ []))) [
       | inl comment ↦ ap told comment ∙ sym (ap said comment)
       | inr other ↦
           ap told other
-          ∙ verb_last line (parse_verb verb found) (λ says e. sym (words_print line) ∙ ap (list_all prints) is ∙ and_from (prints word) (list_all prints found) (verb_known verb word found says refl e) (verb_said verb found says e))
+          ∙ verb_last line (parse_verb version verb found) (λ says e. sym (words_print line) ∙ ap (list_all prints) is ∙ and_from (prints word) (list_all prints found) (verb_known version verb word found says refl e) (verb_said version verb found says e))
           ∙ sym (ap said other)
     ]
 
 -- A line that says a command is printable, so no carriage return is at its end.
-pub command_prints : (line : List ℕ) (command : Command) → parse_printable (words line) ≡ Ok (Some command) → prints line ≡ true
-command_prints line command = of (words line) refl
+pub command_prints : (version : Version) (line : List ℕ) (command : Command) → parse_printable version (words line) ≡ Ok (Some command) → prints line ≡ true
+command_prints version line command = of (words line) refl
   where
-    of : (found : List (List ℕ)) → words line ≡ found → parse_printable found ≡ Ok (Some command) → prints line ≡ true
+    of : (found : List (List ℕ)) → words line ≡ found → parse_printable version found ≡ Ok (Some command) → prints line ≡ true
     of [] is e = absurd (let never : Ok None ≡ Ok (Some command) = e in cc)
     of (word ∷ found) is e = elim (cases_Bool (starts_with (λ a b. nat_eq a b) word (35 ∷ []))) [
-      | inl told ↦ absurd (let never : Ok None ≡ Ok (Some command) = sym (ap (λ b. cond b (Ok None) (parse_verb (verb_of word) found)) told) ∙ e in cc)
+      | inl told ↦ absurd (let never : Ok None ≡ Ok (Some command) = sym (ap (λ b. cond b (Ok None) (parse_verb version (verb_of word) found)) told) ∙ e in cc)
       | inr untold ↦
-          let behind : parse_verb (verb_of word) found ≡ Ok (Some command) = sym (ap (λ b. cond b (Ok None) (parse_verb (verb_of word) found)) untold) ∙ e in
-          sym (words_print line) ∙ ap (list_all prints) is ∙ and_from (prints word) (list_all prints found) (verb_known (verb_of word) word found (Some command) refl behind) (verb_said (verb_of word) found (Some command) behind)
+          let behind : parse_verb version (verb_of word) found ≡ Ok (Some command) = sym (ap (λ b. cond b (Ok None) (parse_verb version (verb_of word) found)) untold) ∙ e in
+          sym (words_print line) ∙ ap (list_all prints) is ∙ and_from (prints word) (list_all prints found) (verb_known version (verb_of word) word found (Some command) refl behind) (verb_said version (verb_of word) found (Some command) behind)
     ]
 
 last_prints : (line : List ℕ) → prints line ≡ true → nat_eq (slice_index line (length line - 1)) 13 ≡ false

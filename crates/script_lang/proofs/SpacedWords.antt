@@ -1,20 +1,22 @@
 -- Words with a space between each two, one more at a time.
-use Rattle.std.proofs.Common.{◌≡◌, ℕ, ◌+◌, ◌<◌, Bool, true, false, cond, List, [], ◌∷◌, ◌++◌, codes, decimal, length, map, take, get_or, refl, sym, ap, ◌∙◌, append_assoc, append-nil}
+use Rattle.std.proofs.Common.{◌≡◌, ℕ, ◌+◌, ◌<◌, Bool, true, false, cond, List, [], ◌∷◌, ◌++◌, codes, length, map, take, get_or, refl, sym, ap, ◌∙◌, append_assoc, append-nil}
 use Rattle.std.proofs.lemmas.List.{take_more, map-append}
 use Rattle.map_model.specs.Index.{IndexSet}
 use Rattle.map_model.specs.Line.{spaced_words, word_if, index_words}
+use Rattle.script_lang.specs.declared.line.Number.{Number}
+use Rattle.script_lang.specs.Written.{number_text}
 
 pub spaced_more : (word : List ℕ) (words : List (List ℕ)) (next : List ℕ) → spaced_words (word ∷ (words ++ next ∷ [])) ≡ spaced_words (word ∷ words) ++ 32 ∷ next
 spaced_more word [] next = refl
 spaced_more word (w ∷ ws) next = ap (λ (z : List ℕ). word ++ 32 ∷ z) (spaced_more w ws next) ∙ sym (append_assoc word (32 ∷ spaced_words (w ∷ ws)) (32 ∷ next))
 
 -- one more number
-pub more_numbers : (word name : List ℕ) (numbers : List ℕ) (i d : ℕ) → i < length numbers
-    → spaced_words (word ∷ name ∷ map decimal (take (i + 1) numbers)) ≡ spaced_words (word ∷ name ∷ map decimal (take i numbers)) ++ 32 ∷ decimal (get_or numbers i d)
+pub more_numbers : (word name : List ℕ) (numbers : List Number) (i : ℕ) (d : Number) → i < length numbers
+    → spaced_words (word ∷ name ∷ map number_text (take (i + 1) numbers)) ≡ spaced_words (word ∷ name ∷ map number_text (take i numbers)) ++ 32 ∷ number_text (get_or numbers i d)
 more_numbers word name numbers i d inside =
-    ap (λ ns. spaced_words (word ∷ name ∷ map decimal ns)) (take_more numbers i d inside)
-    ∙ ap (λ ws. spaced_words (word ∷ name ∷ ws)) (map-append decimal (take i numbers) (get_or numbers i d ∷ []))
-    ∙ spaced_more word (name ∷ map decimal (take i numbers)) (decimal (get_or numbers i d))
+    ap (λ (ns : List Number). spaced_words (word ∷ name ∷ map number_text ns)) (take_more numbers i d inside)
+    ∙ ap (λ ws. spaced_words (word ∷ name ∷ ws)) (map-append number_text (take i numbers) (get_or numbers i d ∷ []))
+    ∙ spaced_more word (name ∷ map number_text (take i numbers)) (number_text (get_or numbers i d))
 
 -- a word that may be left out
 abbrev pub said_if : Bool → List ℕ → List ℕ

@@ -16,9 +16,11 @@ use Rattle.script_lang.specs.declared.form.Form.{Form}
 abbrev pub field_of : Field → model.Field
 field_of fields.Id = model.Id
 field_of fields.Coordinate = model.Coordinate
+field_of fields.Weight = model.Weight
 field_of fields.Amount = model.Amount
+field_of fields.VersionNumber = model.VersionNumber
 
--- the numbers that a field takes
+-- the numbers that a field takes, where they have no `-`
 abbrev pub limits_of_field : Field → Limits
 limits_of_field field = let limits = model.limits_of (field_of field) in record { least = limits.least; greatest = limits.greatest }
 
@@ -42,9 +44,11 @@ verb_of_question questions.StabCount = model.StabCount
 
 -- what a command word stands for, as the definitions have it
 abbrev pub verb_of : Verb → model.Verb
+verb_of verbs.Livemap = model.Livemap
 verb_of verbs.Layer = model.Layer
 verb_of verbs.Add = model.Add
 verb_of verbs.Seg = model.Seg
+verb_of verbs.Move = model.Move
 verb_of verbs.Drop = model.Drop
 verb_of (verbs.Ask question) = verb_of_question question
 verb_of verbs.Get = model.Get
@@ -57,7 +61,7 @@ fields_of fs = map field_of fs
 
 -- a form as the definitions have it
 abbrev pub form_of : Form → model.Form
-form_of f = record { word = f.word.now; fields = fields_of f.fields.now; has_indexes = f.has_indexes; order = order_of f.order }
+form_of f = record { word = f.word.now; has_name = f.has_name; fields = fields_of f.fields.now; has_indexes = f.has_indexes; order = order_of f.order }
 
 -- the form is the row of its verb
 abbrev pub IsRow : Form → Type 0
@@ -77,7 +81,9 @@ AreRows [] = ⊤
 AreRows (f ∷ fs) = IsRow f × AreRows fs
 
 -- the field is for a coordinate or a weight
-abbrev pub is_coordinate : Field → Bool
-is_coordinate fields.Id = false
-is_coordinate fields.Coordinate = true
-is_coordinate fields.Amount = false
+abbrev pub is_place : Field → Bool
+is_place fields.Id = false
+is_place fields.Coordinate = true
+is_place fields.Weight = true
+is_place fields.Amount = false
+is_place fields.VersionNumber = false

@@ -6,3 +6,4 @@ pub mod Indexes
 pub mod Command
 pub mod Read
 pub mod Front
+pub mod Written

@@ -1,11 +1,13 @@
 -- What is left to look at once the words of a line are read along their form.
-use Rattle.std.specs.Prelude.{ℕ, ◌+◌, ◌==◌, Bool, not, List, [], ◌∷◌, length, Option, Some, None, Result, Ok, Err, nat_le, nat_lt, if◌then◌else◌}
+use Rattle.std.specs.Prelude.{ℕ, ◌+◌, ◌==◌, Bool, true, false, not, List, [], ◌∷◌, length, Option, Some, None, Result, Ok, Err, nat_le, nat_lt, codes, if◌then◌else◌}
 use Rattle.std.specs.List.{starts_with}
 use Rattle.map_model.specs.Words.{words, name_field}
 use Rattle.map_model.specs.Index.{no_indexes, index_count}
 use Rattle.map_model.specs.Shape.{Points}
 use Rattle.map_model.specs.LineFault as faults
 use Rattle.map_model.specs.Form as model
+use Rattle.map_model.specs.Version.{Version}
+use Rattle.map_shapes.specs.Version.{version_of}
 use Rattle.map_model.specs.Grammar.{Values, Parsed, command_of, parse_verb}
 use Rattle.script_lang.specs.declared.line_fault.LineFault.{LineFault}
 use Rattle.script_lang.specs.declared.numbers.Numbers.{Numbers}
@@ -20,7 +22,7 @@ has_end has_indexes left = if has_indexes then nat_le 2 left else left == 0
 
 -- a name and numbers, as the definitions have them
 abbrev pub values_in : List ℕ → Numbers → Values
-values_in name v = record { name = name; id = v.id; places = v.places; amount = v.amount; kind = Points; indexes = no_indexes }
+values_in name v = record { version = version_of v.version; name = name; id = v.id; places = v.places; amount = v.amount; kind = Points; indexes = no_indexes }
 
 -- with fewer indexes than words behind the kind one of these isn't an index, or stands twice
 abbrev pub layered : model.Verb → Values → ℕ → Layer → Parsed
@@ -43,9 +45,19 @@ abbrev pub walked : model.Verb → model.Form → List ℕ → Numbers → List 
 walked verb f word v rest = if not (has_end f.has_indexes (length rest)) then Err faults.Fields else finished verb f rest v (name_field word)
 
 -- what the words of a line say where all its bytes are printable
-abbrev pub parse_printable : List (List ℕ) → Parsed
-parse_printable [] = Ok None
-parse_printable (word ∷ words) = if starts_with (λ a b. a == b) word (35 ∷ []) then Ok None else parse_verb (model.verb_of word) words
+abbrev pub parse_printable : Version → List (List ℕ) → Parsed
+parse_printable version [] = Ok None
+parse_printable version (word ∷ words) = if starts_with (λ a b. a == b) word (35 ∷ []) then Ok None else parse_verb version (model.verb_of word) words
+
+-- a name for the forms that have none
+abbrev pub no_name : List ℕ
+no_name = codes "-"
+
+-- the name in front of words, where one is wanted, and the words behind it
+abbrev pub split_name : Bool → List (List ℕ) → Option (List ℕ × List (List ℕ))
+split_name true [] = None
+split_name true (name ∷ words) = Some (name, words)
+split_name false words = Some (no_name, words)
 
 -- what a line says of which so much is read
 abbrev pub said : Result (Option Read) LineFault → Parsed

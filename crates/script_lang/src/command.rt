@@ -1,11 +1,15 @@
 // What a line asks for.
 use map_questions::AnyQuestion;
-use map_shapes::{IndexSet, Kind, Name};
+use map_shapes::{IndexSet, Kind, Name, Version};
 
-/// What a line asks for. Coordinates and weights are at most 2,147,483,647; no lower end is past its upper end; `k` is
-/// from 1 to 64; and the indexes of a layer fit its kind.
+/// What a line asks for. Coordinates are as the version of the line keeps them ([`Version`]), and weights are at most 2,147,483,647;
+/// no lower end is past its upper end; `k` is from 1 to 64; and the indexes of a layer fit its kind.
 #[derive(Clone, Copy, Debug)]
 pub enum Command {
+    /// `livemap VERSION`
+    Livemap {
+        version: Version,
+    },
     /// `layer NAME KIND INDEX` with one or more indexes
     Layer {
         name: Name,
@@ -27,6 +31,14 @@ pub enum Command {
         lo: u32,
         hi: u32,
         y: u32,
+    },
+    /// `move NAME ID X Y W`
+    Move {
+        name: Name,
+        id: u64,
+        x: u32,
+        y: u32,
+        w: u32,
     },
     /// `drop NAME ID`
     Drop {

@@ -1,10 +1,9 @@
 // The coordinates of a line.
-ghost use Rattle.std.specs.Prelude.{◌≡◌, ◌<◌, ◌^◌, [], ◌∷◌, ◌++◌, length, slice_index};
+ghost use Rattle.std.specs.Prelude.{◌≡◌, ◌<◌, [], ◌∷◌, ◌++◌, length, slice_index};
 
 use std::marker::Model;
 
-/// Up to four coordinates or weights, each at most 2,147,483,647, in the order of a line. Contracts see them as their
-/// list.
+/// Up to four coordinates, as they are kept, or weights, in the order of a line. Contracts see them as their list.
 #[derive(Drop)]
 pub struct Coordinates {
     values: [u32; 4],
@@ -35,8 +34,7 @@ impl Coordinates {
 
     /// One more behind the others.
     pub fn push(&mut self, value: u32)
-        requires room { length self.old < 4 }
-        requires in_range { value < 2 ^ 31 }
+        requires { length self.old < 4 }
         ensures { self.new ≡ self.old ++ value ∷ [] }
     {
         self.values[self.len] = value;
@@ -46,8 +44,7 @@ impl Coordinates {
     /// The one at an index, and 0 where there are fewer.
     pub fn get(&self, k: usize) -> u32
         requires { k < 4 }
-        ensures value { result ≡ slice_index self.now k }
-        ensures in_range { result < 2 ^ 31 }
+        ensures { result ≡ slice_index self.now k }
     {
         self.values[k]
     }

@@ -11,21 +11,26 @@ use crate::Limits;
 pub enum Field {
     /// An identifier.
     Id,
-    /// A coordinate or a weight.
+    /// A coordinate.
     Coordinate,
+    /// A weight.
+    Weight,
     /// How many are asked for.
     Amount,
+    /// A version of the script.
+    VersionNumber,
 }
 
 impl Field {
-    /// The numbers that it takes.
+    /// The numbers that it takes, where they have no `-`.
     pub fn limits(self) -> Limits
         ensures { result ≡ limits_of_field self }
     {
         let (least, greatest) = match self {
             Field::Id => (0, u64::MAX),
-            Field::Coordinate => (0, 2_147_483_647),
+            Field::Coordinate | Field::Weight => (0, 2_147_483_647),
             Field::Amount => (1, 64),
+            Field::VersionNumber => (1, 2),
         };
         Limits { least, greatest }
     }
@@ -45,9 +50,11 @@ pub enum Order {
 /// What a command word stands for.
 #[derive(Clone, Copy)]
 pub enum Verb {
+    Livemap,
     Layer,
     Add,
     Seg,
+    Move,
     Drop,
     Ask(Question),
     Get,
@@ -69,23 +76,25 @@ pub enum Question {
     StabCount,
 }
 
-/// A row of the table: a command word, the numbers behind it and a name, whether a kind and indexes follow, and which
-/// coordinates are in order.
+/// A row of the table: a command word, whether a name is behind it, the numbers behind these, whether a kind and indexes follow,
+/// and which coordinates are in order.
 #[derive(Clone, Copy)]
 pub struct Form {
     pub word: &'static [u8],
     pub verb: Verb,
+    pub has_name: bool,
     pub fields: &'static [Field],
     pub has_indexes: bool,
     pub order: Order,
 }
 
-/// A row without indexes.
+/// A row of a name and numbers.
 macro_rules! row {
     ($word:expr, $verb:expr, [$($field:ident),*], $order:ident) => {
         Form {
             word: $word,
             verb: $verb,
+            has_name: true,
             fields: &[$(Field::$field),*],
             has_indexes: false,
             order: Order::$order,
@@ -93,10 +102,19 @@ macro_rules! row {
     };
 }
 
-static FORMS: [Form; 16] = [
+static FORMS: [Form; 18] = [
+    Form {
+        word: b"livemap",
+        verb: Verb::Livemap,
+        has_name: false,
+        fields: &[Field::VersionNumber],
+        has_indexes: false,
+        order: Order::Free,
+    },
     Form {
         word: b"layer",
         verb: Verb::Layer,
+        has_name: true,
         fields: &[],
         has_indexes: true,
         order: Order::Free,
@@ -104,7 +122,7 @@ static FORMS: [Form; 16] = [
     row!(
         b"add",
         Verb::Add,
-        [Id, Coordinate, Coordinate, Coordinate],
+        [Id, Coordinate, Coordinate, Weight],
         Free
     ),
     row!(
@@ -112,6 +130,12 @@ static FORMS: [Form; 16] = [
         Verb::Seg,
         [Id, Coordinate, Coordinate, Coordinate],
         Ends
+    ),
+    row!(
+        b"move",
+        Verb::Move,
+        [Id, Coordinate, Coordinate, Weight],
+        Free
     ),
     row!(b"drop", Verb::Drop, [Id], Free),
     row!(

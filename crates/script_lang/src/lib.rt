@@ -1,7 +1,8 @@
 //! The lines of a script: what a line says, or the first thing that is wrong with it.
 //!
-//! [`parse`] reads a line in one walk over its words, along a row of the table of forms. A command that asks holds a question of
-//! `map_questions`, so one whose numbers are in range and in order.
+//! [`parse`] reads a line of a version in one walk over its words, along a row of the table of forms. A command that asks holds a
+//! question of `map_questions`, so one whose numbers are in order. `livemap` alone has no name of a layer: a name that says nothing
+//! stands in its place while it is read.
 //!
 //! A number is read by a loop of its own, since std's `parse` wants a `str` and takes a plus; past 64 bits a number is past every
 //! limit. The first fault of the numbers is kept while the walk goes on, since a later word without digits comes before an earlier
@@ -14,6 +15,7 @@
 
 ghost use Rattle.std.specs.Prelude.{◌≡◌, ℕ, List, take};
 ghost use Rattle.map_model.specs.Grammar as grammar;
+ghost use Rattle.map_model.specs.Version.{Version};
 ghost use Rattle.script_lang.specs.Front.{longest_front};
 
 mod command;
@@ -36,5 +38,5 @@ pub use words::split_word;
 
 /// A line says what its first 258 bytes say: so many tell whether it is too long, with or without a carriage return at its end.
 pub fn fronts_are_enough()
-    ensures { (line : List ℕ) → grammar.parse (take longest_front line) ≡ grammar.parse line }
+    ensures { (version : Version) (line : List ℕ) → grammar.parse version (take longest_front line) ≡ grammar.parse version line }
 {}

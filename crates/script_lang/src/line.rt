@@ -1,47 +1,60 @@
 // The line that a command is written as.
 ghost use Rattle.std.specs.Prelude.{◌≡◌, [], ◌∷◌, ◌++◌, IfOk, OnOk, Ok, Some, map, codes, decimal, if◌then◌else◌};
 ghost use Rattle.map_model.specs.Grammar.{parse};
-ghost use Rattle.map_model.specs.Line.{IsCommand, spaced_words, command_line, kind_word, index_words, question_words, rect_words};
+ghost use Rattle.map_model.specs.Line.{IsCommand, spaced_words, command_line, kind_word, index_words, question_words, rect_words, point_words, version_word};
+ghost use Rattle.map_model.specs.Version.{coordinate_text};
 ghost use Rattle.map_questions.specs.Any.{point_question_of, question_of};
 ghost use Rattle.map_shapes.specs.Kind.{kind_of};
 ghost use Rattle.map_shapes.specs.IndexSet.{index_set_of};
 ghost use Rattle.map_shapes.specs.Rect.{rect_of};
+ghost use Rattle.map_shapes.specs.Version.{version_of};
 ghost use Rattle.script_lang.specs.Command.{command_of};
+ghost use Rattle.script_lang.specs.Written.{number_text};
 
 use crate::Command;
 use crate::indexes::{NEAR, POINTS, RANGE, SEGMENTS, STAB, TOP};
 use itoa::Buffer;
 use map_questions::{AnyQuestion, PointQuestion, SegmentQuestion};
-use map_shapes::{IndexSet, Kind, Name, Rect};
+use map_shapes::{IndexSet, Kind, Name, Rect, Version};
 use std::alloc::{AllocError, Global};
 
+/// A number of a line.
+#[derive(Clone, Copy)]
+enum Number {
+    /// One without a sign.
+    Plain(u64),
+    /// A coordinate.
+    Signed(i64),
+}
+
 impl Command {
-    /// The line that it is written as: one space between words, numbers without leading zeros, and indexes in the order
+    /// The line of a version that it is written as: one space between words, numbers without leading zeros, and indexes in the order
     /// `range near top stab`.
     ///
-    /// Where the command is one that a line can say, its line is read as that command.
-    pub fn line(&self, alloc: Global) -> Result<Vec<u8>, AllocError>
-        ensures line { IfOk result (λ line. line.items ≡ command_line (command_of self.now)) }
-        ensures read { IsCommand (command_of self.now) → IfOk result (λ line. parse line.items ≡ Ok (Some (command_of self.now))) }
+    /// Where the command is one that a line of the version can say, its line is read as that command.
+    pub fn line(&self, version: Version, alloc: Global) -> Result<Vec<u8>, AllocError>
+        ensures line { IfOk result (λ line. line.items ≡ command_line (version_of version) (command_of self.now)) }
+        ensures read { IsCommand (version_of version) (command_of self.now) → IfOk result (λ line. parse (version_of version) line.items ≡ Ok (Some (command_of self.now))) }
     {
         let mut line = Vec::new(alloc);
-        self.write_line(&mut line)?;
+        self.write_line(version, &mut line)?;
         Ok(line)
     }
 
     /// Puts the same line in the place of what is in `line`.
-    pub fn write_line(&self, line: &mut Vec<u8>) -> Result<(), AllocError>
-        ensures { OnOk result (line.new.items ≡ command_line (command_of self.now)) }
+    pub fn write_line(&self, version: Version, line: &mut Vec<u8>) -> Result<(), AllocError>
+        ensures { OnOk result (line.new.items ≡ command_line (version_of version) (command_of self.now)) }
     {
         line.clear();
         match *self {
+            Command::Livemap { version: chosen } => write_livemap(chosen, line),
             Command::Layer {
                 name,
                 kind,
                 indexes,
             } => write_layer(name, kind, indexes, line),
             Command::Add { name, id, x, y, w } => {
-                write_numbers(b"add", name, &shape(id, x, y, w), line)
+                write_numbers(b"add", name, &point(version, id, x, y, w), line)
             }
             Command::Seg {
                 name,
@@ -49,84 +62,141 @@ impl Command {
                 lo,
                 hi,
                 y,
-            } => write_numbers(b"seg", name, &shape(id, lo, hi, y), line),
-            Command::Drop { name, id } => write_numbers(b"drop", name, &[id], line),
-            Command::Ask { name, question } => write_question(name, question, line),
-            Command::Get { name, id } => write_numbers(b"get", name, &[id], line),
+            } => write_numbers(b"seg", name, &segment(version, id, lo, hi, y), line),
+            Command::Move { name, id, x, y, w } => {
+                write_numbers(b"move", name, &point(version, id, x, y, w), line)
+            }
+            Command::Drop { name, id } => write_number(b"drop", name, id, line),
+            Command::Ask { name, question } => write_question(version, name, question, line),
+            Command::Get { name, id } => write_number(b"get", name, id, line),
             Command::Size { name } => write_numbers(b"size", name, &[], line),
-            Command::Recent { name, k } => write_numbers(b"recent", name, &[u64::from(k)], line),
+            Command::Recent { name, k } => write_number(b"recent", name, u64::from(k), line),
         }
     }
 }
 
-/// The line of a question.
-fn write_question(name: Name, question: AnyQuestion, line: &mut Vec<u8>) -> Result<(), AllocError>
+/// The line that chooses a version.
+fn write_livemap(chosen: Version, line: &mut Vec<u8>) -> Result<(), AllocError>
     requires { line.old.items ≡ [] }
-    ensures { OnOk result (line.new.items ≡ spaced_words (question_words name (question_of question))) }
+    ensures { OnOk result (line.new.items ≡ spaced_words (codes "livemap" ∷ version_word (version_of chosen) ∷ [])) }
+{
+    line.extend_from_slice(b"livemap")?;
+    append_word(version_word(chosen), line)
+}
+
+fn version_word(version: Version) -> &'static [u8]
+    ensures { result.now ≡ version_word (version_of version) }
+{
+    match version {
+        Version::One => b"1",
+        Version::Two => b"2",
+    }
+}
+
+/// The line of a question.
+fn write_question(
+    version: Version,
+    name: Name,
+    question: AnyQuestion,
+    line: &mut Vec<u8>,
+) -> Result<(), AllocError>
+    requires { line.old.items ≡ [] }
+    ensures { OnOk result (line.new.items ≡ spaced_words (question_words (version_of version) name (question_of question))) }
 {
     match question {
-        AnyQuestion::Points(question) => write_point_question(name, question, line),
+        AnyQuestion::Points(question) => write_point_question(version, name, question, line),
         AnyQuestion::Segments(SegmentQuestion::Stab(q)) => {
-            write_numbers(b"stab", name, &[u64::from(q.x)], line)
+            write_numbers(b"stab", name, &[place(version, q.x)], line)
         }
         AnyQuestion::Segments(SegmentQuestion::StabCount(q)) => {
-            write_numbers(b"stabcount", name, &[u64::from(q.x)], line)
+            write_numbers(b"stabcount", name, &[place(version, q.x)], line)
         }
     }
 }
 
 fn write_point_question(
+    version: Version,
     name: Name,
     question: PointQuestion,
     line: &mut Vec<u8>,
 ) -> Result<(), AllocError>
     requires { line.old.items ≡ [] }
-    ensures { OnOk result (line.new.items ≡ spaced_words (question_words name (point_question_of question))) }
+    ensures { OnOk result (line.new.items ≡ spaced_words (question_words (version_of version) name (point_question_of question))) }
 {
     match question {
-        PointQuestion::CountIn(q) => write_numbers(b"count", name, &corners(q.0), line),
-        PointQuestion::SumIn(q) => write_numbers(b"sum", name, &corners(q.0), line),
-        PointQuestion::ListIn(q) => write_numbers(b"list", name, &corners(q.0), line),
-        PointQuestion::Near(q) => write_numbers(b"near", name, &pair(q.x, q.y), line),
+        PointQuestion::CountIn(q) => write_numbers(b"count", name, &corners(version, q.0), line),
+        PointQuestion::SumIn(q) => write_numbers(b"sum", name, &corners(version, q.0), line),
+        PointQuestion::ListIn(q) => write_numbers(b"list", name, &corners(version, q.0), line),
+        PointQuestion::Near(q) => {
+            write_numbers(
+                b"near",
+                name,
+                &[place(version, q.x), place(version, q.y)],
+                line,
+            )
+        }
         PointQuestion::NearK(q) => {
-            write_numbers(b"nearest", name, &triple(q.k as u64, q.x, q.y), line)
+            let k = Number::Plain(q.k as u64);
+            write_numbers(
+                b"nearest",
+                name,
+                &[k, place(version, q.x), place(version, q.y)],
+                line,
+            )
         }
         PointQuestion::Above(q) => {
-            write_numbers(b"above", name, &triple(u64::from(q.x1), q.x2, q.y), line)
+            let (x1, x2) = (place(version, q.x1), place(version, q.x2));
+            write_numbers(b"above", name, &[x1, x2, place(version, q.y)], line)
         }
-        PointQuestion::Top(q) => write_numbers(b"top", name, &pair(q.x1, q.x2), line),
+        PointQuestion::Top(q) => {
+            write_numbers(
+                b"top",
+                name,
+                &[place(version, q.x1), place(version, q.x2)],
+                line,
+            )
+        }
     }
 }
 
-fn pair(a: u32, b: u32) -> [u64; 2]
-    ensures { result ≡ a ∷ b ∷ [] }
+/// A kept coordinate as it is written.
+fn place(version: Version, kept: u32) -> Number
+    ensures { number_text result ≡ coordinate_text (version_of version) kept }
 {
-    [u64::from(a), u64::from(b)]
+    Number::Signed(version.coordinate(kept))
 }
 
-fn triple(a: u64, b: u32, c: u32) -> [u64; 3]
-    ensures { result ≡ a ∷ b ∷ c ∷ [] }
+/// An identifier and the numbers of a point.
+fn point(version: Version, id: u64, x: u32, y: u32, w: u32) -> [Number; 4]
+    ensures { map number_text result ≡ point_words (version_of version) id x y w }
 {
-    [a, u64::from(b), u64::from(c)]
+    let w = Number::Plain(u64::from(w));
+    [Number::Plain(id), place(version, x), place(version, y), w]
 }
 
-/// An identifier and the numbers of a shape.
-fn shape(id: u64, a: u32, b: u32, c: u32) -> [u64; 4]
-    ensures { result ≡ id ∷ a ∷ b ∷ c ∷ [] }
+/// An identifier and the numbers of a segment.
+fn segment(version: Version, id: u64, lo: u32, hi: u32, y: u32) -> [Number; 4]
+    ensures { map number_text result ≡ decimal id ∷ coordinate_text (version_of version) lo ∷ coordinate_text (version_of version) hi ∷ coordinate_text (version_of version) y ∷ [] }
 {
-    [id, u64::from(a), u64::from(b), u64::from(c)]
+    let (lo, hi) = (place(version, lo), place(version, hi));
+    [Number::Plain(id), lo, hi, place(version, y)]
 }
 
 /// The corners of a rectangle, in the order of a line.
-fn corners(rect: Rect) -> [u64; 4]
-    ensures { map decimal result ≡ rect_words (rect_of rect) }
+fn corners(version: Version, rect: Rect) -> [Number; 4]
+    ensures { map number_text result ≡ rect_words (version_of version) (rect_of rect) }
 {
-    [
-        u64::from(rect.x1),
-        u64::from(rect.y1),
-        u64::from(rect.x2),
-        u64::from(rect.y2),
-    ]
+    let (x1, y1) = (place(version, rect.x1), place(version, rect.y1));
+    let (x2, y2) = (place(version, rect.x2), place(version, rect.y2));
+    [x1, y1, x2, y2]
+}
+
+/// A command word, a name, and a number without a sign.
+fn write_number(word: &[u8], name: Name, number: u64, line: &mut Vec<u8>) -> Result<(), AllocError>
+    requires { line.old.items ≡ [] }
+    ensures { OnOk result (line.new.items ≡ spaced_words (word.now ∷ name ∷ decimal number ∷ [])) }
+{
+    write_numbers(word, name, &[Number::Plain(number)], line)
 }
 
 /// A command word, a name, and numbers.
@@ -134,11 +204,11 @@ fn corners(rect: Rect) -> [u64; 4]
 fn write_numbers(
     word: &[u8],
     name: Name,
-    numbers: &[u64],
+    numbers: &[Number],
     line: &mut Vec<u8>,
 ) -> Result<(), AllocError>
     requires { line.old.items ≡ [] }
-    ensures { OnOk result (line.new.items ≡ spaced_words (word.now ∷ name ∷ map decimal numbers.now)) }
+    ensures { OnOk result (line.new.items ≡ spaced_words (word.now ∷ name ∷ map number_text numbers.now)) }
 {
     line.extend_from_slice(word)?;
     append_word(name.as_bytes(), line)?;
@@ -186,11 +256,14 @@ fn append_word_if(is_said: bool, word: &[u8], line: &mut Vec<u8>) -> Result<(), 
 }
 
 /// Appends a space and a number.
-fn append_number(number: u64, line: &mut Vec<u8>) -> Result<(), AllocError>
-    ensures { OnOk result (line.new.items ≡ line.old.items ++ 32 ∷ decimal number) }
+fn append_number(number: Number, line: &mut Vec<u8>) -> Result<(), AllocError>
+    ensures { OnOk result (line.new.items ≡ line.old.items ++ 32 ∷ number_text number) }
 {
     let mut digits = Buffer::new();
-    append_word(digits.format(number).as_bytes(), line)
+    match number {
+        Number::Plain(n) => append_word(digits.format(n).as_bytes(), line),
+        Number::Signed(n) => append_word(digits.format(n).as_bytes(), line),
+    }
 }
 
 /// Appends a space and a word.

@@ -4,6 +4,7 @@ ghost use Rattle.map_model.specs.Command as commands;
 ghost use Rattle.map_model.specs.Form as model;
 ghost use Rattle.map_model.specs.Grammar as grammar;
 ghost use Rattle.map_model.specs.Line.{InLimits};
+ghost use Rattle.map_model.specs.Version.{Two};
 ghost use Rattle.map_model.specs.Shape as shapes;
 ghost use Rattle.map_questions.specs.Any.{question_of};
 ghost use Rattle.map_shapes.specs.Rect.{rect_of};
@@ -41,15 +42,18 @@ pub struct Values<'a> {
     pub indexes: IndexSet,
 }
 
-/// The command of a verb.
+/// The command of a verb. Whatever the version is, its numbers are within the limits of version 2.
 #[tactic(auto, unfolding(map_model::specs::Grammar::command_of))]
 pub fn make_command(verb: Verb, values: &Values) -> Command
-    requires { InLimits (grammar.command_of (verb_of verb) (values_of values.now)) }
+    requires { InLimits Two (grammar.command_of (verb_of verb) (values_of values.now)) }
     ensures { command_of result ≡ grammar.command_of (verb_of verb) (values_of values.now) }
 {
     let name = values.name;
     let id = values.numbers.id;
     match verb {
+        Verb::Livemap => Command::Livemap {
+            version: values.numbers.version,
+        },
         Verb::Layer => Command::Layer {
             name,
             kind: values.kind,
@@ -57,6 +61,7 @@ pub fn make_command(verb: Verb, values: &Values) -> Command
         },
         Verb::Add => make_add(name, values.numbers),
         Verb::Seg => make_seg(name, values.numbers),
+        Verb::Move => make_move(name, values.numbers),
         Verb::Drop => Command::Drop { name, id },
         Verb::Ask(question) => Command::Ask {
             name,
@@ -95,10 +100,19 @@ fn make_seg(name: Name, numbers: &Numbers) -> Command
     }
 }
 
+/// The command that moves a point.
+fn make_move(name: Name, numbers: &Numbers) -> Command
+    ensures { command_of result ≡ commands.Move name numbers.now.id (slice_index numbers.now.places 0) (slice_index numbers.now.places 1) (slice_index numbers.now.places 2) }
+{
+    let id = numbers.id;
+    let (x, y, w) = first_three(&numbers.places);
+    Command::Move { name, id, x, y, w }
+}
+
 /// The question of a command that asks.
 #[tactic(auto, unfolding(map_model::specs::Grammar::command_of))]
 fn make_question(question: Question, values: &Values) -> AnyQuestion
-    requires { InLimits (grammar.command_of (verb_of_question question) (values_of values.now)) }
+    requires { InLimits Two (grammar.command_of (verb_of_question question) (values_of values.now)) }
     ensures { commands.Ask values.now.name (question_of result) ≡ grammar.command_of (verb_of_question question) (values_of values.now) }
 {
     let places = &values.numbers.places;

@@ -4,6 +4,7 @@ ghost use Rattle.std.specs.List.{list_all};
 ghost use Rattle.map_model.specs.Grammar as grammar;
 ghost use Rattle.script_lang.specs.Command.{parsed};
 ghost use Rattle.map_model.specs.Words.{words, longest_line};
+ghost use Rattle.map_shapes.specs.Version.{version_of};
 ghost use Rattle.script_lang.specs.Read.{has_end, parse_printable};
 
 use crate::indexes::{index_count, read_layer};
@@ -11,7 +12,7 @@ use crate::making::{Values, make_command};
 use crate::reading::read_line;
 use crate::words::count_words;
 use crate::{Command, LineFault};
-use map_shapes::Name;
+use map_shapes::{Name, Version};
 
 /// The longest line, in bytes.
 const LONGEST_LINE: usize = 256;
@@ -19,19 +20,19 @@ const LONGEST_LINE: usize = 256;
 /// So many bytes at the front of a line are enough: one more than the longest line with a carriage return.
 pub const LONGEST_FRONT: usize = LONGEST_LINE + 2;
 
-/// What a line says that comes without its line feed: `None` where it says nothing, and else a command or the first
+/// What a line of a version says that comes without its line feed: `None` where it says nothing, and else a command or the first
 /// fault that holds.
 ///
 /// It takes no memory. A pass finds the words, and another reads each of them; a third looks for bytes that aren't printable where
 /// they say a fault.
-pub fn parse(line: &[u8]) -> Result<Option<Command>, LineFault>
-    ensures { parsed result ≡ grammar.parse line.now }
+pub fn parse(line: &[u8], version: Version) -> Result<Option<Command>, LineFault>
+    ensures { parsed result ≡ grammar.parse (version_of version) line.now }
 {
     let line = without_return(line);
     if line.len() > LONGEST_LINE {
         return Err(LineFault::Line);
     }
-    let said = parse_printable(line);
+    let said = parse_printable(line, version);
     if said.is_err() && !is_printable(line) {
         return Err(LineFault::Line);
     }
@@ -39,11 +40,11 @@ pub fn parse(line: &[u8]) -> Result<Option<Command>, LineFault>
 }
 
 /// What a line says where all its bytes are printable, as they are wherever it says a command.
-fn parse_printable(line: &[u8]) -> Result<Option<Command>, LineFault>
+fn parse_printable(line: &[u8], version: Version) -> Result<Option<Command>, LineFault>
     requires { length line.now ≤ longest_line }
-    ensures { parsed result ≡ parse_printable (words line.now) }
+    ensures { parsed result ≡ parse_printable (version_of version) (words line.now) }
 {
-    let Some(read) = read_line(line)? else {
+    let Some(read) = read_line(line, version)? else {
         return Ok(None);
     };
     let left = count_words(read.rest);

@@ -1,15 +1,20 @@
 // The words of a line, read along the form of its command word.
-ghost use Rattle.std.specs.Prelude.{◌≡◌, ◌≤◌, MatchOption, IfOk, IfSome};
+ghost use Rattle.std.specs.Prelude.{◌≡◌, IfOk, IfSome, option_map};
 ghost use Rattle.map_model.specs.Words.{words};
+ghost use Rattle.map_shapes.specs.Version.{version_of};
 ghost use Rattle.script_lang.specs.Form.{IsRow};
-ghost use Rattle.script_lang.specs.Read.{said, parse_printable};
+ghost use Rattle.script_lang.specs.Read.{said, split_name, parse_printable};
 
 use crate::LineFault;
 use crate::form::{Form, find_form};
 use crate::numbers::{Numbers, read_numbers};
 use crate::words::split_word;
+use map_shapes::Version;
 
-/// A line by its form: the name, the numbers, and what stands behind them.
+/// A name for the forms that have none.
+const NO_NAME: &[u8] = b"-";
+
+/// A line by its form: the name, the numbers, and what stands behind them. Where the form has no name any stands there.
 #[derive(Drop)]
 pub struct Read<'a> {
     pub form: &'static Form,
@@ -19,8 +24,8 @@ pub struct Read<'a> {
 }
 
 /// Reads a line along the form of its command word, whatever other bytes it has: `None` where it says nothing.
-pub fn read_line(line: &[u8]) -> Result<Option<Read<'_>>, LineFault>
-    ensures said { said result ≡ parse_printable (words line.now) }
+pub fn read_line(line: &[u8], version: Version) -> Result<Option<Read<'_>>, LineFault>
+    ensures said { said result ≡ parse_printable (version_of version) (words line.now) }
     ensures row { IfOk result (λ found. IfSome found (λ read. IsRow read.form.now)) }
 {
     let Some((word, rest)) = split_word(line) else {
@@ -32,10 +37,10 @@ pub fn read_line(line: &[u8]) -> Result<Option<Read<'_>>, LineFault>
     let Some(form) = find_form(word) else {
         return Err(LineFault::Command);
     };
-    let Some((name, rest)) = split_word(rest) else {
+    let Some((name, rest)) = split_name(form.has_name, rest) else {
         return Err(LineFault::Fields);
     };
-    let Some((numbers, rest)) = read_numbers(form.fields, rest) else {
+    let Some((numbers, rest)) = read_numbers(version, form.fields, rest) else {
         return Err(LineFault::Fields);
     };
     Ok(Some(Read {
@@ -44,4 +49,14 @@ pub fn read_line(line: &[u8]) -> Result<Option<Read<'_>>, LineFault>
         numbers,
         rest,
     }))
+}
+
+/// The name in front of a text and what stands behind it; where no name is wanted, one that says nothing and all of the text.
+fn split_name(has_name: bool, text: &[u8]) -> Option<(&[u8], &[u8])>
+    ensures { option_map (λ found. (found.0.now, words found.1.now)) result ≡ split_name has_name (words text.now) }
+{
+    if !has_name {
+        return Some((NO_NAME, text));
+    }
+    split_word(text)
 }

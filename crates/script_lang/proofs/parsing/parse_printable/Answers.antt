@@ -1,5 +1,6 @@
 use Rattle.std.proofs.Common.{rules}
 use Rattle.map_shapes.specs.Kind.{kind_of}
+use Rattle.map_shapes.specs.Version.{version_of}
 use Rattle.map_shapes.specs.IndexSet.{index_set_of}
 use Rattle.script_lang.proofs.Lawful.{Passes, in_limits}
 use Rattle.script_lang.proofs.parsing.parse_printable.Goals as goal
@@ -8,7 +9,7 @@ pub make_command-requires : goal.make_command-requires
 make_command-requires c =
     let kind = kind_of c.in_ok-kind.kind in
     let indexes = index_set_of c.in_ok-kind.indexes in
-    let passes : Passes c.args.line.now c.in-Some.read c.in-Some-read.name kind indexes = record {
+    let passes : Passes (version_of c.args.version) c.args.line.now c.in-Some.read c.in-Some-read.name kind indexes = record {
       short = search rules;
       said = search rules;
       ended = search rules;
@@ -19,4 +20,4 @@ make_command-requires c =
       layer = search rules;
       each_once = search rules;
     } in
-    in_limits _ c.in-Some.read c.in-Some-read.name kind indexes passes
+    in_limits (version_of c.args.version) _ c.in-Some.read c.in-Some-read.name kind indexes passes
