@@ -100,7 +100,7 @@ impl<B: Builder> Index<B> {
         ensures refused { OnErr result (IsWalkedOn B.Part.Part.contents self.old self.new ⊎ HasPaused B.Part.Part.contents 4 self.old self.new) }
         ensures frees { FreesOne B.Part.Part.contents self.old.store self.new.main self.new.shadow self.new.store }
 
-        // Where no rebuild runs, something is, until nothing is left that is above the size of the index.
+        // Where no rebuild runs it frees some, until none is left of a level above the greatest of its size.
         ensures clears { IfOk result (λ _. self.old.shadow ≡ None → Clears B.Part.Part.contents self.old.store self.new.main self.new.shadow self.new.store) }
 
         // A tick for each item that is handed over, and a part is made of it.
