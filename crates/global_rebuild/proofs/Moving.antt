@@ -52,8 +52,7 @@ module _ {Item : Type 0} (handle : ℕ) (es : List (Entry Item)) (item : Item) w
 
   pub first_itself : without_handle handle es ≡ [] → IsCursor (Some handle) (renewed handle item es) × (before_cursor (Some handle) (renewed handle item es) ≡ [])
   first_itself none =
-      let e : Entry Item = record { handle = handle; item = item } in
-      (
+      let e : Entry Item = record { handle = handle; item = item } in (
         linked-append (without_handle handle es) e,
         ap (λ l. before handle (l ++ e ∷ [])) none ∙ before-split handle item [] [] refl,
       )

@@ -1,5 +1,4 @@
-use Rattle.std.proofs.Common.{rules, ◌≡◌, ℕ, ◌+◌, ◌-◌, ◌*◌, ◌^◌, ◌<◌, ◌≤◌, ◌∙◌, nat_lt, true, false, List, Some, None, ap, subst, arith}
-use Rattle.std.proofs.lemmas.Bool.Decides.{nat_tests}
+use Rattle.std.proofs.Common.{rules, ◌≡◌, ℕ, ◌+◌, ◌-◌, ◌*◌, ◌^◌, ◌<◌, ◌≤◌, ◌∙◌, true, false, List, Some, None, ap, subst, arith}
 use Rattle.id_chain.specs.Chain.{is_linked, before_cursor}
 use Rattle.part_store.specs.Store.{KeepsBoth}
 use Rattle.log_levels.specs.Slots.{Slots}
@@ -12,15 +11,11 @@ use Rattle.global_rebuild.proofs.Forgetting.{live_item}
 use Rattle.global_rebuild.proofs.Stocking.{stocked_less, main_ticks, main_ticks_again, shadow_ticks_after}
 use Rattle.global_rebuild.proofs.Walking.{All-part}
 use Rattle.global_rebuild.proofs.Weights.{main_few, main_light}
-use Rattle.global_rebuild.proofs.Dropping.{IsDropped, walked_light, walked_few_enough, walked_item, one_delete}
+use Rattle.global_rebuild.proofs.Dropping.{is_over, IsDropped, walked_light, walked_few_enough, walked_item, one_delete}
 use Rattle.global_rebuild.proofs.Moving.{IsMoved, keeps_then, turns_rise, few_then, heavier, moved_quiet, moved_starts, moved_without, moved_at, moved_after, more_left, as_many_left}
 use Rattle.global_rebuild.proofs.index.Index.commit_move.Given.{Over}
 use Rattle.global_rebuild.proofs.index.Index.commit_move.Goals.{After-insert}
 use Rattle.global_rebuild.proofs.index.Index.commit_move.Goals as goal
-
--- more is dead than half of what is live, and eight
-is_over : (weight live : ℕ) → 3 * live + 16 < 2 * weight → nat_lt (live + 16) (2 * (weight - live)) ≡ true
-is_over weight live more = let dead : live + 16 < 2 * (weight - live) = omega (arith, more) in grind (arith, nat_tests, dead)
 
 pub delete-requires-clause-ready : goal.delete-requires-clause-ready
 delete-requires-clause-ready g c =
