@@ -17,7 +17,7 @@ use Rattle.log_levels.specs.Cost.{IsWithin}
 use Rattle.log_levels.specs.Trades.{Trades, Ticks}
 use Rattle.log_method.specs.Stack.{Stacked, Inserts, Deletes}
 use Rattle.part_store.specs.Store.{Stored, KeepsBoth}
-use Rattle.global_rebuild.specs.Index.{Shadow, Indexed, OwnsMemory, IsShadowOf, IsIndexOf, IsIndex, IsPrepared, IsInTime, IsQuiet, live_in, stamp_at, unwalked, renewed}
+use Rattle.global_rebuild.specs.Index.{Shadow, Indexed, OwnsMemory, IsShadowOf, IsInTime, IsQuiet, live_in, stamp_at, unwalked, renewed}
 use Rattle.global_rebuild.proofs.Walking.{item_of, All-part, Permuted-appended, below-appended, stamp_at-item, item_at-below}
 use Rattle.global_rebuild.proofs.Forgetting.{length-without_handle, IsShadowOf-deleted, IsShadowOf-moved, IsShadowOf-after, one_fewer}
 use Rattle.global_rebuild.proofs.Appending.{IsShadowOf-appended}

@@ -1,4 +1,4 @@
-use Rattle.std.proofs.Common.{rules, ◌≡◌, ℕ, ◌+◌, ◌-◌, ◌*◌, ◌^◌, ◌<◌, ◌≤◌, ◌∙◌, true, false, List, Some, None, ap, subst, arith}
+use Rattle.std.proofs.Common.{rules, ◌≡◌, ℕ, ◌+◌, ◌*◌, ◌^◌, ◌<◌, ◌≤◌, ◌∙◌, true, false, List, Some, None, ap, subst, arith}
 use Rattle.id_chain.specs.Chain.{is_linked, before_cursor}
 use Rattle.part_store.specs.Store.{KeepsBoth}
 use Rattle.log_levels.specs.Slots.{Slots}
