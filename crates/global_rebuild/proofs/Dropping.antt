@@ -27,13 +27,13 @@ module _ {Item : Type 0} (handle : ℕ) (item : Item) (es : List (Entry Item)) (
   abbrev entry : Entry Item
   entry = record { handle = handle; item = item }
 
-  HandlesDiffer-without : HandlesDiffer es → HandlesDiffer (without_handle handle es)
+  pub HandlesDiffer-without : HandlesDiffer es → HandlesDiffer (without_handle handle es)
   HandlesDiffer-without differ =
       HandlesDiffer-append (before handle es) (after handle es)
       (Apart-without (before handle es) entry (after handle es)
       (Apart-parts (before handle es) (entry ∷ after handle es) (subst HandlesDiffer (split_at handle item es is) differ)))
 
-  rise_without : (stamp : Item → ℕ) (stamps : ℕ) → StampsRise stamp 0 es stamps → StampsRise stamp 0 (without_handle handle es) stamps
+  pub rise_without : (stamp : Item → ℕ) (stamps : ℕ) → StampsRise stamp 0 es stamps → StampsRise stamp 0 (without_handle handle es) stamps
   rise_without stamp stamps rise =
       StampsRise-without stamp 0 (before handle es) entry (after handle es) stamps
       (subst (λ l. StampsRise stamp 0 l stamps) (split_at handle item es is) rise)
@@ -52,16 +52,16 @@ pub record IsDropped {P Item : Type 0} (contents : P → Contents Item) (stamp :
 
 module _ {P Item : Type 0} {contents : P → Contents Item} {stamp : Item → ℕ} {i now : Indexed P Item} {es : List (Entry Item)} {stamps handle : ℕ} {item : Item}
     {main : Stacked P Item} {store : Stored} (f : IsDropped contents stamp i now es stamps handle item main store) where
-  h : IsIndexOf contents stamp i es stamps
+  pub h : IsIndexOf contents stamp i es stamps
   h = subst (λ j. IsIndexOf contents stamp j es stamps) (sym f.view) f.chain
 
-  p : IsPrepared contents i
+  pub p : IsPrepared contents i
   p = subst (IsPrepared contents) (sym f.view) f.prepared
 
   abbrev others : List (Entry Item)
   others = without_handle handle es
 
-  others_left : Permuted (live_items contents main.levels) (map item_of others)
+  pub others_left : Permuted (live_items contents main.levels) (map item_of others)
   others_left =
       subst (Permuted (live_items contents main.levels)) (items_without stamp handle 0 item es stamps h.rise f.is)
       (composed f.deletes.live (Permuted-filter (λ x. not (stamp x == stamp item)) h.live))
@@ -125,10 +125,10 @@ module _ {P Item : Type 0} {contents : P → Contents Item} {stamp : Item → �
       })
 
   module _ (r : Shadow P Item) (there : i.shadow ≡ Some r) where
-    own : IsShadowOf contents stamp r es stamps
+    pub own : IsShadowOf contents stamp r es stamps
     own = h.shadow r there
 
-    ahead : IsInTime contents 4 i.main r
+    pub ahead : IsInTime contents 4 i.main r
     ahead = (p.shadow r there).0
 
     pub walked_light : weight_of r.stack.levels < 2 ^ 31
@@ -176,7 +176,7 @@ module _ {P Item : Type 0} {contents : P → Contents Item} {stamp : Item → �
 
     -- as many are left after it is dropped, or one fewer
     module _ (old : Shadow P Item) (was : now.shadow ≡ Some old) where
-      same : r ≡ old
+      pub same : r ≡ old
       same = let some : Some r ≡ Some old = sym there ∙ ap (λ j. j.shadow) f.view ∙ was in cc
 
       pub left_without : (stack : Stacked P Item) → is_linked handle (before_cursor r.cursor es) ≡ true

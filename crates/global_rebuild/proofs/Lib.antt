@@ -10,3 +10,4 @@ pub mod Dropping
 pub mod Swapping
 pub mod Retiring
 pub mod Freeing
+pub mod Moving

@@ -112,6 +112,33 @@ module _ {P Item : Type 0} where
       light = light;
     }
 
+  module _ {i : Indexed P Item} (s : AreStocked 2 i.main i.shadow i.store) (o : OwnsMemory i) where
+    -- the main stack may take a second tick
+    pub main_ticks_again : (main : Stacked P Item) (store : Stored) → Ticks i.main.levels i.store main.levels store → weight_of main.levels < 2 ^ 31
+        → MayTick main.levels store
+    main_ticks_again main store t light = record {
+      stocked = record {
+        builders = λ k. omega (arith, s.builders k, t.stays k);
+        tables = λ k. omega (arith, s.tables k, t.stays_tables k);
+        quiet = t.quiet s.quiet;
+      };
+      lent = lent_to_main (owns-main o main store t.trades);
+      light = light;
+    }
+
+    -- and after it the shadow
+    pub shadow_ticks_after : (mid main : Stacked P Item) (between store : Stored) (r : Shadow P Item) → Ticks i.main.levels i.store mid.levels between
+        → Ticks mid.levels between main.levels store → i.shadow ≡ Some r → weight_of r.stack.levels < 2 ^ 31 → MayTick r.stack.levels store
+    shadow_ticks_after mid main between store r t t' there light = record {
+      stocked = record {
+        builders = λ k. omega (arith, s.builders k, t.stays k, t'.takes k, wanted_less k r.stack.levels, ap (in_shadow (wanted_at 2 k)) there);
+        tables = λ k. omega (arith, s.tables k, t.stays_tables k, t'.takes_tables k, due_less k r.stack.levels, ap (in_shadow (due_at 2 k)) there);
+        quiet = quiet_less r.stack.levels (s.quiet_too r there);
+      };
+      lent = lent_to_shadow (owns-main (owns-main o mid between t.trades) main store t'.trades) r there;
+      light = light;
+    }
+
   -- what both stacks may want is kept where each level was stocked
   pub stocked_both : (main : Stacked P Item) (shadow : Option (Shadow P Item)) (store : Stored)
       → HasRoomsBelow 32 (λ k. in_both (wanted_at 2 k) main shadow) store → AreEnough main.levels

@@ -1,9 +1,9 @@
 -- What contracts see of an index, beside the chain of its items (Overmars 1983).
-use Rattle.std.specs.Prelude.{◌≡◌, ℕ, ◌+◌, ◌-◌, ◌*◌, ◌^◌, ◌<◌, ◌≤◌, Bool, List, Option, Some, None, All, ◌⊎◌, if◌then◌else◌, nat_le, nat_lt, length, map, sum_by}
+use Rattle.std.specs.Prelude.{◌≡◌, ℕ, ◌+◌, ◌-◌, ◌*◌, ◌^◌, ◌<◌, ◌≤◌, Bool, List, [], ◌∷◌, ◌++◌, Option, Some, None, All, ◌⊎◌, if◌then◌else◌, nat_le, nat_lt, length, map, sum_by}
 use Rattle.std.specs.Option.{option_map, option_map_or}
 use Rattle.query_laws.specs.Permuted.{Permuted}
 use Rattle.builder_trait.specs.Parts.{Contents}
-use Rattle.id_chain.specs.Chain.{Entry, HandlesDiffer, is_linked, item_at, IsCursor, before_cursor}
+use Rattle.id_chain.specs.Chain.{Entry, HandlesDiffer, is_linked, item_at, IsCursor, before_cursor, without_handle}
 use Rattle.id_chain.specs.StampsRise.{StampsRise}
 use Rattle.part_store.specs.Shelves.{kept_at, lent_at, held_at}
 use Rattle.part_store.specs.Store.{Stored, KeepsBoth, kept_in}
@@ -38,6 +38,10 @@ module _ {Item : Type 0} (stamp : Item → ℕ) where
   abbrev pub stamp_at : Option ℕ → List (Entry Item) → ℕ → ℕ
   stamp_at None es stamps = stamps
   stamp_at (Some handle) es stamps = option_map_or stamp (item_at handle es) stamps
+
+-- the entries where one is renewed: another item is under its handle, and it comes last
+abbrev pub renewed : {Item : Type 0} → ℕ → Item → List (Entry Item) → List (Entry Item)
+renewed handle item es = without_handle handle es ++ record { handle = handle; item = item } ∷ []
 
 module _ {P Item : Type 0} where
   -- how much the main stack and the shadow have of something
@@ -183,9 +187,9 @@ module _ {P Item : Type 0} (contents : P → Contents Item) where
   abbrev pub IsQuiet : Stacked P Item → Type 0
   IsQuiet main = 2 * dead_in main ≤ live_in main + 16
 
-  -- an index that is ready for an update: memory is there for a delete, and while a rebuild runs it is four items ahead, and some are left
+  -- an index that is ready for an update: memory is there for a delete and an insert, and while a rebuild runs it is four items ahead, and some are left
   pub record IsPrepared (i : Indexed P Item) : Type 0 where
-    pub stocked : AreStocked 1 i.main i.shadow i.store
+    pub stocked : AreStocked 2 i.main i.shadow i.store
     pub shadow : (r : Shadow P Item) → i.shadow ≡ Some r → IsInTime 4 i.main r × (1 ≤ live_in i.main - live_in r.stack)
 
   -- What holds of an index between any two calls: the inequalities at the head of src/lib.rt.

@@ -3,7 +3,7 @@ ghost use Rattle.std.specs.Prelude.{◌≡◌, ◌==◌, ℕ, ◌+◌, ◌-◌, 
 ghost use Rattle.std.specs.Option.{option_map};
 ghost use Rattle.query_laws.specs.StepLedger.{Consults};
 ghost use Rattle.query_laws.specs.declared.item.Order.TheVariants.{First};
-ghost use Rattle.id_chain.specs.Chain.{Entry, HandlesDiffer, is_linked, item_at, IsCursor, before_cursor, without_handle};
+ghost use Rattle.id_chain.specs.Chain.{Entry, HandlesDiffer, is_linked, item_at, after, first_or, IsCursor, before_cursor, without_handle};
 ghost use Rattle.log_levels.specs.Levels.{live_items, all_items, waiting_of, weight_of, parts_of, touches_of};
 ghost use Rattle.part_store.specs.Shelves.{one_if, kept_at, lent_at};
 ghost use Rattle.part_store.specs.Store.{kept_in, HasRooms, StocksUpTo};
@@ -14,7 +14,7 @@ ghost use Rattle.log_method.specs.Few.{HaveFew};
 ghost use Rattle.log_method.specs.Height.{HaveAtMost, AreFew, size_of};
 ghost use Rattle.log_levels.specs.Cost.{IsWithin, quotas};
 ghost use Rattle.log_levels.specs.Towers.{AreOnTime, TakeTicks};
-ghost use Rattle.global_rebuild.specs.Index.{Shadow as Walked, live_in, unwalked, to_walk, shadow_weight, is_heavy, IsKept, IsInTime, IsIndex, IsIndexOf, IsPrepared, AreStocked, OwnsMemory, HoldsAsMuch, IsWalkedOn, HasPaused, FreesOne, IsCleared, Clears, in_both, in_retired, waiting_of_both, asked_of_both};
+ghost use Rattle.global_rebuild.specs.Index.{Shadow as Walked, live_in, renewed, unwalked, to_walk, shadow_weight, is_heavy, IsKept, IsInTime, IsIndex, IsIndexOf, IsPrepared, AreStocked, OwnsMemory, HoldsAsMuch, IsWalkedOn, HasPaused, FreesOne, IsCleared, Clears, in_both, in_retired, waiting_of_both, asked_of_both};
 ghost use Rattle.global_rebuild.specs.Retiring.{with_retired, GivesBack, FreesSpare, FreesUnwanted, TakeMemory};
 
 use crate::shadow::Shadow;
@@ -100,7 +100,7 @@ impl<B: Builder> Index<B> {
         ensures refused { OnErr result (IsWalkedOn B.Part.Part.contents self.old self.new ⊎ HasPaused B.Part.Part.contents 4 self.old self.new) }
         ensures frees { FreesOne B.Part.Part.contents self.old.store self.new.main self.new.shadow self.new.store }
 
-        // Where no rebuild runs, something is, until nothing is left that is above the size of the index.
+        // Where no rebuild runs it frees some, until none is left of a level above the greatest of its size.
         ensures clears { IfOk result (λ _. self.old.shadow ≡ None → Clears B.Part.Part.contents self.old.store self.new.main self.new.shadow self.new.store) }
 
         // A tick for each item that is handed over, and a part is made of it.
@@ -197,6 +197,55 @@ impl<B: Builder> Index<B> {
             shadow.delete(&item, &mut self.store, steps);
         } else if shadow.cursor() == Some(handle) {
             shadow.go_to(chain.next(handle));
+        }
+    }
+
+    /// Puts another item in the place of a linked one, which the caller renews next ([`Chain::renew`]): it goes to the end of the chain under
+    /// its handle, with a stamp that no item had before. A delete from the main stack and an insert, and a delete from the shadow where the
+    /// item was handed over; it gets the other one later. Where too much of the main stack is dead then, a rebuild starts, at the first of the
+    /// items as they stand then.
+    pub fn commit_move<L: Ledger>(
+        &mut self,
+        chain: &Chain<B::Item>,
+        handle: Handle,
+        item: B::Item,
+        steps: &mut Steps<L>,
+    )
+        requires prepared { IsPrepared B.Part.Part.contents self.old }
+        requires chain { IsIndexOf B.Part.Part.contents B.Item.stamp self.old chain.now.entries (B.Item.stamp item) }
+        requires linked { IsTrue (is_linked handle chain.now.entries) }
+        ensures chain { IsIndexOf B.Part.Part.contents B.Item.stamp self.new (renewed handle item chain.now.entries) (B.Item.stamp item + 1) }
+        ensures weights { (weight_of self.new.main.levels ≡ weight_of self.old.main.levels + 1) × (shadow_weight self.new ≡ shadow_weight self.old) }
+        ensures held { HoldsAsMuch self.old self.new }
+        ensures some_turns { steps.old.turns + 3 ≤ steps.new.turns }
+
+        // A mark for each part that is asked, and for each item that waited and waits no longer.
+        ensures waiting { (gone : B.Item) → item_at handle chain.now.entries ≡ Some gone → waiting_of_both self.new + steps.new.marks ≡ waiting_of_both self.old
+            + asked_of_both B.Part.Part.contents B.Item.stamp (B.Item.before First) gone handle chain.now.entries self.old + steps.old.marks }
+        ensures starts { self.old.shadow ≡ None → unwalked B.Part.Part.contents self.new
+            ≡ (if is_heavy B.Part.Part.contents self.new.main then Some (live_in B.Part.Part.contents self.new.main) else None) }
+        ensures goes_on { (r : Walked B.Part B.Item) → self.old.shadow ≡ Some r → unwalked B.Part.Part.contents self.new
+            ≡ option_map (λ w. if is_linked handle (before_cursor r.cursor chain.now.entries) then w + 1 else w) (unwalked B.Part.Part.contents self.old) }
+        ensures cost { (g : ℕ) → 2 * live_in B.Part.Part.contents self.old.main + 10 < 2 ^ (g + 1)
+            → IsWithin (2 * quotas B.SLOPE B.BASE 1 g + quotas B.SLOPE B.BASE 0 g) (2 * (5 * g + 3) + 2 * g) (B.Part.Part.mark_touches g) steps.old steps.new }
+    {
+        let gone = chain.item(handle);
+        self.main.delete(&gone, &mut self.store, steps);
+        self.main.insert(item, &mut self.store, steps);
+        let Some(shadow) = &mut self.shadow else {
+            if 2 * self.main.weight() > 3 * self.main.live() + 16 {
+                start(
+                    &mut self.shadow,
+                    Shadow::new(self.alloc, first_renewed(chain, handle)),
+                );
+            }
+            return;
+        };
+        let was_handed_over = shadow.has_walked_by(chain, handle);
+        if was_handed_over {
+            shadow.delete(&gone, &mut self.store, steps);
+        } else if shadow.cursor() == Some(handle) {
+            shadow.go_to(next_renewed(chain, handle));
         }
     }
 
@@ -580,4 +629,28 @@ fn first_but<I: Copy>(chain: &Chain<I>, handle: Handle) -> Option<Handle>
         return chain.next(handle);
     }
     first
+}
+
+/// The first item of a chain without that of a handle, or else the one that is put in its place.
+fn first_renewed<I: Copy>(chain: &Chain<I>, handle: Handle) -> Option<Handle>
+    requires linked { IsTrue (is_linked handle chain.now.entries) }
+    requires differ { HandlesDiffer chain.now.entries }
+    ensures cursor { (item : I) → IsCursor result (renewed handle item chain.now.entries) }
+    ensures before { (item : I) → before_cursor result (renewed handle item chain.now.entries) ≡ [] }
+{
+    match first_but(chain, handle) {
+        Some(first) => Some(first),
+        None => Some(handle),
+    }
+}
+
+/// The item after one, or else the one that is put in its place.
+fn next_renewed<I: Copy>(chain: &Chain<I>, handle: Handle) -> Option<Handle>
+    requires { IsTrue (is_linked handle chain.now.entries) }
+    ensures { result ≡ first_or (after handle chain.now.entries) (Some handle) }
+{
+    match chain.next(handle) {
+        Some(next) => Some(next),
+        None => Some(handle),
+    }
 }

@@ -6,7 +6,7 @@ use Rattle.log_levels.specs.Levels.{weight_of}
 use Rattle.log_levels.specs.Cost.{IsWithin, quotas}
 use Rattle.global_rebuild.specs.Index.{IsIndexOf, live_in, is_heavy}
 use Rattle.global_rebuild.proofs.Forgetting.{live_item}
-use Rattle.global_rebuild.proofs.Stocking.{main_ticks, shadow_ticks}
+use Rattle.global_rebuild.proofs.Stocking.{stocked_less, main_ticks, shadow_ticks}
 use Rattle.global_rebuild.proofs.Weights.{main_few, main_light}
 use Rattle.global_rebuild.proofs.Dropping.{IsDropped, few_left, walked_light, walked_few_enough, walked_item, starts, stays_quiet, goes_on_without, goes_on_moved, goes_on_after, left_without, left_after, one_delete, at_most_two, both_deletes}
 use Rattle.global_rebuild.proofs.index.Index.commit_delete.Given.{Over}
@@ -20,7 +20,7 @@ is_over weight live more = let dead : live + 16 < 2 * (weight - live) = omega (a
 pub delete-requires-clause-ready : goal.delete-requires-clause-ready
 delete-requires-clause-ready g c =
     let p = rw (← c.self.view_is) at c.requires.prepared in
-    main_ticks p.stocked c.self.invariant.memory (main_light c.self.view_is c.self.invariant c.requires.chain.1)
+    main_ticks (stocked_less _ _ _ p.stocked) c.self.invariant.memory (main_light c.self.view_is c.self.invariant c.requires.chain.1)
 
 pub delete-requires-clause-live : goal.delete-requires-clause-live
 delete-requires-clause-live g c =
@@ -60,7 +60,7 @@ overflow_add-live g c = let few = few_left (some_dropped g (goal.at.overflow_add
 pub delete-requires-then-was_handed_over-clause-ready : goal.delete-requires-then-was_handed_over-clause-ready
 delete-requires-then-was_handed_over-clause-ready g c =
     let p = rw (← c.self.view_is) at c.requires.prepared in
-    shadow_ticks p.stocked c.self.invariant.memory c.delete.new.self c.delete.new.store c.in-Some.shadow c.delete.ensures.trades c.in-Some.is
+    shadow_ticks (stocked_less _ _ _ p.stocked) c.self.invariant.memory c.delete.new.self c.delete.new.store c.in-Some.shadow c.delete.ensures.trades c.in-Some.is
     (walked_light (some_dropped g (goal.at.delete-requires-then-was_handed_over-clause-ready g c).After-delete) c.in-Some.shadow c.in-Some.is)
 
 pub delete-requires-then-was_handed_over-clause-live : goal.delete-requires-then-was_handed_over-clause-live

@@ -7,7 +7,7 @@ use Rattle.log_levels.specs.Trades.{Trades}
 use Rattle.log_method.specs.Stack.{Stacked, Inserts}
 use Rattle.global_rebuild.specs.Index.{Indexed, IsIndex}
 use Rattle.global_rebuild.proofs.Appending.{appended, last_item}
-use Rattle.global_rebuild.proofs.Stocking.{main_ticks}
+use Rattle.global_rebuild.proofs.Stocking.{stocked_less, main_ticks}
 use Rattle.global_rebuild.proofs.Weights.{IsSoundOf, main_few, main_light}
 use Rattle.global_rebuild.proofs.index.Index.commit_insert.Given.{Over}
 use Rattle.global_rebuild.proofs.index.Index.commit_insert.Goals.{After-item-item}
@@ -21,7 +21,7 @@ item-item-requires g c =
 pub insert-requires-clause-ready : goal.insert-requires-clause-ready
 insert-requires-clause-ready g c =
     let p = rw (← c.self.view_is) at c.requires.prepared in
-    main_ticks p.stocked c.self.invariant.memory (main_light c.self.view_is c.self.invariant c.requires.last.3)
+    main_ticks (stocked_less _ _ _ p.stocked) c.self.invariant.memory (main_light c.self.view_is c.self.invariant c.requires.last.3)
 
 is_last : (g : Over) (c : After-item-item g) → c.item-item.result ≡ c.requires.last.1
 is_last g c =

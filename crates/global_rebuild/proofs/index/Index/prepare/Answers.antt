@@ -5,7 +5,6 @@ use Rattle.log_method.proofs.Forecasting.{when_ok}
 use Rattle.global_rebuild.specs.Index.{Shadow, IsIndex, AreStocked, OwnsMemory, FreesOne, Clears, to_walk}
 use Rattle.global_rebuild.specs.Retiring.{with_retired}
 use Rattle.global_rebuild.proofs.Freeing.{walked_frees, anyway_ok, anyway_err}
-use Rattle.global_rebuild.proofs.Stocking.{stocked_less}
 use Rattle.global_rebuild.proofs.Swapping.{IsSwapped, ended, not_swapped, owns-swapped, settled_light, settled_light_too, as_far, IsMade, made}
 use Rattle.global_rebuild.proofs.index.Index.prepare.Given.{Over}
 use Rattle.global_rebuild.proofs.index.Index.prepare.Goals.{then-has_walked+in_ok-reserve, else-has_walked}
@@ -47,7 +46,7 @@ is_stocked g c =
 pub returns-clause-prepared : goal.returns-clause-prepared
 returns-clause-prepared g c =
     let ahead = (made_of g c).ahead in
-    when_ok c.settle.result (λ stocked. record { stocked = stocked_less _ _ _ stocked; shadow = ahead }) (is_stocked g c)
+    when_ok c.settle.result (λ stocked. record { stocked = stocked; shadow = ahead }) (is_stocked g c)
 
 pub returns-clause-ready : goal.returns-clause-ready
 returns-clause-ready g c = is_stocked g c

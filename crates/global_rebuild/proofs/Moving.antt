@@ -1,0 +1,211 @@
+-- An index in which an item is moved: another one is put under its handle, at the end of the chain.
+use Rattle.std.proofs.Common.{◌≡◌, ◌≢◌, ℕ, ◌+◌, ◌-◌, ◌*◌, ◌^◌, ◌<◌, ◌≤◌, ◌∙◌, true, false, List, [], ◌∷◌, ◌++◌, Option, Some, None, inl, inr, length, map, refl, sym, ap, subst, arith}
+use Rattle.std.proofs.lemmas.Bool.{cases_eq}
+use Rattle.std.proofs.lemmas.List.{append-nil, length-append}
+use Rattle.std.proofs.lemmas.List.Elements.{All-nil}
+use Rattle.query_laws.specs.Permuted.{Permuted, nothing}
+use Rattle.query_laws.proofs.Permutations.{Permuted-length}
+use Rattle.builder_trait.specs.Parts.{Contents}
+use Rattle.id_chain.specs.Chain.{Entry, HandlesDiffer, is_linked, item_at, before, after, first_or, first_handle, IsCursor, before_cursor, without_handle}
+use Rattle.id_chain.proofs.Cursors.{unlinked-without, linked-append, before-append, others-append}
+use Rattle.id_chain.proofs.Entries.{HandlesDiffer-append, before-split, item_at-split, unlinked_more}
+use Rattle.id_chain.proofs.Stamps.{StampsRise-append}
+use Rattle.log_levels.specs.Levels.{live_items, all_items, weight_of}
+use Rattle.log_levels.specs.Trades.{Trades, Ticks}
+use Rattle.log_method.specs.Stack.{Stacked, Inserts, Deletes}
+use Rattle.part_store.specs.Store.{Stored}
+use Rattle.global_rebuild.specs.Index.{Shadow, Indexed, OwnsMemory, IsShadowOf, IsIndexOf, IsIndex, IsPrepared, IsInTime, IsQuiet, live_in, stamp_at, renewed}
+use Rattle.global_rebuild.proofs.Walking.{item_of, All-part, Permuted-appended, below-appended, stamp_at-item, item_at-below}
+use Rattle.global_rebuild.proofs.Forgetting.{length-without_handle, IsShadowOf-deleted, IsShadowOf-moved, IsShadowOf-after, one_fewer}
+use Rattle.global_rebuild.proofs.Appending.{IsShadowOf-appended}
+use Rattle.global_rebuild.proofs.Dropping.{IsDropped, HandlesDiffer-without, rise_without, h, p, others_left, one_dropped, owned, own, ahead}
+use Rattle.global_rebuild.proofs.Weights.{IsSoundOf, ended_all}
+use Rattle.global_rebuild.proofs.Owning.{owns-main, owns-fresh, owns-shadow, owns-moved}
+
+module _ {Item : Type 0} (handle : ℕ) (es : List (Entry Item)) (item : Item) where
+  renewed_differ : (gone : Item) → item_at handle es ≡ Some gone → HandlesDiffer es → HandlesDiffer (renewed handle item es)
+  renewed_differ gone is differ =
+      let e : Entry Item = record { handle = handle; item = item } in
+      let none = unlinked-without handle es differ in
+      HandlesDiffer-append (without_handle handle es) (e ∷ []) (record {
+        front = HandlesDiffer-without handle gone es is differ;
+        back = (refl, tt);
+        front_only = λ k there. elim (cases_eq handle k) [
+          | inl same ↦ let unlinked = subst (λ j. is_linked j (without_handle handle es) ≡ false) same none in absurd cc
+          | inr apart ↦ unlinked_more k e [] apart refl
+        ];
+        back_only = λ k there. elim (cases_eq handle k) [
+          | inl same ↦ subst (λ j. is_linked j (without_handle handle es) ≡ false) same none
+          | inr apart ↦ let unlinked = unlinked_more k e [] apart refl in absurd cc
+        ];
+      })
+
+  -- the first of the others, or else the renewed one
+  pub first_of : (cursor : Option ℕ) (c : ℕ) → cursor ≡ Some c → IsCursor cursor (without_handle handle es) → before_cursor cursor (without_handle handle es) ≡ []
+      → IsCursor (Some c) (renewed handle item es) × (before_cursor (Some c) (renewed handle item es) ≡ [])
+  first_of cursor c is linked first =
+      let e : Entry Item = record { handle = handle; item = item } in
+      let there = subst (λ o. IsCursor o (without_handle handle es)) is linked in
+      let none : before c (without_handle handle es) ≡ [] = subst (λ o. before_cursor o (without_handle handle es) ≡ []) is first in
+      ((others-append c (without_handle handle es) e there).0, before-append c (without_handle handle es) e there ∙ none)
+
+  pub first_itself : without_handle handle es ≡ [] → IsCursor (Some handle) (renewed handle item es) × (before_cursor (Some handle) (renewed handle item es) ≡ [])
+  first_itself none =
+      let e : Entry Item = record { handle = handle; item = item } in
+      (
+        linked-append (without_handle handle es) e,
+        ap (λ l. before handle (l ++ e ∷ [])) none ∙ before-split handle item [] [] refl,
+      )
+
+  pub at_renewed : HandlesDiffer es → (before handle (renewed handle item es) ≡ without_handle handle es) × (item_at handle (renewed handle item es) ≡ Some item)
+  at_renewed differ =
+      let none = unlinked-without handle es differ in
+      (before-split handle item (without_handle handle es) [] none, item_at-split handle item (without_handle handle es) [] none)
+
+-- the cursor after a renewed entry at which it was
+pub next_is : {Item : Type 0} (after : List (Entry Item)) (handle : ℕ) (next : Option ℕ) → next ≡ first_handle after
+    → ((n : ℕ) → next ≡ Some n → Some n ≡ first_or after (Some handle)) × (next ≡ None → Some handle ≡ first_or after (Some handle))
+next_is [] handle next is = ((λ n at. let wrong : None ≡ Some n = sym is ∙ at in absurd cc), (λ none. refl))
+next_is (e ∷ es) handle next is = ((λ n at. sym at ∙ is), (λ none. let wrong : None ≡ Some e.handle = sym none ∙ is in absurd cc))
+
+-- a prepared index of a chain with an item, what is seen of it, and its main stack without the item, and then with the one that is put in its place
+pub record IsMoved {P Item : Type 0} (contents : P → Contents Item) (stamp : Item → ℕ) (i now : Indexed P Item) (es : List (Entry Item)) (handle : ℕ)
+    (gone item : Item) (mid main : Stacked P Item) (between store : Stored) : Type 0 where
+  pub dropped : IsDropped contents stamp i now es (stamp item) handle gone mid between
+  pub inserts : Inserts contents item mid.levels main.levels
+  pub ticks : Ticks mid.levels between main.levels store
+
+module _ {P Item : Type 0} {contents : P → Contents Item} {stamp : Item → ℕ} {i now : Indexed P Item} {es : List (Entry Item)} {handle : ℕ} {gone item : Item}
+    {mid main : Stacked P Item} {between store : Stored} (m : IsMoved contents stamp i now es handle gone item mid main between store) where
+  abbrev e : Entry Item
+  e = record { handle = handle; item = item }
+
+  pub as_live : live_in contents main ≡ live_in contents i.main
+  as_live = omega (arith, one_dropped m.dropped, Permuted-length m.inserts.live)
+
+  pub heavier : weight_of main.levels ≡ weight_of i.main.levels + 1
+  heavier = omega (arith, m.dropped.deletes.weight, m.inserts.weight)
+
+  owned_then : OwnsMemory (record i { store = store; main = main })
+  owned_then = owns-main (owned m.dropped) main store m.ticks.trades
+
+  abbrev IsSoundThen : Stored → Option (Shadow P Item) → Type 0
+  IsSoundThen left shadow = IsSoundOf contents stamp (record i { store = left; main = main; shadow = shadow }) (renewed handle item es) (stamp item + 1)
+
+  sound : (left : Stored) (shadow : Option (Shadow P Item)) → OwnsMemory (record i { store = left; main = main; shadow = shadow })
+      → (shadow ≡ None → IsQuiet contents main)
+      → ((r : Shadow P Item) → shadow ≡ Some r → IsInTime contents 0 main r × IsShadowOf contents stamp r (renewed handle item es) (stamp item + 1))
+      → IsSoundThen left shadow
+  sound left shadow owns quiet some = (
+    record {
+      quiet = quiet;
+      in_time = λ r there. (some r there).0;
+      left = m.dropped.valid.left;
+      memory = owns;
+    },
+    record {
+      live = Permuted-appended (without_handle handle es) e m.inserts.live (others_left m.dropped);
+      below = below-appended stamp (all_items contents main.levels) (all_items contents mid.levels) item (stamp item) (stamp item + 1) m.inserts.items
+          (omega arith) (omega arith)
+          (All-part (λ x. stamp x < stamp item) (all_items contents mid.levels) (all_items contents i.main.levels) m.dropped.deletes.items (h m.dropped).below);
+      shadow = λ r there. (some r there).1;
+      rise = StampsRise-append stamp 0 (without_handle handle es) (stamp item) e (omega arith)
+          (rise_without handle gone es m.dropped.is stamp (stamp item) (h m.dropped).rise);
+      differ = renewed_differ handle es item gone m.dropped.is (h m.dropped).differ;
+      few = omega (arith, length-append (without_handle handle es) (e ∷ []), length-without_handle handle es m.dropped.linked, (h m.dropped).few);
+    },
+  )
+
+  -- no rebuild runs, and none starts
+  pub moved_quiet : i.shadow ≡ None → IsQuiet contents main → IsSoundThen store i.shadow
+  moved_quiet none quiet = sound store i.shadow owned_then (λ no. quiet) (λ r there. let wrong : Some r ≡ None = sym there ∙ none in absurd cc)
+
+  goes_on : (left : Stored) (r : Shadow P Item) → OwnsMemory (record i { store = left; main = main; shadow = Some r }) → IsInTime contents 0 main r
+      → IsShadowOf contents stamp r (renewed handle item es) (stamp item + 1) → IsSoundThen left (Some r)
+  goes_on left r owns t own =
+      sound left (Some r) owns (λ no. absurd cc) (λ x there.
+      let one : r ≡ x = cc in
+      subst (λ s. IsInTime contents 0 main s × IsShadowOf contents stamp s (renewed handle item es) (stamp item + 1)) one (t, own))
+
+  -- no rebuild runs, and one starts
+  pub moved_starts : i.shadow ≡ None → (cursor : Option ℕ) → IsCursor cursor (renewed handle item es) → before_cursor cursor (renewed handle item es) ≡ []
+      → IsSoundThen store (Some (record { stack = record { levels = [] }; cursor = cursor }))
+  moved_starts none cursor at first =
+      let quiet = m.dropped.valid.quiet none in
+      goes_on store (record { stack = record { levels = [] }; cursor = cursor }) (owns-fresh owned_then none cursor)
+      (record { few = omega arith; main_light = omega (arith, quiet, as_live, heavier); shadow_light = omega arith })
+      (record {
+        cursor = at;
+        live = subst (λ l. Permuted [] (map item_of l)) (sym first) nothing;
+        below = All-nil (λ x. stamp x < stamp_at stamp cursor (renewed handle item es) (stamp item + 1));
+      })
+
+  module _ (r : Shadow P Item) (there : i.shadow ≡ Some r) where
+    -- items are left to walk by
+    stands : (c : ℕ) × (r.cursor ≡ Some c)
+    stands = at r.cursor refl
+      where
+        at : (cursor : Option ℕ) → r.cursor ≡ cursor → (c : ℕ) × (r.cursor ≡ Some c)
+        at None ended =
+            let all = ended_all contents stamp i es (h m.dropped) r (own m.dropped r there) ended in absurd (omega (arith, all, (p m.dropped).shadow r there))
+        at (Some c) is = (c, is)
+
+    -- it is dropped from the shadow too, which gets the other one later
+    pub moved_without : (r' : Shadow P Item) (left : Stored) → r'.cursor ≡ r.cursor → is_linked handle (before_cursor r.cursor es) ≡ true
+        → Deletes contents stamp (stamp gone) r.stack.levels r'.stack.levels → Trades r.stack.levels store r'.stack.levels left → IsSoundThen left (Some r')
+    moved_without r' left same walked d moves =
+        let t = ahead m.dropped r there in
+        let one = one_fewer contents stamp r es (stamp item) handle gone (h m.dropped).rise (own m.dropped r there) m.dropped.is (live_items contents r'.stack.levels) walked d.live in
+        subst (λ k. IsSoundThen left (Some (record { stack = r'.stack; cursor = k }))) (sym same) (goes_on left (record r { stack = r'.stack })
+        (owns-shadow owned_then r there (record r { stack = r'.stack }) left moves) (record {
+          few = omega (arith, t.few, one, as_live);
+          main_light = omega (arith, t.few, t.main_light, one, as_live, heavier);
+          shadow_light = omega (arith, t.few, t.shadow_light, one, as_live, d.weight);
+        }) (IsShadowOf-appended contents stamp (record r { stack = r'.stack }) (without_handle handle es) e stands.0 stands.1
+        (IsShadowOf-deleted contents stamp r es (stamp item) handle gone (h m.dropped).rise (own m.dropped r there) m.dropped.is r'.stack walked d.live d.items)))
+
+    in_time_at : (cursor : Option ℕ) → IsInTime contents 0 main (record r { cursor = cursor })
+    in_time_at cursor =
+        let t = ahead m.dropped r there in
+        record {
+          few = omega (arith, t.few, as_live);
+          main_light = omega (arith, t.main_light, as_live, heavier);
+          shadow_light = omega (arith, t.shadow_light, as_live);
+        }
+
+    -- it comes after the cursor
+    pub moved_after : is_linked handle (before_cursor r.cursor es) ≡ false → r.cursor ≢ Some handle → IsSoundThen store (Some r)
+    moved_after later other =
+        goes_on store r (owns-moved owned_then r there r.cursor) (in_time_at r.cursor)
+        (IsShadowOf-appended contents stamp r (without_handle handle es) e stands.0 stands.1
+        (IsShadowOf-after contents stamp r es (stamp item) handle gone (h m.dropped).rise (own m.dropped r there) m.dropped.is later other))
+
+    -- the cursor was at it, and it was the last
+    at_last : r.cursor ≡ Some handle → after handle es ≡ [] → IsShadowOf contents stamp (record r { cursor = Some handle }) (renewed handle item es) (stamp item + 1)
+    at_last at last =
+        let mine = own m.dropped r there in
+        let back = at_renewed handle es item (h m.dropped).differ in
+        let all : without_handle handle es ≡ before handle es = ap (λ l. before handle es ++ l) last ∙ append-nil (before handle es) in
+        let was = stamp_at-item stamp r.cursor handle gone es (stamp item) at m.dropped.is in
+        let now = stamp_at-item stamp (Some handle) handle item (renewed handle item es) (stamp item + 1) refl back.1 in
+        let less = item_at-below stamp handle 0 gone es (stamp item) (h m.dropped).rise m.dropped.is in
+        record {
+          cursor = linked-append (without_handle handle es) e;
+          live = subst (λ l. Permuted (live_items contents r.stack.levels) (map item_of l)) (sym (back.0 ∙ all))
+              (subst (λ c. Permuted (live_items contents r.stack.levels) (map item_of (before_cursor c es))) at mine.live);
+          below = λ k d within. let low = mine.below k d within in omega (arith, low, was, now, less);
+        }
+
+    -- the cursor was at it, and goes on to the next one, or else to the one in its place
+    pub moved_at : r.cursor ≡ Some handle → IsSoundThen store (Some (record r { cursor = first_or (after handle es) (Some handle) }))
+    moved_at at =
+        goes_on store (record r { cursor = first_or (after handle es) (Some handle) })
+        (owns-moved owned_then r there (first_or (after handle es) (Some handle))) (in_time_at (first_or (after handle es) (Some handle)))
+        (cases (after handle es) refl)
+      where
+        cases : (l : List (Entry Item)) → after handle es ≡ l
+            → IsShadowOf contents stamp (record r { cursor = first_or (after handle es) (Some handle) }) (renewed handle item es) (stamp item + 1)
+        cases [] last = rw last (at_last at last)
+        cases (x ∷ rest) next = rw next (IsShadowOf-appended contents stamp (record r { cursor = Some x.handle }) (without_handle handle es) e x.handle refl
+            (subst (λ l. IsShadowOf contents stamp (record r { cursor = first_handle l }) (without_handle handle es) (stamp item)) next
+            (IsShadowOf-moved contents stamp r es (stamp item) handle gone (h m.dropped).rise (own m.dropped r there) m.dropped.is (h m.dropped).differ at)))
