@@ -92,7 +92,7 @@ impl<P: OverPoints, S: OverSegments> Layers<P, S> {
         ensures updates { self.new.updates ≡ self.old.updates }
         ensures kept { self.new.layers ≡ self.old.layers }
     {
-        if self.layers.len() > 0 {
+        if !self.layers.is_empty() {
             return Err(HasLayers);
         }
         self.version = version;
