@@ -1,11 +1,11 @@
 -- What a call on the layer of a name costs, where there is one.
-use Rattle.std.specs.Prelude.{◌≡◌, ℕ, ◌+◌, ◌≤◌, Bool, Option, None, Some, Result, length}
+use Rattle.std.specs.Prelude.{◌≡◌, ℕ, ◌+◌, ◌≤◌, Option, None, Some, Result, length}
 use Rattle.query_laws.specs.StepLedger.{Counts}
 use Rattle.map_structures.specs.Touches.{PartTouches}
 use Rattle.map_model.specs.State as state
 use Rattle.map_model.specs.State.{live_count}
 use Rattle.map_model.specs.Index.{Index, index_count}
-use Rattle.map_model.specs.Cost.{bounds_at, IsSpent, IsAsked}
+use Rattle.map_model.specs.Cost.{bounds_at, Update, IsSpent, IsAsked}
 use Rattle.map_shapes.specs.Cost.{spent_of, asked_of}
 use Rattle.map_shapes.specs.declared.question_cost.QuestionCost.{QuestionCost}
 use Rattle.map_shapes.specs.declared.spent.Spent.{Spent}
@@ -18,12 +18,12 @@ use Rattle.map_layers.specs.Faults.{IfUpdated, IfAsked}
 use Rattle.map_layers.specs.Layer.{LayerState, items_in, held_by, IsEveryPart}
 
 -- An update that is done or that memory refused is within the bounds, and any other that is refused costs nothing.
-abbrev pub IsCost : {T : Type 0} → state.Layer → Result T UpdateFault → Counts → Counts → Type 0
-IsCost layer result old new = IfUpdated (λ r. kinds.IsCost (index_count layer.indexes) (live_count layer) r old new) (new ≡ old) (new ≡ old) result
+abbrev pub IsCost : {T : Type 0} → state.Layer → Update → Result T UpdateFault → Counts → Counts → Type 0
+IsCost layer update result old new = IfUpdated (λ r. kinds.IsCost update (index_count layer.indexes) (live_count layer) r old new) (new ≡ old) (new ≡ old) result
 
 -- what it cost is told
-pub record IsTold (layer : state.Layer) (adds : Bool) (spent : Spent) (old new : Counts) : Type 0 where
-  pub bounds : IsSpent layer adds (spent_of spent)
+pub record IsTold (layer : state.Layer) (update : Update) (spent : Spent) (old new : Counts) : Type 0 where
+  pub bounds : IsSpent layer update (spent_of spent)
   pub turns : new.turns ≡ old.turns + spent.turns
   pub marks : new.marks ≡ old.marks + spent.marks
 
@@ -48,14 +48,14 @@ most_in layer most = most (bounds_at (live_count layer)).level (live_count layer
 
 -- An update of the layer of a name is within its bounds, where it is done or memory refused it; where there is no layer, or it is refused for
 -- another cause, nothing is counted.
-abbrev pub IsCostIn : {T : Type 0} → Option state.Layer → Result T UpdateFault → Counts → Counts → Type 0
-IsCostIn None result old new = new ≡ old
-IsCostIn (Some layer) result old new = IsCost layer result old new
+abbrev pub IsCostIn : {T : Type 0} → Option state.Layer → Update → Result T UpdateFault → Counts → Counts → Type 0
+IsCostIn None update result old new = new ≡ old
+IsCostIn (Some layer) update result old new = IsCost layer update result old new
 
 -- what an update of the layer of a name cost is told as it was counted, within its bounds
-abbrev pub IsToldIn : Option state.Layer → Bool → Spent → Counts → Counts → Type 0
-IsToldIn None adds spent old new = ⊥
-IsToldIn (Some layer) adds spent old new = IsTold layer adds spent old new
+abbrev pub IsToldIn : Option state.Layer → Update → Spent → Counts → Counts → Type 0
+IsToldIn None update spent old new = ⊥
+IsToldIn (Some layer) update spent old new = IsTold layer update spent old new
 
 -- what an answered question to the layer of a name cost is told as it was counted, within its bounds
 abbrev pub IsAskingIn : Option state.Layer → (ℕ → ℕ → ℕ) → QuestionCost → Counts → Counts → Type 0

@@ -1,7 +1,7 @@
--- What contracts see of a layer of either kind, and what an add does to its items.
+-- What contracts see of a layer of either kind, and what an update does to its items.
 use Rattle.std.specs.Prelude.{◌≡◌, ℕ, ◌≤◌, true, false, All, List, Option, None, Some, Result, sum_by}
 use Rattle.std.specs.Option.{is_some}
-use Rattle.layer_kinds.specs.Layered.{Layered, items_of, IsAdd, IsRemoval}
+use Rattle.layer_kinds.specs.Layered.{Layered, items_of, IsAdd, IsMove, IsRemoval}
 use Rattle.layer_kinds.specs.Memory.{Memory}
 use Rattle.map_model.specs.Shape as model
 use Rattle.map_model.specs.Index.{Index, Range, Near, Top, Stab, IndexSet}
@@ -31,9 +31,11 @@ held_by held Stab = held.stab
 abbrev pub set_of : Held → IndexSet
 set_of held = record { range = is_some held.range; near = is_some held.near; top = is_some held.top; stab = is_some held.stab }
 
--- a layer as the definitions have it, how many adds there ever were, what its indexes hold, and the memory of each
+-- a layer as the definitions have it, how many items it may have, how many adds and moves there ever were, what its indexes hold, and the
+-- memory of each
 pub record LayerState : Type 0 where
   pub layer : state.Layer
+  pub most_items : ℕ
   pub adds : ℕ
   pub held : Held
   pub memory : List Memory
@@ -46,11 +48,15 @@ layer_of l = l.layer
 abbrev pub name_in : LayerState → List ℕ
 name_in l = l.layer.name
 
--- how many adds there ever were
+-- how many items it may have
+abbrev pub limit_in : LayerState → ℕ
+limit_in l = l.most_items
+
+-- how many adds and moves there ever were
 abbrev pub adds_in : LayerState → ℕ
 adds_in l = l.adds
 
--- its items, in order of add
+-- its items, in order of add or move
 abbrev pub items_in : LayerState → List Item
 items_in l = l.layer.items
 
@@ -61,7 +67,7 @@ module _ {X I : Type 0} (kind : model.Kind) (item_of : I → Item) (held : X →
 
   -- a layer of items of one kind as contracts see it
   abbrev pub seen : (X → List Memory) → Layered X I → LayerState
-  seen memory l = record { layer = layer_seen l; adds = l.adds; held = held l.indexes; memory = memory l.indexes }
+  seen memory l = record { layer = layer_seen l; most_items = l.most_items; adds = l.adds; held = held l.indexes; memory = memory l.indexes }
 
   -- nothing of a layer is another, but for items and what its indexes hold
   abbrev pub IsKept : Layered X I → Layered X I → Type 0
@@ -78,10 +84,16 @@ abbrev pub IsEveryPart : Option (List ℕ) → ℕ → Type 0
 IsEveryPart None parts = ⊥
 IsEveryPart (Some counts) parts = (parts ≡ sum_by (λ n. n) counts) × All (λ n. n ≤ 3) counts
 
+-- An item of the other kind is refused, and then as in a layer of its kind, which may have so many.
+abbrev pub IsAddTo : {T : Type 0} → ℕ → state.Layer → Item → List Item → Result T UpdateFault → Type 0
+IsAddTo most layer item new result = IfUpdated
+    (λ r. (is_same_kind layer.kind (model.kind_of item.shape) ≡ true) × IsAdd most layer.items item new r)
+    ⊥ ((is_same_kind layer.kind (model.kind_of item.shape) ≡ false) × (new ≡ layer.items)) result
+
 -- An item of the other kind is refused, and then as in a layer of its kind.
-abbrev pub IsAddTo : {T : Type 0} → state.Layer → Item → List Item → Result T UpdateFault → Type 0
-IsAddTo layer item new result = IfUpdated
-    (λ r. (is_same_kind layer.kind (model.kind_of item.shape) ≡ true) × IsAdd layer.items item new r)
+abbrev pub IsMoveTo : {T : Type 0} → state.Layer → Item → List Item → Result T UpdateFault → Type 0
+IsMoveTo layer item new result = IfUpdated
+    (λ r. (is_same_kind layer.kind (model.kind_of item.shape) ≡ true) × IsMove layer.items item new r)
     ⊥ ((is_same_kind layer.kind (model.kind_of item.shape) ≡ false) × (new ≡ layer.items)) result
 
 -- An item is taken out or refused as in a layer of one kind.

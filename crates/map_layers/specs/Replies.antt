@@ -8,6 +8,7 @@ use Rattle.map_model.specs.Machine.{step}
 use Rattle.map_model.specs.Output.{may_lack_memory}
 use Rattle.map_layers.specs.declared.faults.CreateFault.{CreateFault}
 use Rattle.map_layers.specs.declared.faults.CreateFault.TheVariants as create
+use Rattle.map_layers.specs.declared.faults.HasLayers.{HasLayers}
 use Rattle.map_layers.specs.declared.faults.UpdateFault.{UpdateFault}
 use Rattle.map_layers.specs.declared.faults.UpdateFault.TheVariants as update
 use Rattle.map_layers.specs.declared.faults.AskFault.{AskFault}
@@ -35,12 +36,17 @@ refusal_of_ask ask.NoIndex = refusals.Index
 refusal_of_ask (ask.Unknown id) = refusals.Unknown id
 refusal_of_ask ask.NoMemory = refusals.NoMemory
 
+-- what the choice of a version is replied
+abbrev pub chosen : {T : Type 0} → Result T HasLayers → Reply
+chosen (Ok done) = Made
+chosen (Err fault) = Refused refusals.Version
+
 -- what the making of a layer is replied
 abbrev pub created : {T : Type 0} → Result T CreateFault → Reply
 created (Ok done) = Made
 created (Err fault) = Refused (refusal_of_create fault)
 
--- what an add or a drop is replied
+-- what an add, a move or a drop is replied
 abbrev pub updated : {T : Type 0} → Result T UpdateFault → Reply
 updated (Ok done) = Updated
 updated (Err fault) = Refused (refusal_of_update fault)

@@ -12,13 +12,18 @@ pub enum CreateFault {
     NoRoom,
 }
 
+/// No version was chosen, since a layer stands. The map hasn't changed then.
+#[derive(Clone, Copy, Debug, Error, PartialEq, Eq)]
+#[error("a layer stands, so that the version stays")]
+pub struct HasLayers;
+
 /// Why an update was refused. No shape and no answer has changed then.
 #[derive(Clone, Copy, Debug, Error, PartialEq, Eq)]
 pub enum UpdateFault {
     /// No layer has the name.
     #[error("no layer has this name")]
     NoLayer,
-    /// A point goes to a layer of segments, or a segment to a layer of points.
+    /// A point goes to a layer of segments, or is moved there, or a segment goes to a layer of points.
     #[error("the layer is of the other kind")]
     WrongKind,
     /// The identifier is live in the layer.
@@ -27,7 +32,7 @@ pub enum UpdateFault {
     /// The identifier isn't live in the layer.
     #[error("identifier {0} isn't live in the layer")]
     Unknown(u64),
-    /// The layer has 65,536 live items.
+    /// The layer has as many live items as one of the map may have.
     #[error("the layer is full")]
     Full,
     /// No memory was found.

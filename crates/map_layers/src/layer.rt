@@ -1,16 +1,18 @@
 //! A layer of either kind.
-ghost use Rattle.std.specs.Prelude.{◌≡◌, ◌+◌, ◌<◌, ◌≤◌, ◌^◌, true, false, [], IfOk, bytes_eq, length};
+ghost use Rattle.std.specs.Prelude.{◌≡◌, ◌+◌, ◌<◌, ◌≤◌, ◌^◌, true, [], IfOk, bytes_eq, length};
 ghost use Rattle.std.specs.Option.{option_map};
 ghost use Rattle.std.specs.Result.{is_ok};
 ghost use Rattle.query_laws.specs.StepLedger.{AtLapStart};
 ghost use Rattle.map_model.specs.Answer.{latest};
+ghost use Rattle.map_model.specs.Cost.{Adds, Drops, Moves};
 ghost use Rattle.map_model.specs.Index.{fits, one_if};
 ghost use Rattle.map_model.specs.Line.{IsShape};
 ghost use Rattle.map_model.specs.State as state;
+ghost use Rattle.map_model.specs.Version.{Two};
 ghost use Rattle.map_shapes.specs.IndexSet.{index_set_of};
 ghost use Rattle.map_shapes.specs.Kind as kinds;
 ghost use Rattle.map_shapes.specs.Shape.{model_shape};
-ghost use Rattle.map_layers.specs.Layer.{name_in, items_in, layer_seen, IsKept, IsAddTo, IsRemovalFrom};
+ghost use Rattle.map_layers.specs.Layer.{name_in, items_in, layer_seen, IsKept, IsAddTo, IsMoveTo, IsRemovalFrom};
 ghost use Rattle.map_questions.specs.Any.{question_of};
 ghost use Rattle.map_layers.specs.Questions.{Asks};
 ghost use Rattle.layer_kinds.specs.Layered.{items_of};
@@ -57,24 +59,32 @@ impl<P: OverPoints, S: OverSegments> MadeWith<Global> for Layer<P, S> {
             top: false,
             stab: false,
         };
-        let shapes = Shapes::Points(KindLayer::new(alloc, no_name(), P::of_set(alloc, none)));
+        let shapes = Shapes::Points(KindLayer::new(alloc, no_name(), 0, P::of_set(alloc, none)));
         Layer { shapes }
     }
 }
 
 impl<P: OverPoints, S: OverSegments> Layer<P, S> {
-    /// A layer without items. It takes no memory.
-    pub(crate) fn new(alloc: Global, name: Name, kind: Kind, indexes: IndexSet) -> Layer<P, S>
+    /// A layer without items, for so many. It takes no memory.
+    pub(crate) fn new(
+        alloc: Global,
+        name: Name,
+        most_items: usize,
+        kind: Kind,
+        indexes: IndexSet,
+    ) -> Layer<P, S>
+        requires few { most_items ≤ 2 ^ 16 }
         requires fits { fits (kinds.kind_of kind) (index_set_of indexes) ≡ true }
         ensures made { result.layer ≡ record { name = name; kind = kinds.kind_of kind; indexes = index_set_of indexes; items = [] } }
+        ensures limit { result.most_items ≡ most_items }
         ensures adds { result.adds ≡ 0 }
     {
         let shapes = match kind {
             Kind::Points => {
-                Shapes::Points(KindLayer::new(alloc, name, P::of_set(alloc, indexes)))
+                Shapes::Points(KindLayer::new(alloc, name, most_items, P::of_set(alloc, indexes)))
             }
             Kind::Segments => {
-                Shapes::Segments(KindLayer::new(alloc, name, S::of_set(alloc, indexes)))
+                Shapes::Segments(KindLayer::new(alloc, name, most_items, S::of_set(alloc, indexes)))
             }
         };
         Layer { shapes }
@@ -151,19 +161,45 @@ impl<P: OverPoints, S: OverSegments> Layer<P, S> {
         shape: Shape,
         steps: &mut Steps<L>,
     ) -> Result<Spent, UpdateFault>
-        requires lawful { IsShape (model_shape shape) }
+        requires lawful { IsShape Two (model_shape shape) }
         requires few { self.old.adds < 2 ^ 62 }
         requires lap { AtLapStart steps.old }
-        ensures added { IsAddTo self.old.layer (record { id = id; shape = model_shape shape }) (items_in self.new) result }
+        ensures added { IsAddTo self.old.most_items self.old.layer (record { id = id; shape = model_shape shape }) (items_in self.new) result }
         ensures same { self.new.layer ≡ record self.old.layer { items = items_in self.new } }
+        ensures limit { self.new.most_items ≡ self.old.most_items }
         ensures adds { self.new.adds ≡ self.old.adds + one_if (is_ok result) }
         ensures kept { KeepsMemory result self.old.memory self.new.memory }
-        ensures cost { IsCost self.old.layer result steps.old steps.new }
-        ensures told { IfOk result (λ spent. IsTold self.old.layer true spent steps.old steps.new) }
+        ensures cost { IsCost self.old.layer Adds result steps.old steps.new }
+        ensures told { IfOk result (λ spent. IsTold self.old.layer Adds spent steps.old steps.new) }
     {
         match &mut self.shapes {
             Shapes::Points(points) => add_to(points, id, shape, steps),
             Shapes::Segments(segments) => add_to(segments, id, shape, steps),
+        }
+    }
+
+    /// Puts an item at the end in the place of that with its identifier, and says what it cost: `WrongKind` where its shape isn't of the
+    /// layer's kind.
+    pub(crate) fn relocate<L: Ledger>(
+        &mut self,
+        id: u64,
+        shape: Shape,
+        steps: &mut Steps<L>,
+    ) -> Result<Spent, UpdateFault>
+        requires lawful { IsShape Two (model_shape shape) }
+        requires few { self.old.adds < 2 ^ 62 }
+        requires lap { AtLapStart steps.old }
+        ensures moved { IsMoveTo self.old.layer (record { id = id; shape = model_shape shape }) (items_in self.new) result }
+        ensures same { self.new.layer ≡ record self.old.layer { items = items_in self.new } }
+        ensures limit { self.new.most_items ≡ self.old.most_items }
+        ensures adds { self.new.adds ≡ self.old.adds + one_if (is_ok result) }
+        ensures kept { KeepsMemory result self.old.memory self.new.memory }
+        ensures cost { IsCost self.old.layer Moves result steps.old steps.new }
+        ensures told { IfOk result (λ spent. IsTold self.old.layer Moves spent steps.old steps.new) }
+    {
+        match &mut self.shapes {
+            Shapes::Points(points) => relocate_in(points, id, shape, steps),
+            Shapes::Segments(segments) => relocate_in(segments, id, shape, steps),
         }
     }
 
@@ -176,10 +212,11 @@ impl<P: OverPoints, S: OverSegments> Layer<P, S> {
         requires lap { AtLapStart steps.old }
         ensures removed { IsRemovalFrom (items_in self.old) id (items_in self.new) result }
         ensures same { self.new.layer ≡ record self.old.layer { items = items_in self.new } }
+        ensures limit { self.new.most_items ≡ self.old.most_items }
         ensures adds { self.new.adds ≡ self.old.adds }
         ensures kept { KeepsMemory result self.old.memory self.new.memory }
-        ensures cost { IsCost self.old.layer result steps.old steps.new }
-        ensures told { IfOk result (λ spent. IsTold self.old.layer false spent steps.old steps.new) }
+        ensures cost { IsCost self.old.layer Drops result steps.old steps.new }
+        ensures told { IfOk result (λ spent. IsTold self.old.layer Drops spent steps.old steps.new) }
     {
         match &mut self.shapes {
             Shapes::Points(points) => remove_from(points, id, steps),
@@ -195,19 +232,45 @@ fn add_to<X: NamedIndexes, L: Ledger>(
     shape: Shape,
     steps: &mut Steps<L>,
 ) -> Result<Spent, UpdateFault>
-    requires lawful { IsShape (model_shape shape) }
+    requires lawful { IsShape Two (model_shape shape) }
     requires few { layer.old.adds < 2 ^ 62 }
     requires lap { AtLapStart steps.old }
-    ensures added { IsAddTo (layer_seen X.Item.kind X.Item.item_of X.held layer.old) (record { id = id; shape = model_shape shape })
+    ensures added { IsAddTo layer.old.most_items (layer_seen X.Item.kind X.Item.item_of X.held layer.old) (record { id = id; shape = model_shape shape })
         (items_of X.Item.item_of layer.new.entries) result }
     ensures same { IsKept X.Item.kind X.Item.item_of X.held layer.old layer.new }
+    ensures limit { layer.new.most_items ≡ layer.old.most_items }
     ensures adds { layer.new.adds ≡ layer.old.adds + one_if (is_ok result) }
     ensures kept { KeepsMemory result (X.memory layer.old.indexes) (X.memory layer.new.indexes) }
-    ensures cost { IsCost (layer_seen X.Item.kind X.Item.item_of X.held layer.old) result steps.old steps.new }
-    ensures told { IfOk result (λ spent. IsTold (layer_seen X.Item.kind X.Item.item_of X.held layer.old) true spent steps.old steps.new) }
+    ensures cost { IsCost (layer_seen X.Item.kind X.Item.item_of X.held layer.old) Adds result steps.old steps.new }
+    ensures told { IfOk result (λ spent. IsTold (layer_seen X.Item.kind X.Item.item_of X.held layer.old) Adds spent steps.old steps.new) }
 {
     match X::item(id, shape) {
         Some(item) => Ok(layer.add(item, steps)?),
+        None => Err(UpdateFault::WrongKind),
+    }
+}
+
+/// Puts an item of a shape at the end of a layer of one kind in the place of that with its identifier, where the shape is of the kind.
+fn relocate_in<X: NamedIndexes, L: Ledger>(
+    layer: &mut KindLayer<X>,
+    id: u64,
+    shape: Shape,
+    steps: &mut Steps<L>,
+) -> Result<Spent, UpdateFault>
+    requires lawful { IsShape Two (model_shape shape) }
+    requires few { layer.old.adds < 2 ^ 62 }
+    requires lap { AtLapStart steps.old }
+    ensures moved { IsMoveTo (layer_seen X.Item.kind X.Item.item_of X.held layer.old) (record { id = id; shape = model_shape shape })
+        (items_of X.Item.item_of layer.new.entries) result }
+    ensures same { IsKept X.Item.kind X.Item.item_of X.held layer.old layer.new }
+    ensures limit { layer.new.most_items ≡ layer.old.most_items }
+    ensures adds { layer.new.adds ≡ layer.old.adds + one_if (is_ok result) }
+    ensures kept { KeepsMemory result (X.memory layer.old.indexes) (X.memory layer.new.indexes) }
+    ensures cost { IsCost (layer_seen X.Item.kind X.Item.item_of X.held layer.old) Moves result steps.old steps.new }
+    ensures told { IfOk result (λ spent. IsTold (layer_seen X.Item.kind X.Item.item_of X.held layer.old) Moves spent steps.old steps.new) }
+{
+    match X::item(id, shape) {
+        Some(item) => Ok(layer.relocate(item, steps)?),
         None => Err(UpdateFault::WrongKind),
     }
 }
@@ -221,10 +284,11 @@ fn remove_from<X: NamedIndexes, L: Ledger>(
     requires lap { AtLapStart steps.old }
     ensures removed { IsRemovalFrom (items_of X.Item.item_of layer.old.entries) id (items_of X.Item.item_of layer.new.entries) result }
     ensures same { IsKept X.Item.kind X.Item.item_of X.held layer.old layer.new }
+    ensures limit { layer.new.most_items ≡ layer.old.most_items }
     ensures adds { layer.new.adds ≡ layer.old.adds }
     ensures kept { KeepsMemory result (X.memory layer.old.indexes) (X.memory layer.new.indexes) }
-    ensures cost { IsCost (layer_seen X.Item.kind X.Item.item_of X.held layer.old) result steps.old steps.new }
-    ensures told { IfOk result (λ spent. IsTold (layer_seen X.Item.kind X.Item.item_of X.held layer.old) false spent steps.old steps.new) }
+    ensures cost { IsCost (layer_seen X.Item.kind X.Item.item_of X.held layer.old) Drops result steps.old steps.new }
+    ensures told { IfOk result (λ spent. IsTold (layer_seen X.Item.kind X.Item.item_of X.held layer.old) Drops spent steps.old steps.new) }
 {
     Ok(layer.remove(id, steps)?)
 }

@@ -2,27 +2,31 @@
 mod asking;
 mod updating;
 
-ghost use Rattle.std.specs.Prelude.{◌≡◌, ◌+◌, ◌<◌, ◌≤◌, ◌^◌, ◌++◌, List, true, false, IfOk};
+ghost use Rattle.std.specs.Prelude.{◌≡◌, ◌+◌, ◌<◌, ◌≤◌, ◌^◌, ◌++◌, List, true, IfOk};
 ghost use Rattle.std.specs.Option.{option_map};
 ghost use Rattle.query_laws.specs.StepLedger.{lap_begun};
 ghost use Rattle.map_model.specs.State.{layer_named};
+ghost use Rattle.map_model.specs.Cost.{Adds, Drops, Moves};
 ghost use Rattle.map_model.specs.Command as commands;
 ghost use Rattle.map_model.specs.Index.{fits};
 ghost use Rattle.map_model.specs.Line.{IsShape};
+ghost use Rattle.map_model.specs.Shape as shapes;
+ghost use Rattle.map_model.specs.Version.{Two};
 ghost use Rattle.map_model.specs.Reply as replies;
 ghost use Rattle.map_shapes.specs.Kind.{kind_of};
 ghost use Rattle.map_shapes.specs.IndexSet.{index_set_of};
 ghost use Rattle.map_shapes.specs.Shape.{model_shape};
+ghost use Rattle.map_shapes.specs.Version.{version_of};
 ghost use Rattle.map_layers.specs.Layer.{LayerState};
 ghost use Rattle.map_layers.specs.Layers.{no_layers, map_of, named};
 ghost use Rattle.map_layers.specs.Costs.{IsCostIn, IsToldIn};
 ghost use Rattle.map_layers.specs.Memory.{KeepsMemoryIn};
-ghost use Rattle.map_layers.specs.Replies.{created, updated, questioned, IsAnswered};
+ghost use Rattle.map_layers.specs.Replies.{chosen, created, updated, questioned, IsAnswered};
 
-use crate::layers::updating::{add_in, remove_in};
-use crate::{AskFault, CreateFault, Layer, OverPoints, OverSegments, UpdateFault};
+use crate::layers::updating::{add_in, move_in, remove_in};
+use crate::{AskFault, CreateFault, HasLayers, Layer, OverPoints, OverSegments, UpdateFault};
 use arrayvec::ArrayVec;
-use map_shapes::{IndexSet, Kind, Name, Recent, Shape, Spent};
+use map_shapes::{IndexSet, Kind, Name, Recent, Shape, Spent, Version};
 use query_laws::step_ledger::Steps;
 use std::alloc::Global;
 use std::marker::Model;
@@ -31,38 +35,68 @@ use std::sync::ledger::Ledger;
 /// The most layers of a map.
 const MOST_LAYERS: usize = 8;
 
-/// A map of at most eight layers, which lie in place, over these indexes of points and of segments. Contracts see the map of the definitions, and what an update may cost there.
+/// A map of at most eight layers, which lie in place, over these indexes of points and of segments. Contracts see the map of the
+/// definitions: the version of the lines that follow, as many items as a layer may have, and the layers.
 ///
 /// An update takes all memory before it changes anything, and spends a bounded number of turns, marks and touches, whatever came before
 /// it. A question is put to the complete parts of one index. Each call that is handed steps begins a lap.
 #[derive(Drop)]
 pub struct Layers<P: OverPoints, S: OverSegments> {
+    version: Version,
+    most_items: usize,
     layers: ArrayVec<Layer<P, S>, MOST_LAYERS, Global>,
     alloc: Global,
     updates: u64,
 }
 
 impl<P: OverPoints, S: OverSegments> Model for Layers<P, S> {
-    ghost use Rattle.std.specs.Prelude.{◌≤◌};
-    ghost use Rattle.map_layers.specs.Layers.{LayersState, names_of, adds_of, AllDiffer};
+    ghost use Rattle.std.specs.Prelude.{◌≡◌, ◌≤◌, ◌^◌, All};
+    ghost use Rattle.map_shapes.specs.Version.{version_of};
+    ghost use Rattle.map_layers.specs.Layers.{LayersState, names_of, adds_of, limits_of, AllDiffer};
 
     ghost Value = { LayersState };
 
-    ghost view = { λ l. record { layers = l.layers.items; updates = l.updates } };
+    ghost view = { λ l. record { version = version_of l.version; most_items = l.most_items; layers = l.layers.items; updates = l.updates } };
 
-    ghost invariant = { λ l. AllDiffer (names_of l.layers.items) × (adds_of l.layers.items ≤ l.updates) };
+    ghost invariant = { λ l. AllDiffer (names_of l.layers.items) × (adds_of l.layers.items ≤ l.updates)
+        × All (λ n. n ≡ l.most_items) (limits_of l.layers.items) × (l.most_items ≤ 2 ^ 16) };
 }
 
 impl<P: OverPoints, S: OverSegments> Layers<P, S> {
-    /// A map without layers. It takes no memory; updates take theirs from `alloc`.
-    pub fn new(alloc: Global) -> Layers<P, S>
-        ensures { result ≡ no_layers }
+    /// A map without layers, for layers of so many items, in version 1. It takes no memory; updates take theirs from `alloc`.
+    pub fn new(alloc: Global, most_items: usize) -> Layers<P, S>
+        requires few { most_items ≤ 2 ^ 16 }
+        ensures { result ≡ no_layers most_items }
     {
         Layers {
+            version: Version::One,
+            most_items,
             layers: ArrayVec::new_in(alloc),
             alloc,
             updates: 0,
         }
+    }
+
+    /// The version of the lines that follow.
+    pub fn version(&self) -> Version
+        ensures { version_of result ≡ self.now.version }
+    {
+        self.version
+    }
+
+    /// Chooses the version of the lines that follow: `HasLayers` where a layer stands, though it be the version that is chosen already.
+    ///
+    /// It takes no memory, is no update and begins no lap.
+    pub fn choose_version(&mut self, version: Version) -> Result<(), HasLayers>
+        ensures answered { IsAnswered (map_of self.old) (commands.Livemap (version_of version)) (map_of self.new) (chosen result) }
+        ensures updates { self.new.updates ≡ self.old.updates }
+        ensures kept { self.new.layers ≡ self.old.layers }
+    {
+        if self.layers.len() > 0 {
+            return Err(HasLayers);
+        }
+        self.version = version;
+        Ok(())
     }
 
     /// Makes an empty layer of a kind with indexes that it can have. It takes no memory.
@@ -81,11 +115,14 @@ impl<P: OverPoints, S: OverSegments> Layers<P, S> {
             return Err(CreateFault::NoRoom);
         }
         self.layers
-            .push(Layer::new(self.alloc, *name, kind, indexes));
+            .push(Layer::new(self.alloc, *name, self.most_items, kind, indexes));
         Ok(())
     }
 
-    /// Adds an item at the end of a layer.
+    /// Adds an item at the end of a layer. Its coordinates are as they are kept, whatever the version.
+    ///
+    /// `NoLayer` where no layer has the name, then `WrongKind` where the shape isn't of its kind, `Duplicate` where the identifier is live,
+    /// `Full` where as many are live as may be, and `NoMemory` where that isn't given. A refused one changes nothing.
     pub fn add<L: Ledger>(
         &mut self,
         name: &Name,
@@ -93,22 +130,52 @@ impl<P: OverPoints, S: OverSegments> Layers<P, S> {
         shape: Shape,
         steps: &mut Steps<L>,
     ) -> Result<Spent, UpdateFault>
-        requires lawful { IsShape (model_shape shape) }
+        requires lawful { IsShape Two (model_shape shape) }
         requires few { self.old.updates < 2 ^ 40 }
         ensures answered { IsAnswered (map_of self.old) (commands.Add name.now id (model_shape shape)) (map_of self.new) (updated result) }
         ensures counted { self.new.updates ≡ self.old.updates + 1 }
         ensures kept { KeepsMemoryIn name.now result self.old.layers self.new.layers }
 
         // Bounded, refused memory or not; and nothing where it is refused for another cause.
-        ensures cost { IsCostIn (layer_named name.now (map_of self.old)) result (lap_begun steps.old) steps.new }
-        ensures told { IfOk result (λ spent. IsToldIn (layer_named name.now (map_of self.old)) true spent (lap_begun steps.old) steps.new) }
+        ensures cost { IsCostIn (layer_named name.now (map_of self.old).layers) Adds result (lap_begun steps.old) steps.new }
+        ensures told { IfOk result (λ spent. IsToldIn (layer_named name.now (map_of self.old).layers) Adds spent (lap_begun steps.old) steps.new) }
     {
         steps.start_lap();
         self.updates += 1;
         add_in(&mut self.layers, name, id, shape, steps)
     }
 
-    /// Drops the item with an identifier from a layer.
+    /// Gives the point of an identifier another place and weight. It goes to the end of its layer, behind what was added after it, though it
+    /// be where it was.
+    ///
+    /// `NoLayer` where no layer has the name, then `WrongKind` where the layer has segments, `Unknown` where the identifier isn't live, and
+    /// `NoMemory` where that isn't given: the point is then where it was. It goes and comes back in one update, so a full layer takes it.
+    pub fn move_point<L: Ledger>(
+        &mut self,
+        name: &Name,
+        id: u64,
+        x: u32,
+        y: u32,
+        w: u32,
+        steps: &mut Steps<L>,
+    ) -> Result<Spent, UpdateFault>
+        requires lawful { IsShape Two (shapes.Point x y w) }
+        requires few { self.old.updates < 2 ^ 40 }
+        ensures answered { IsAnswered (map_of self.old) (commands.Move name.now id x y w) (map_of self.new) (updated result) }
+        ensures counted { self.new.updates ≡ self.old.updates + 1 }
+        ensures kept { KeepsMemoryIn name.now result self.old.layers self.new.layers }
+
+        // Bounded, refused memory or not; and nothing where it is refused for another cause.
+        ensures cost { IsCostIn (layer_named name.now (map_of self.old).layers) Moves result (lap_begun steps.old) steps.new }
+        ensures told { IfOk result (λ spent. IsToldIn (layer_named name.now (map_of self.old).layers) Moves spent (lap_begun steps.old) steps.new) }
+    {
+        steps.start_lap();
+        self.updates += 1;
+        move_in(&mut self.layers, name, id, x, y, w, steps)
+    }
+
+    /// Drops the item with an identifier from a layer: `NoLayer` where no layer has the name, then `Unknown` where the identifier isn't live,
+    /// and `NoMemory` where that isn't given.
     pub fn remove<L: Ledger>(
         &mut self,
         name: &Name,
@@ -121,8 +188,8 @@ impl<P: OverPoints, S: OverSegments> Layers<P, S> {
         ensures kept { KeepsMemoryIn name.now result self.old.layers self.new.layers }
 
         // Bounded, refused memory or not; and nothing where it is refused for another cause.
-        ensures cost { IsCostIn (layer_named name.now (map_of self.old)) result (lap_begun steps.old) steps.new }
-        ensures told { IfOk result (λ spent. IsToldIn (layer_named name.now (map_of self.old)) false spent (lap_begun steps.old) steps.new) }
+        ensures cost { IsCostIn (layer_named name.now (map_of self.old).layers) Drops result (lap_begun steps.old) steps.new }
+        ensures told { IfOk result (λ spent. IsToldIn (layer_named name.now (map_of self.old).layers) Drops spent (lap_begun steps.old) steps.new) }
     {
         steps.start_lap();
         self.updates += 1;

@@ -3,6 +3,7 @@ ghost use Rattle.std.specs.Prelude.{◌≡◌, ◌≤◌, true, false, [], Match
 ghost use Rattle.query_laws.specs.StepLedger.{AtLapStart};
 ghost use Rattle.map_model.specs.Index.{fits, index_count};
 ghost use Rattle.map_model.specs.Line.{IsShape};
+ghost use Rattle.map_model.specs.Version.{Two};
 ghost use Rattle.map_model.specs.Machine.{is_same_kind};
 ghost use Rattle.map_model.specs.Shape as model;
 ghost use Rattle.map_shapes.specs.IndexSet.{index_set_of};
@@ -32,7 +33,7 @@ pub trait NamedIndexes: Indexes {
 
     /// An item of an identifier and a shape: `None` where the shape is of the other kind.
     fn item(id: u64, shape: Shape) -> Option<Self::Item>
-        requires lawful { IsShape (model_shape shape) }
+        requires lawful { IsShape Two (model_shape shape) }
         ensures { MatchOption result (is_same_kind Self.Item.kind (model.kind_of (model_shape shape)) ≡ false)
             (λ item. (is_same_kind Self.Item.kind (model.kind_of (model_shape shape)) ≡ true)
             × (Self.Item.item_of item ≡ record { id = id; shape = model_shape shape })) };

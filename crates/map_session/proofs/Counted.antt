@@ -11,7 +11,7 @@ use Rattle.layer_kinds.specs.Asking.{IsReading, ReadsAtMost}
 use Rattle.layer_kinds.specs.Costs.{IsInBounds}
 use Rattle.map_model.specs.Answer.{Question, Answer}
 use Rattle.map_model.specs.Command.{Command, name_of, takes_memory}
-use Rattle.map_model.specs.Cost.{Cost, Untold, bounds_at, mark_bound}
+use Rattle.map_model.specs.Cost.{Cost, Untold, Update, bounds_at, mark_bound}
 use Rattle.map_model.specs.Index.{index_count}
 use Rattle.map_model.specs.Machine.{Outcome, step}
 use Rattle.map_model.specs.Reply.{Answered, is_refusal}
@@ -54,9 +54,9 @@ module _ (old new : State) (command : Command) where
   update_accepted (Err Full) is = tt
   update_accepted (Err NoMemory) is = unrefused (takes_memory command) (is_refusal (step old command).reply) is.0
 
-  accepted_work : (layer : Option Layer) → layer_named (name_of command) old ≡ layer → IsAccepted old command → work_of old command ≡ work_in command layer
+  accepted_work : (layer : Option Layer) → layer_named (name_of command) old.layers ≡ layer → IsAccepted old command → work_of old command ≡ work_in command layer
   accepted_work layer is accepted =
-      ap (λ b. if b then no_work else work_in command (layer_named (name_of command) old)) accepted ∙ ap (work_in command) is
+      ap (λ b. if b then no_work else work_in command (layer_named (name_of command) old.layers)) accepted ∙ ap (work_in command) is
 
 module _ (work : Work) {before after : Counts} where
   -- nothing is counted
@@ -78,11 +78,11 @@ times a b n less = grind (arith, less)
 
 module _ {before after : Counts} where
   -- an update within its bounds
-  within : (layer : Layer) (cost : Cost) → IsInBounds (index_count layer.indexes) (live_count layer) (lap_begun before) after → IsTold cost before after
-      → IsCounted (bounds_in (Some layer)) cost before after
-  within layer cost h told =
+  within : (update : Update) (layer : Layer) (cost : Cost) → IsInBounds update (index_count layer.indexes) (live_count layer) (lap_begun before) after → IsTold cost before after
+      → IsCounted (bounds_in update (Some layer)) cost before after
+  within update layer cost h told =
       let touches = touches_at (bounds_at (live_count layer)).level in
-      let marked = times (after.marks - before.marks) (mark_bound layer) touches h.few_marks in
+      let marked = times (after.marks - before.marks) (mark_bound update layer) touches h.few_marks in
       record {
         turns_kept = omega (arith, h.spent.turns_spent);
         marks_kept = omega (arith, h.spent.marks_spent);
@@ -111,42 +111,42 @@ module _ {before after : Counts} where
   }
 
 -- an update is one lap, whatever becomes of it
-pub update_lap : {T : Type 0} (before after : Counts) (o : Option Layer) (result : Result T UpdateFault) → IsCostIn o result (lap_begun before) after
+pub update_lap : {T : Type 0} (before after : Counts) (o : Option Layer) (update : Update) (result : Result T UpdateFault) → IsCostIn o update result (lap_begun before) after
     → after.lap_start ≡ (lap_begun before).lap_start
-update_lap before after None result cost = ap (λ s. s.lap_start) cost
-update_lap before after (Some layer) (Ok done) cost = cost.spent.same_lap
-update_lap before after (Some layer) (Err NoLayer) cost = ap (λ s. s.lap_start) cost
-update_lap before after (Some layer) (Err WrongKind) cost = ap (λ s. s.lap_start) cost
-update_lap before after (Some layer) (Err (Duplicate id)) cost = ap (λ s. s.lap_start) cost
-update_lap before after (Some layer) (Err (Unknown id)) cost = ap (λ s. s.lap_start) cost
-update_lap before after (Some layer) (Err Full) cost = ap (λ s. s.lap_start) cost
-update_lap before after (Some layer) (Err NoMemory) cost = cost.spent.same_lap
+update_lap before after None update result cost = ap (λ s. s.lap_start) cost
+update_lap before after (Some layer) update (Ok done) cost = cost.spent.same_lap
+update_lap before after (Some layer) update (Err NoLayer) cost = ap (λ s. s.lap_start) cost
+update_lap before after (Some layer) update (Err WrongKind) cost = ap (λ s. s.lap_start) cost
+update_lap before after (Some layer) update (Err (Duplicate id)) cost = ap (λ s. s.lap_start) cost
+update_lap before after (Some layer) update (Err (Unknown id)) cost = ap (λ s. s.lap_start) cost
+update_lap before after (Some layer) update (Err Full) cost = ap (λ s. s.lap_start) cost
+update_lap before after (Some layer) update (Err NoMemory) cost = cost.spent.same_lap
 
 -- ---- the calls
 
 module _ (old new : State) (command : Command) {before after : Counts} where
-  module _ (takes : (layer : Option Layer) → work_in command layer ≡ bounds_in layer) (adding : Bool) where
-    update_by : (o : Option Layer) → layer_named (name_of command) old ≡ o → (result : Result Spent UpdateFault) → UnlessRefused result (IsAccepted old command) → IsCostIn o result (lap_begun before) after
-        → IfOk result (λ spent. IsToldIn o adding spent (lap_begun before) after) → IsCounted (work_of old command) (update_cost result) before after
+  module _ (update : Update) (takes : (layer : Option Layer) → work_in command layer ≡ bounds_in update layer) where
+    update_by : (o : Option Layer) → layer_named (name_of command) old.layers ≡ o → (result : Result Spent UpdateFault) → UnlessRefused result (IsAccepted old command) → IsCostIn o update result (lap_begun before) after
+        → IfOk result (λ spent. IsToldIn o update spent (lap_begun before) after) → IsCounted (work_of old command) (update_cost result) before after
     update_by None is (Ok spent) accepted cost told = absurd told
     update_by None is (Err fault) accepted cost told = quiet (work_of old command) cost
     update_by (Some layer) is (Ok spent) accepted cost told =
         subst (λ w. IsCounted w (update_cost {F = UpdateFault} (Ok spent)) before after) (sym (accepted_work old new command (Some layer) is accepted ∙ takes (Some layer)))
-        (within layer (update_cost {F = UpdateFault} (Ok spent)) cost (told.turns, told.marks, cost.spent.none_consulted))
+        (within update layer (update_cost {F = UpdateFault} (Ok spent)) cost (told.turns, told.marks, cost.spent.none_consulted))
     update_by (Some layer) is (Err NoLayer) accepted cost told = quiet (work_of old command) cost
     update_by (Some layer) is (Err WrongKind) accepted cost told = quiet (work_of old command) cost
     update_by (Some layer) is (Err (Duplicate id)) accepted cost told = quiet (work_of old command) cost
     update_by (Some layer) is (Err (Unknown id)) accepted cost told = quiet (work_of old command) cost
     update_by (Some layer) is (Err Full) accepted cost told = quiet (work_of old command) cost
     update_by (Some layer) is (Err NoMemory) accepted cost told =
-        subst (λ w. IsCounted w Untold before after) (sym (accepted_work old new command (Some layer) is accepted ∙ takes (Some layer))) (within layer Untold cost tt)
+        subst (λ w. IsCounted w Untold before after) (sym (accepted_work old new command (Some layer) is accepted ∙ takes (Some layer))) (within update layer Untold cost tt)
 
-    pub update_counted : (result : Result Spent UpdateFault) → IsAnswered old command new (updated result) → IsCostIn (layer_named (name_of command) old) result (lap_begun before) after
-        → IfOk result (λ spent. IsToldIn (layer_named (name_of command) old) adding spent (lap_begun before) after) → IsCounted (work_of old command) (update_cost result) before after
-    update_counted result is cost told = update_by (layer_named (name_of command) old) refl result (update_accepted old new command result is) cost told
+    pub update_counted : (result : Result Spent UpdateFault) → IsAnswered old command new (updated result) → IsCostIn (layer_named (name_of command) old.layers) update result (lap_begun before) after
+        → IfOk result (λ spent. IsToldIn (layer_named (name_of command) old.layers) update spent (lap_begun before) after) → IsCounted (work_of old command) (update_cost result) before after
+    update_counted result is cost told = update_by (layer_named (name_of command) old.layers) refl result (update_accepted old new command result is) cost told
 
   module _ {T : Type 0} (question : Question) (takes : (layer : Option Layer) → work_in command layer ≡ asking_in question layer) (most : T × QuestionCost → ℕ → ℕ → ℕ) (answer : T × QuestionCost → Answer) where
-    question_by : (o : Option Layer) → layer_named (name_of command) old ≡ o → (result : Result (T × QuestionCost) AskFault) → IsAnswered old command old (questioned (λ given. Answered (answer given)) result)
+    question_by : (o : Option Layer) → layer_named (name_of command) old.layers ≡ o → (result : Result (T × QuestionCost) AskFault) → IsAnswered old command old (questioned (λ given. Answered (answer given)) result)
         → IsTouchingIn o (touches_for question) result (lap_begun before) after → IsReading (lap_begun before) after
         → IfOk result (λ given. IsAskingIn o (most given) given.1 (lap_begun before) after) → IsCounted (work_of old command) (question_cost result) before after
     question_by None is (Ok given) answered touching reads told = absurd told
@@ -165,6 +165,6 @@ module _ (old new : State) (command : Command) {before after : Counts} where
         (reading question layer Untold touching reads tt)
 
     pub question_counted : (result : Result (T × QuestionCost) AskFault) → IsAnswered old command old (questioned (λ given. Answered (answer given)) result)
-        → IsTouchingIn (layer_named (name_of command) old) (touches_for question) result (lap_begun before) after → IsReading (lap_begun before) after
-        → IfOk result (λ given. IsAskingIn (layer_named (name_of command) old) (most given) given.1 (lap_begun before) after) → IsCounted (work_of old command) (question_cost result) before after
-    question_counted result answered touching reads told = question_by (layer_named (name_of command) old) refl result answered touching reads told
+        → IsTouchingIn (layer_named (name_of command) old.layers) (touches_for question) result (lap_begun before) after → IsReading (lap_begun before) after
+        → IfOk result (λ given. IsAskingIn (layer_named (name_of command) old.layers) (most given) given.1 (lap_begun before) after) → IsCounted (work_of old command) (question_cost result) before after
+    question_counted result answered touching reads told = question_by (layer_named (name_of command) old.layers) refl result answered touching reads told

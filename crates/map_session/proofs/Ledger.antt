@@ -2,18 +2,18 @@
 use Rattle.std.proofs.Common.{◌≡◌, ◌∙◌, ℕ, nat_le, ◌+◌, ◌≤◌, inl, inr, Bool, true, false, not, List, [], ◌∷◌, Option, Some, None, Ok, Err, if◌then◌else◌, refl, sym, ap, subst, arith}
 use Rattle.std.proofs.lemmas.Bool.{cases_Bool}
 use Rattle.query_laws.specs.StepLedger.{Counts}
-use Rattle.map_model.specs.Command.{Command, MakeLayer, Add, Drop, Ask, Get, Size, Recent, name_of}
-use Rattle.map_model.specs.Cost.{Cost, Untold, Updating, Asking}
+use Rattle.map_model.specs.Command.{Command, Livemap, MakeLayer, Add, Move, Drop, Ask, Get, Size, Recent, name_of}
+use Rattle.map_model.specs.Cost.{Cost, Untold, Updating, Asking, Update}
 use Rattle.map_model.specs.Grammar.{Parsed, parse}
-use Rattle.map_model.specs.Machine.{Outcome, replied, refused, is_same_kind, step, add_to, drop_from, ask_of}
+use Rattle.map_model.specs.Machine.{Outcome, replied, refused, is_same_kind, step, add_to, move_in, drop_from, ask_of}
 use Rattle.map_model.specs.Answer.{Question, answer_over, index_of, kind_asked}
 use Rattle.map_model.specs.Index.{has}
 use Rattle.map_model.specs.Refusal.{NoLayer, Index, Duplicate, Unknown, Full}
 use Rattle.map_model.specs.Refusal as refusals
-use Rattle.map_model.specs.Output.{Told, Given, AnswersTo, IsCost, adds}
+use Rattle.map_model.specs.Output.{Told, Given, AnswersTo, IsCost, update_of}
 use Rattle.map_model.specs.Reply.{Reply, Made, Updated, Answered, Got, Sized, Latest, Refused, is_refusal}
-use Rattle.map_model.specs.Shape.{Shape, kind_of}
-use Rattle.map_model.specs.State.{Layer, State, layer_named, most_items, live_count, is_live, with_items, with_item, without_item}
+use Rattle.map_model.specs.Shape.{Shape, Point, kind_of}
+use Rattle.map_model.specs.State.{Layer, State, layer_named, live_count, is_live, with_items, with_item, without_item}
 use Rattle.map_session.specs.Answering.{Moment, Runs}
 use Rattle.map_session.specs.Ledger.{work_told, work_lacking, told_in, lacking_in, told_to, lacking_to, AddsUp}
 use Rattle.map_session.specs.Session.{SessionState, map_in, cost_told, Executes, Obeys}
@@ -40,10 +40,18 @@ add_costs : (state : State) (name : List ℕ) (id : ℕ) (shape : Shape) (layer 
 add_costs state name id shape None = refl
 add_costs state name id shape (Some layer) =
     let added = replied (with_items name (with_item (record { id = id; shape = shape })) state) Updated in
-    let held : Outcome = if nat_le most_items (live_count layer) then refused state Full else added in
+    let held : Outcome = if nat_le state.most_items (live_count layer) then refused state Full else added in
     let fresh : Outcome = if is_live id layer.items then refused state (Duplicate id) else held in
     either (not (is_same_kind layer.kind (kind_of shape))) (refused state refusals.Kind) fresh refl
-    (either (is_live id layer.items) (refused state (Duplicate id)) held refl (either (nat_le most_items (live_count layer)) (refused state Full) added refl refl))
+    (either (is_live id layer.items) (refused state (Duplicate id)) held refl (either (nat_le state.most_items (live_count layer)) (refused state Full) added refl refl))
+
+move_costs : (state : State) (name : List ℕ) (id : ℕ) (shape : Shape) (layer : Option Layer) → has_cost (move_in state name id shape layer).reply ≡ true
+move_costs state name id shape None = refl
+move_costs state name id shape (Some layer) =
+    let moved = replied (with_items name (λ items. with_item (record { id = id; shape = shape }) (without_item id items)) state) Updated in
+    let live : Outcome = if is_live id layer.items then moved else refused state (Unknown id) in
+    either (not (is_same_kind layer.kind (kind_of shape))) (refused state refusals.Kind) live refl
+    (either (is_live id layer.items) moved (refused state (Unknown id)) refl refl)
 
 drop_costs : (state : State) (name : List ℕ) (id : ℕ) (layer : Option Layer) → has_cost (drop_from state name id layer).reply ≡ true
 drop_costs state name id None = refl
@@ -59,34 +67,37 @@ ask_costs state question (Some layer) =
     (either (not (has layer.indexes (index_of question))) (refused state Index) answered refl refl)
 
 lap_costs : (state : State) (command : Command) → begins_lap command ≡ true → has_cost (step state command).reply ≡ true
+lap_costs state (Livemap version) begins = absurd cc
 lap_costs state (MakeLayer name kind indexes) begins = absurd cc
-lap_costs state (Add name id shape) begins = add_costs state name id shape (layer_named name state)
-lap_costs state (Drop name id) begins = drop_costs state name id (layer_named name state)
-lap_costs state (Ask name question) begins = ask_costs state question (layer_named name state)
+lap_costs state (Add name id shape) begins = add_costs state name id shape (layer_named name state.layers)
+lap_costs state (Move name id x y w) begins = move_costs state name id (Point x y w) (layer_named name state.layers)
+lap_costs state (Drop name id) begins = drop_costs state name id (layer_named name state.layers)
+lap_costs state (Ask name question) begins = ask_costs state question (layer_named name state.layers)
 lap_costs state (Get name id) begins = absurd cc
 lap_costs state (Size name) begins = absurd cc
 lap_costs state (Recent name k) begins = absurd cc
 
-refused_if_untold : (layer : Option Layer) (adding : Bool) (reply : Reply) → IsCost layer adding reply Untold → has_cost reply ≡ true → is_refusal reply ≡ true
-refused_if_untold layer adding Made allowed has = absurd cc
-refused_if_untold None adding Updated allowed has = absurd allowed
-refused_if_untold (Some layer) adding Updated allowed has = absurd allowed
-refused_if_untold None adding (Answered answer) allowed has = absurd allowed
-refused_if_untold (Some layer) adding (Answered answer) allowed has = absurd allowed
-refused_if_untold layer adding (Got shape) allowed has = absurd cc
-refused_if_untold layer adding (Sized n) allowed has = absurd cc
-refused_if_untold layer adding (Latest ids) allowed has = absurd cc
-refused_if_untold layer adding (Refused cause) allowed has = refl
+refused_if_untold : (layer : Option Layer) (update : Option Update) (reply : Reply) → IsCost layer update reply Untold → has_cost reply ≡ true → is_refusal reply ≡ true
+refused_if_untold layer update Made allowed has = absurd cc
+refused_if_untold None update Updated allowed has = absurd allowed
+refused_if_untold (Some layer) None Updated allowed has = absurd allowed
+refused_if_untold (Some layer) (Some update) Updated allowed has = absurd allowed
+refused_if_untold None update (Answered answer) allowed has = absurd allowed
+refused_if_untold (Some layer) update (Answered answer) allowed has = absurd allowed
+refused_if_untold layer update (Got shape) allowed has = absurd cc
+refused_if_untold layer update (Sized n) allowed has = absurd cc
+refused_if_untold layer update (Latest ids) allowed has = absurd cc
+refused_if_untold layer update (Refused cause) allowed has = refl
 
 -- ---- one line
 
 -- what takes something and tells nothing was refused
-untold_command : (state : State) (command : Command) → IsCost (layer_named (name_of command) state) (adds command) (step state command).reply Untold
+untold_command : (state : State) (command : Command) → IsCost (layer_named (name_of command) state.layers) (update_of command) (step state command).reply Untold
     → work_of state command ≡ (if is_refusal (step state command).reply then work_of state command else no_work)
 untold_command state command allowed =
     elim (cases_Bool (begins_lap command)) [
       | inl begins ↦
-          let refused = refused_if_untold (layer_named (name_of command) state) (adds command) (step state command).reply allowed (lap_costs state command begins) in
+          let refused = refused_if_untold (layer_named (name_of command) state.layers) (update_of command) (step state command).reply allowed (lap_costs state command begins) in
           sym (ap (λ b. if b then work_of state command else no_work) refused)
       | inr none ↦ same_either (is_refusal (step state command).reply) (work_of state command) (lapless_command state command none)
     ]
@@ -101,7 +112,7 @@ untold state (Err fault) given answers none = sym (ap (λ (g : Given). work_lack
 untold state (Ok (Some command)) given (inr lacking) none = sym (ap (λ (g : Given). work_lacking state (Ok (Some command)) g.told) lacking.1)
 untold state (Ok (Some command)) given (inl executes) none =
     let free : executes.cost ≡ Untold = sym (ap (λ (g : Given). cost_told g.told) executes.is_given) ∙ none in
-    untold_command state command (subst (IsCost (layer_named (name_of command) state) (adds command) (step state command).reply) free executes.is_cost)
+    untold_command state command (subst (IsCost (layer_named (name_of command) state.layers) (update_of command) (step state command).reply) free executes.is_cost)
     ∙ sym (ap (λ (g : Given). work_lacking state (Ok (Some command)) g.told) executes.is_given)
 
 -- what is told and what is lacking, beside what was counted
@@ -181,8 +192,8 @@ pub script_adds_up : (start : Moment) (script : List (List ℕ)) (now : Moment) 
 script_adds_up start [] now runs = nothing_adds_up start.counts now.counts (ap (λ (m : Moment). m.counts) runs)
 script_adds_up start (line ∷ lines) now runs =
     let given = runs.1.given in
-    both_add_up (work_told (cost_told given.told)) (work_lacking (map_in start.session) (parse line) given.told) (told_in runs.0 lines now runs.2) (lacking_in runs.0 lines now runs.2)
-    start.counts runs.0.counts now.counts (said_adds_up start.session start.counts (parse line) given runs.0.session runs.0.counts runs.1.executed) (script_adds_up runs.0 lines now runs.2)
+    both_add_up (work_told (cost_told given.told)) (work_lacking (map_in start.session) (parse (map_in start.session).version line) given.told) (told_in runs.0 lines now runs.2) (lacking_in runs.0 lines now runs.2)
+    start.counts runs.0.counts now.counts (said_adds_up start.session start.counts (parse (map_in start.session).version line) given runs.0.session runs.0.counts runs.1.executed) (script_adds_up runs.0 lines now runs.2)
 
 pub commands_add_up : (old : SessionState) (before : Counts) (commands : List Command) (told : List Told) (new : SessionState) (after : Counts) (obeys : Obeys old before commands told new after)
     → AddsUp (told_to told) (lacking_to old before commands told new after obeys) before after

@@ -51,7 +51,7 @@ Runs-push start now new (first ∷ script) line r a = (r.0, r.1, Runs-push r.0 n
 
 -- writing stopped in this line, behind those that were answered
 abbrev pub stopped : (start now new : Moment) (answered more script : List (List ℕ)) (line : List ℕ) (given : Given) → script ≡ answered ++ line ∷ more → Runs start answered now
-    → ExecutesLine now.session now.counts line given new.session new.counts → CutOffInPieces now.told new.told (written_for now.session.ledger given.told) → IsStopped start script new
+    → ExecutesLine now.session now.counts line given new.session new.counts → CutOffInPieces now.told new.told (written_for (map_in now.session).version now.session.ledger given.told) → IsStopped start script new
 stopped start now new answered more script line given split p e prefix = record {
   answered = length answered;
   has_next = subst (λ (ls : List (List ℕ)). length answered < length ls) (sym split) (omega (arith, length-append answered (line ∷ more)));
@@ -95,8 +95,9 @@ pub stopped_is_interrupted : (start now : Moment) (script : List (List ℕ)) →
 stopped_is_interrupted start now script s =
     let p = sums_up start (take s.answered script) s.before s.answers_before in
     let line = get_or script s.answered [] in
-    let told = written_for start.session.ledger s.given.told in
-    let cut : CutOffInPieces s.before.told now.told told = subst (λ (b : Bool). CutOffInPieces s.before.told now.told (written_for b s.given.told)) p.ledger s.cut_off in
+    let version = (map_in s.before.session).version in
+    let told = written_for version start.session.ledger s.given.told in
+    let cut : CutOffInPieces s.before.told now.told told = subst (λ (b : Bool). CutOffInPieces s.before.told now.told (written_for version b s.given.told)) p.ledger s.cut_off in
     let prefix = cut.written in (
       p.bytes ++ take prefix.0 told,
       Appends-trans start.told.written s.before.told.written now.told.written p.bytes (take prefix.0 told) p.delivered.written prefix.2,

@@ -7,11 +7,12 @@ use Rattle.std.proofs.lemmas.Bool.Decides.{nat_tests}
 use Rattle.query_laws.specs.StepLedger.{Counts}
 use Rattle.map_model.specs.Text.{lines, whole_lines, one_line}
 use Rattle.map_model.specs.Grammar.{Parsed, parse}
+use Rattle.map_model.specs.Version.{Version}
 use Rattle.map_model.specs.Output.{Given}
 use Rattle.map_model.proofs.TextLemmas.{whole_lines-line, whole_lines-rest, lines-rest}
 use Rattle.script_lang.specs.Front.{longest_front}
 use Rattle.script_lang.proofs.Fronts.{parse-front}
-use Rattle.map_session.specs.Session.{SessionState, Executes, ExecutesLine}
+use Rattle.map_session.specs.Session.{SessionState, map_in, Executes, ExecutesLine}
 use Rattle.map_session.specs.Answering.{Moment, AnswersLine, StopsInLine, Runs, IsStoppedBehind, unended, IsUnderway}
 use Rattle.map_session.proofs.Lines.{Runs-push, stopped}
 use Rattle.map_session.proofs.Unended.{one_line-append, unended_is_line, unended_ended, unended_on, whole_lines-more, lines-more}
@@ -51,15 +52,17 @@ filled_front n k front more fits is =
         ap (λ (m : ℕ). take m more) room
 
 -- what a line says is said by its front
-pub said_alike : (old : SessionState) (before : Counts) (line other : List ℕ) (given : Given) (new : SessionState) (after : Counts) → parse line ≡ parse other
+pub said_alike : (old : SessionState) (before : Counts) (line other : List ℕ) (given : Given) (new : SessionState) (after : Counts)
+    → parse (map_in old).version line ≡ parse (map_in old).version other
     → ExecutesLine old before line given new after → ExecutesLine old before other given new after
 said_alike old before line other given new after alike e = subst (λ (said : Parsed). Executes old before said given new after) alike e
 
-pub front_said : (begun line : List ℕ) → begun ≡ take longest_front line → parse begun ≡ parse line
-front_said begun line is = ap parse is ∙ parse-front line
+pub front_said : (version : Version) (begun line : List ℕ) → begun ≡ take longest_front line → parse version begun ≡ parse version line
+front_said version begun line is = ap (parse version) is ∙ parse-front version line
 
-pub ended_said : (begun line end : List ℕ) → begun ≡ take longest_front line → parse (take longest_front (begun ++ end)) ≡ parse (line ++ end)
-ended_said begun line end is = ap (λ (b : List ℕ). parse (take longest_front (b ++ end))) is ∙ ap parse (take-front longest_front line end) ∙ parse-front (line ++ end)
+pub ended_said : (version : Version) (begun line end : List ℕ) → begun ≡ take longest_front line → parse version (take longest_front (begun ++ end)) ≡ parse version (line ++ end)
+ended_said version begun line end is =
+    ap (λ (b : List ℕ). parse version (take longest_front (b ++ end))) is ∙ ap (parse version) (take-front longest_front line end) ∙ parse-front version (line ++ end)
 
 -- ---- from one piece to the next
 
@@ -137,7 +140,7 @@ module _ (start now : Moment) (text begun : List ℕ) (so_far : IsUnderway start
       subst (λ (ls : List (List ℕ)). Runs start ls new) (sym (lines_with_last text begun so_far.front some))
       (Runs-push start now new (whole_lines text) (unended text) so_far.answered (record {
         given = a.given;
-        executed = said_alike _ _ begun (unended text) _ _ _ (front_said begun (unended text) so_far.front) a.executed;
+        executed = said_alike _ _ begun (unended text) _ _ _ (front_said _ begun (unended text) so_far.front) a.executed;
         delivered = a.delivered;
       }))
 
@@ -145,6 +148,6 @@ module _ (start now : Moment) (text begun : List ℕ) (so_far : IsUnderway start
   pub stopped_last : (new : Moment) → 0 < length begun → StopsInLine now begun new → IsStoppedBehind (length (whole_lines text)) start (lines text) new
   stopped_last new some s = (
     stopped start now new (whole_lines text) [] (lines text) (unended text) s.given (lines_with_last text begun so_far.front some) so_far.answered
-        (said_alike _ _ begun (unended text) _ _ _ (front_said begun (unended text) so_far.front) s.executed) s.cut_off,
+        (said_alike _ _ begun (unended text) _ _ _ (front_said _ begun (unended text) so_far.front) s.executed) s.cut_off,
     omega arith,
   )

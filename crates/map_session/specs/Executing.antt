@@ -5,7 +5,7 @@ use Rattle.query_laws.specs.StepLedger.{Counts}
 use Rattle.map_model.specs.Command.{Command}
 use Rattle.map_model.specs.Grammar.{Parsed, parse}
 use Rattle.map_model.specs.Output.{Told, Given, refusal_count}
-use Rattle.map_session.specs.Answering.{Moment, Runs, IsStopped}
+use Rattle.map_session.specs.Answering.{Moment, Runs, said_by, IsStopped}
 use Rattle.map_session.specs.Session.{SessionState, map_in, Executes, Obeys}
 use Rattle.map_session.specs.Work.{Work, no_work, both, work_said, is_update_said}
 
@@ -17,13 +17,9 @@ ExecutesAll old before (said ∷ more) new after =
 
 -- ---- whose it is
 
--- what lines say
-abbrev pub said_by : List (List ℕ) → List Parsed
-said_by script = map parse script
-
 -- lines that were answered
-abbrev pub of_lines : (start : Moment) (script : List (List ℕ)) (now : Moment) → Runs start script now
-    → ExecutesAll start.session start.counts (said_by script) now.session now.counts
+abbrev pub of_lines : (start : Moment) (script : List (List ℕ)) (now : Moment) (runs : Runs start script now)
+    → ExecutesAll start.session start.counts (said_by start script now runs) now.session now.counts
 of_lines start [] now runs = (λ i. (runs i).session, λ i. (runs i).counts)
 of_lines start (line ∷ lines) now runs = (runs.1.given, runs.0.session, runs.0.counts, runs.1.executed, of_lines runs.0 lines now runs.2)
 
@@ -50,15 +46,17 @@ and_one old before (first ∷ script) next counts all said given new after one =
 
 -- what the lines say up to the one in whose answer writing stopped, with it
 abbrev pub said_until : (start : Moment) (script : List (List ℕ)) (now : Moment) → IsStopped start script now → List Parsed
-said_until start script now stopped = said_by (take stopped.answered script) ++ parse (slice_index_or script stopped.answered []) ∷ []
+said_until start script now stopped =
+    said_by start (take stopped.answered script) stopped.before stopped.answers_before
+    ++ parse (map_in stopped.before.session).version (slice_index_or script stopped.answered []) ∷ []
 
 -- those lines
 abbrev pub of_stopped : (start : Moment) (script : List (List ℕ)) (now : Moment) (stopped : IsStopped start script now)
     → ExecutesAll start.session start.counts (said_until start script now stopped) now.session now.counts
 of_stopped start script now stopped =
-    and_one start.session start.counts (said_by (take stopped.answered script)) stopped.before.session stopped.before.counts
+    and_one start.session start.counts (said_by start (take stopped.answered script) stopped.before stopped.answers_before) stopped.before.session stopped.before.counts
     (of_lines start (take stopped.answered script) stopped.before stopped.answers_before)
-    (parse (slice_index_or script stopped.answered [])) stopped.given now.session now.counts stopped.executed
+    (parse (map_in stopped.before.session).version (slice_index_or script stopped.answered [])) stopped.given now.session now.counts stopped.executed
 
 -- ---- what it comes to
 

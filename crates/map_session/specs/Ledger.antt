@@ -30,7 +30,7 @@ told_in start (line ∷ lines) now runs = both (work_told (cost_told runs.1.give
 -- the bounds of what memory refused among these lines, all together
 abbrev pub lacking_in : (start : Moment) (script : List (List ℕ)) (now : Moment) → Runs start script now → Work
 lacking_in start [] now runs = no_work
-lacking_in start (line ∷ lines) now runs = both (work_lacking (map_in start.session) (parse line) runs.1.given.told) (lacking_in runs.0 lines now runs.2)
+lacking_in start (line ∷ lines) now runs = both (work_lacking (map_in start.session) (parse (map_in start.session).version line) runs.1.given.told) (lacking_in runs.0 lines now runs.2)
 
 -- what replies to commands tell that they took, all together
 abbrev pub told_to : List Told → Work

@@ -22,9 +22,9 @@ pub record SessionState : Type 0 where
   pub lines : ℕ
   pub refused : ℕ
 
--- a session without layers, before any line
-abbrev pub new_session : Bool → SessionState
-new_session ledger = record { layers = no_layers; ledger = ledger; lines = 0; refused = 0 }
+-- a session without layers, for layers of so many items, before any line
+abbrev pub new_session : Bool → ℕ → SessionState
+new_session ledger most = record { layers = no_layers most; ledger = ledger; lines = 0; refused = 0 }
 
 -- the map as the definitions have it
 abbrev pub map_in : SessionState → State
@@ -55,9 +55,9 @@ pub record Executes (old : SessionState) (before : Counts) (said : Parsed) (give
   pub refused : new.refused ≡ old.refused + refusal_count given.told
   pub updates : new.layers.updates ≡ old.layers.updates + one_if (is_update_said said)
 
--- What a line says is executed, with this answer, and so much is counted for it.
+-- What a line says in the version of the map before it is executed, with this answer, and so much is counted for it.
 abbrev pub ExecutesLine : SessionState → Counts → List ℕ → Given → SessionState → Counts → Type 0
-ExecutesLine old before line given new after = Executes old before (parse line) given new after
+ExecutesLine old before line given new after = Executes old before (parse (map_in old).version line) given new after
 
 -- Commands were executed one after another, and each was answered so.
 abbrev pub Obeys : SessionState → Counts → List Command → List Told → SessionState → Counts → Type 0

@@ -1,5 +1,6 @@
 -- What commands may take, and what was counted for one.
 use Rattle.std.specs.Prelude.{◌≡◌, ℕ, ◌+◌, ◌*◌, ◌≤◌, ⊤, Bool, true, false, Option, Some, None, Ok, Err, if◌then◌else◌}
+use Rattle.std.specs.Option.{is_some}
 use Rattle.query_laws.specs.StepLedger.{Counts, LapStart, lap_begun}
 use Rattle.map_structures.specs.Touches.{touches_at}
 use Rattle.layer_kinds.specs.Asking.{most_of}
@@ -8,10 +9,11 @@ use Rattle.map_layers.specs.Layers.{LayersState, named}
 use Rattle.map_layers.specs.Questions.{touches_for}
 use Rattle.map_model.specs.Answer.{Question, index_of}
 use Rattle.map_model.specs.State.{Layer, State, layer_named, live_count}
-use Rattle.map_model.specs.Command.{Command, MakeLayer, Add, Drop, Ask, Get, Size, Recent, name_of}
-use Rattle.map_model.specs.Cost.{Cost, Untold, Updating, Asking, bounds_at, turn_bound, mark_bound}
+use Rattle.map_model.specs.Command.{Command, Livemap, MakeLayer, Add, Move, Drop, Ask, Get, Size, Recent, name_of}
+use Rattle.map_model.specs.Cost.{Cost, Untold, Updating, Asking, Update, Adds, Drops, Moves, bounds_at, turn_bound, mark_bound}
 use Rattle.map_model.specs.Reply.{is_refusal}
 use Rattle.map_model.specs.Machine.{step}
+use Rattle.map_model.specs.Output.{update_of}
 use Rattle.map_model.specs.Grammar.{Parsed}
 
 -- turns, marks, touches and consulted parts
@@ -29,26 +31,18 @@ no_work = record { turns = 0; marks = 0; touches = 0; consulted = 0 }
 abbrev pub both : Work → Work → Work
 both a b = record { turns = a.turns + b.turns; marks = a.marks + b.marks; touches = a.touches + b.touches; consulted = a.consulted + b.consulted }
 
--- the command is an add or a drop
-abbrev pub is_update : Command → Bool
-is_update (MakeLayer name kind indexes) = false
-is_update (Add name id shape) = true
-is_update (Drop name id) = true
-is_update (Ask name question) = false
-is_update (Get name id) = false
-is_update (Size name) = false
-is_update (Recent name k) = false
-
--- an add or a drop is said
+-- an add, a move or a drop is said
 abbrev pub is_update_said : Parsed → Bool
 is_update_said (Ok None) = false
-is_update_said (Ok (Some command)) = is_update command
+is_update_said (Ok (Some command)) = is_some (update_of command)
 is_update_said (Err fault) = false
 
 -- an update and a question begin a lap, whatever becomes of them, and nothing else does
 abbrev pub begins_lap : Command → Bool
+begins_lap (Livemap version) = false
 begins_lap (MakeLayer name kind indexes) = false
 begins_lap (Add name id shape) = true
+begins_lap (Move name id x y w) = true
 begins_lap (Drop name id) = true
 begins_lap (Ask name question) = true
 begins_lap (Get name id) = false
@@ -66,12 +60,12 @@ abbrev pub lap_said : Parsed → Counts → LapStart
 lap_said said old = if begins_lap_said said then (lap_begun old).lap_start else old.lap_start
 
 -- the bounds of an update of a layer, where there is one: 16 touches a turn, and those of a part for each mark
-abbrev pub bounds_in : Option Layer → Work
-bounds_in None = no_work
-bounds_in (Some layer) = record {
-  turns = turn_bound layer;
-  marks = mark_bound layer;
-  touches = 16 * turn_bound layer + mark_bound layer * touches_at (bounds_at (live_count layer)).level;
+abbrev pub bounds_in : Update → Option Layer → Work
+bounds_in update None = no_work
+bounds_in update (Some layer) = record {
+  turns = turn_bound update layer;
+  marks = mark_bound update layer;
+  touches = 16 * turn_bound update layer + mark_bound update layer * touches_at (bounds_at (live_count layer)).level;
   consulted = 0;
 }
 
@@ -83,9 +77,11 @@ asking_in question (Some layer) =
 
 -- what a command may take in a layer, where nothing but memory refuses it
 abbrev pub work_in : Command → Option Layer → Work
+work_in (Livemap version) layer = no_work
 work_in (MakeLayer name kind indexes) layer = no_work
-work_in (Add name id shape) layer = bounds_in layer
-work_in (Drop name id) layer = bounds_in layer
+work_in (Add name id shape) layer = bounds_in Adds layer
+work_in (Move name id x y w) layer = bounds_in Moves layer
+work_in (Drop name id) layer = bounds_in Drops layer
 work_in (Ask name question) layer = asking_in question layer
 work_in (Get name id) layer = no_work
 work_in (Size name) layer = no_work
@@ -93,7 +89,7 @@ work_in (Recent name k) layer = no_work
 
 -- what a command may take: the bounds of its layer, as it stands before, where only memory may refuse it, and nothing else
 abbrev pub work_of : State → Command → Work
-work_of state command = if is_refusal (step state command).reply then no_work else work_in command (layer_named (name_of command) state)
+work_of state command = if is_refusal (step state command).reply then no_work else work_in command (layer_named (name_of command) state.layers)
 
 -- What a line or a command may take, on the map before it: an update the bounds of its layer, a question its touches, where nothing but memory
 -- may refuse it; and else nothing.

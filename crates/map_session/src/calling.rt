@@ -5,10 +5,13 @@ ghost use Rattle.map_model.specs.Command as commands;
 ghost use Rattle.map_model.specs.Cost.{Untold};
 ghost use Rattle.map_model.specs.Index.{fits};
 ghost use Rattle.map_model.specs.Line.{IsShape};
+ghost use Rattle.map_model.specs.Shape as shapes;
+ghost use Rattle.map_model.specs.Version.{Two};
 ghost use Rattle.map_model.specs.Output.{AnswersTo};
 ghost use Rattle.map_shapes.specs.IndexSet.{index_set_of};
 ghost use Rattle.map_shapes.specs.Kind.{kind_of};
 ghost use Rattle.map_shapes.specs.Shape.{model_shape};
+ghost use Rattle.map_shapes.specs.Version.{version_of};
 ghost use Rattle.answer_text.specs.Reply.{cost_of};
 ghost use Rattle.map_questions.specs.Any.{question_of};
 ghost use Rattle.map_layers.specs.Layers.{map_of};
@@ -19,9 +22,18 @@ use crate::replying;
 use answer_text::Reply;
 use map_layers::{Layers, OverPoints, OverSegments};
 use map_questions::AnyQuestion;
-use map_shapes::{IndexSet, Kind, Name, Shape};
+use map_shapes::{IndexSet, Kind, Name, Shape, Version};
 use query_laws::step_ledger::Steps;
 use std::sync::ledger::Ledger;
+
+/// Chooses the version of the lines that follow.
+pub fn choose<P: OverPoints, S: OverSegments>(layers: &mut Layers<P, S>, version: Version) -> Reply
+    ensures answered { AnswersTo (map_of layers.old) (Ok (Some (commands.Livemap (version_of version)))) (given_by (Some result) (map_of layers.new)) }
+    ensures cost { cost_of result ≡ Untold }
+    ensures updates { layers.new.updates ≡ layers.old.updates }
+{
+    replying::chosen(layers.choose_version(version))
+}
 
 /// Makes an empty layer.
 pub fn make<P: OverPoints, S: OverSegments>(
@@ -48,13 +60,33 @@ pub fn add<P: OverPoints, S: OverSegments, L: Ledger>(
     steps: &mut Steps<L>,
 ) -> Reply
     requires few { layers.old.updates < 2 ^ 40 }
-    requires lawful { IsShape (model_shape shape) }
+    requires lawful { IsShape Two (model_shape shape) }
     ensures answered { AnswersTo (map_of layers.old) (Ok (Some (commands.Add name.now id (model_shape shape)))) (given_by (Some result) (map_of layers.new)) }
     ensures counted { IsCounted (work_of (map_of layers.old) (commands.Add name.now id (model_shape shape))) (cost_of result) steps.old steps.new }
     ensures lap { steps.new.lap_start ≡ (lap_begun steps.old).lap_start }
     ensures updates { layers.new.updates ≡ layers.old.updates + 1 }
 {
     replying::updated(layers.add(name, id, shape, steps))
+}
+
+/// Moves a point of the layer of a name.
+pub fn move_point<P: OverPoints, S: OverSegments, L: Ledger>(
+    layers: &mut Layers<P, S>,
+    name: &Name,
+    id: u64,
+    x: u32,
+    y: u32,
+    w: u32,
+    steps: &mut Steps<L>,
+) -> Reply
+    requires few { layers.old.updates < 2 ^ 40 }
+    requires lawful { IsShape Two (shapes.Point x y w) }
+    ensures answered { AnswersTo (map_of layers.old) (Ok (Some (commands.Move name.now id x y w))) (given_by (Some result) (map_of layers.new)) }
+    ensures counted { IsCounted (work_of (map_of layers.old) (commands.Move name.now id x y w)) (cost_of result) steps.old steps.new }
+    ensures lap { steps.new.lap_start ≡ (lap_begun steps.old).lap_start }
+    ensures updates { layers.new.updates ≡ layers.old.updates + 1 }
+{
+    replying::updated(layers.move_point(name, id, x, y, w, steps))
 }
 
 /// Drops an item from the layer of a name.

@@ -17,14 +17,14 @@ use query_laws::step_ledger::Steps;
 use script_lang::Command;
 use std::sync::ledger::Ledger;
 
-/// Executes a command that a line can say.
+/// Executes a command that a line of the map's version can say.
 pub fn execute<P: OverPoints, S: OverSegments, L: Ledger>(
     layers: &mut Layers<P, S>,
     command: &Command,
     steps: &mut Steps<L>,
 ) -> Reply
     requires few { layers.old.updates < 2 ^ 40 }
-    requires lawful { IsCommand (command_of command.now) }
+    requires lawful { IsCommand (map_of layers.old).version (command_of command.now) }
     ensures answered { AnswersTo (map_of layers.old) (Ok (Some (command_of command.now))) (given_by (Some result) (map_of layers.new)) }
     ensures counted { IsCounted (work_said (map_of layers.old) (Ok (Some (command_of command.now)))) (cost_of result) steps.old steps.new }
     ensures parts { TellsEveryPart layers.old (Ok (Some (command_of command.now))) (cost_of result) }
@@ -32,6 +32,7 @@ pub fn execute<P: OverPoints, S: OverSegments, L: Ledger>(
     ensures updates { layers.new.updates ≡ layers.old.updates + one_if (is_update_said (Ok (Some (command_of command.now)))) }
 {
     match *command {
+        Command::Livemap { version } => calling::choose(layers, version),
         Command::Layer {
             name,
             kind,
@@ -47,6 +48,9 @@ pub fn execute<P: OverPoints, S: OverSegments, L: Ledger>(
             hi,
             y,
         } => calling::add(layers, &name, id, Shape::Segment { lo, hi, y }, steps),
+        Command::Move { name, id, x, y, w } => {
+            calling::move_point(layers, &name, id, x, y, w, steps)
+        }
         Command::Drop { name, id } => calling::remove(layers, &name, id, steps),
         Command::Ask { name, question } => calling::answer(layers, &name, &question, steps),
         Command::Get { name, id } => calling::get(layers, &name, id),

@@ -10,8 +10,9 @@
 //! is named nowhere else. A run over commands is told by the list of what each was answered (`Obeys`), so a summary of the list can't
 //! tell numbers of other replies.
 //!
-//! A line is parsed to a command, the command is executed, and its reply is written as a line of text. [`answer_piece`] cuts a
-//! text that comes in pieces at its line feeds, and gives each line to a session; [`answer_begun`] gives it the last one.
+//! A line is parsed to a command in the version of the map before it, the command is executed, and its reply is written as a line of text
+//! of that version. [`answer_piece`] cuts a text that comes in pieces at its line feeds, and gives each line to a session; [`answer_begun`]
+//! gives it the last one.
 #![tactic(auto)]
 
 ghost use Rattle.std.specs.Prelude.{ℕ, List};
@@ -40,7 +41,7 @@ pub use session::{Done, Session};
 
 /// What lines that a session answered took, wrote and led to adds up over them.
 pub fn lines_sum_up()
-    ensures { (start now : Moment) (script : List (List ℕ)) → Runs start script now → SumsUp start script now }
+    ensures { (start now : Moment) (script : List (List ℕ)) (runs : Runs start script now) → SumsUp start script now runs }
 {}
 
 /// What a session answers is an output of the definitions, and where writing stopped a part of one.

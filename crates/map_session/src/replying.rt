@@ -10,7 +10,7 @@ ghost use Rattle.answer_text.specs.Reply.{refusal_of, reply_of, cost_of};
 ghost use Rattle.map_session.specs.Replies.{update_cost};
 
 use answer_text::{Refusal, Reply};
-use map_layers::{AskFault, CreateFault, UpdateFault};
+use map_layers::{AskFault, CreateFault, HasLayers, UpdateFault};
 use map_shapes::{Recent, Shape, Spent};
 use script_lang::LineFault;
 
@@ -32,6 +32,17 @@ pub fn faulty(fault: LineFault) -> Reply
     })
 }
 
+/// That a version was chosen, or why it wasn't.
+pub fn chosen(outcome: Result<(), HasLayers>) -> Reply
+    ensures reply { reply_of result ≡ layers.chosen outcome }
+    ensures cost { cost_of result ≡ Untold }
+{
+    match outcome {
+        Ok(()) => Reply::Made,
+        Err(HasLayers) => refused(Refusal::Version),
+    }
+}
+
 /// That a layer was made, or why it wasn't.
 pub fn made(outcome: Result<(), CreateFault>) -> Reply
     ensures reply { reply_of result ≡ layers.created outcome }
@@ -44,7 +55,7 @@ pub fn made(outcome: Result<(), CreateFault>) -> Reply
     }
 }
 
-/// That an item was added or dropped, or why it wasn't.
+/// That an item was added, moved or dropped, or why it wasn't.
 pub fn updated(outcome: Result<Spent, UpdateFault>) -> Reply
     ensures reply { reply_of result ≡ layers.updated outcome }
     ensures cost { cost_of result ≡ update_cost outcome }

@@ -34,9 +34,9 @@ impl<P: OverPoints, S: OverSegments> Layers<P, S> {
         ensures question { IfOk result (λ given. given.0.question ≡ question_of question.now) }
         ensures consulted { IfOk result (λ given. given.1.parts ≡ given.0.parts) }
         ensures every_part { IfOk result (λ given. IsEveryPartIn (named name.now self.now.layers) (index_of (question_of question.now)) given.1.parts given.0.live) }
-        ensures cost { IfOk result (λ given. IsAskingIn (layer_named name.now (map_of self.now))
+        ensures cost { IfOk result (λ given. IsAskingIn (layer_named name.now (map_of self.now).layers)
             (λ level n. most_for level given.1.parts n given.0.answer) given.1 (lap_begun steps.old) steps.new) }
-        ensures touches { IsTouchingIn (layer_named name.now (map_of self.now)) (touches_for (question_of question.now)) result (lap_begun steps.old) steps.new }
+        ensures touches { IsTouchingIn (layer_named name.now (map_of self.now).layers) (touches_for (question_of question.now)) result (lap_begun steps.old) steps.new }
         ensures reads { IsReading (lap_begun steps.old) steps.new }
     {
         steps.start_lap();

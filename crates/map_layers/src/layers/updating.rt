@@ -1,12 +1,15 @@
 //! Updates of the layer of a name.
-ghost use Rattle.std.specs.Prelude.{◌≡◌, ◌+◌, ◌<◌, ◌≤◌, ◌^◌, true, false, IfOk, IfSome, length, map};
+ghost use Rattle.std.specs.Prelude.{◌≡◌, ◌+◌, ◌<◌, ◌≤◌, ◌^◌, ℕ, All, IfOk, IfSome, length, map};
 ghost use Rattle.query_laws.specs.StepLedger.{AtLapStart};
 ghost use Rattle.map_model.specs.State.{layer_named};
+ghost use Rattle.map_model.specs.Cost.{Adds, Drops, Moves};
+ghost use Rattle.map_model.specs.Version.{Version, Two};
 ghost use Rattle.map_model.specs.Command as commands;
 ghost use Rattle.map_model.specs.Line.{IsShape};
+ghost use Rattle.map_model.specs.Shape.{Point};
 ghost use Rattle.map_shapes.specs.Shape.{model_shape};
 ghost use Rattle.map_layers.specs.Layer.{layer_of};
-ghost use Rattle.map_layers.specs.Layers.{AllDiffer, adds_of, names_of, place_named};
+ghost use Rattle.map_layers.specs.Layers.{AllDiffer, adds_of, limits_of, map_with, names_of, place_named};
 ghost use Rattle.map_layers.specs.Costs.{IsCostIn, IsToldIn};
 ghost use Rattle.map_layers.specs.Memory.{KeepsMemoryIn};
 ghost use Rattle.map_layers.specs.Replies.{updated, IsAnswered};
@@ -27,19 +30,50 @@ pub(super) fn add_in<P: OverPoints, S: OverSegments, L: Ledger>(
     shape: Shape,
     steps: &mut Steps<L>,
 ) -> Result<Spent, UpdateFault>
-    requires lawful { IsShape (model_shape shape) }
+    requires lawful { IsShape Two (model_shape shape) }
     requires differ { AllDiffer (names_of layers.old.items) }
     requires few { adds_of layers.old.items < 2 ^ 62 }
     requires lap { AtLapStart steps.old }
-    ensures answered { IsAnswered (map layer_of layers.old.items) (commands.Add name.now id (model_shape shape)) (map layer_of layers.new.items) (updated result) }
+    ensures answered { (version : Version) (most : ℕ) → All (λ n. n ≡ most) (limits_of layers.old.items)
+        → IsAnswered (map_with version most layers.old.items) (commands.Add name.now id (model_shape shape)) (map_with version most layers.new.items) (updated result) }
     ensures differ { AllDiffer (names_of layers.new.items) }
+    ensures limits { limits_of layers.new.items ≡ limits_of layers.old.items }
     ensures adds { adds_of layers.new.items ≤ adds_of layers.old.items + 1 }
     ensures kept { KeepsMemoryIn name.now result layers.old.items layers.new.items }
-    ensures cost { IsCostIn (layer_named name.now (map layer_of layers.old.items)) result steps.old steps.new }
-    ensures told { IfOk result (λ spent. IsToldIn (layer_named name.now (map layer_of layers.old.items)) true spent steps.old steps.new) }
+    ensures cost { IsCostIn (layer_named name.now (map layer_of layers.old.items)) Adds result steps.old steps.new }
+    ensures told { IfOk result (λ spent. IsToldIn (layer_named name.now (map layer_of layers.old.items)) Adds spent steps.old steps.new) }
 {
     match place_of(layers.as_slice(), name) {
         Some(k) => layers.as_mut_slice()[k].add(id, shape, steps),
+        None => Err(UpdateFault::NoLayer),
+    }
+}
+
+/// Puts a point at the end of the layer of a name in the place of that with its identifier, where there is one.
+pub(super) fn move_in<P: OverPoints, S: OverSegments, L: Ledger>(
+    layers: &mut ArrayVec<Layer<P, S>, MOST_LAYERS, Global>,
+    name: &Name,
+    id: u64,
+    x: u32,
+    y: u32,
+    w: u32,
+    steps: &mut Steps<L>,
+) -> Result<Spent, UpdateFault>
+    requires lawful { IsShape Two (Point x y w) }
+    requires differ { AllDiffer (names_of layers.old.items) }
+    requires few { adds_of layers.old.items < 2 ^ 62 }
+    requires lap { AtLapStart steps.old }
+    ensures answered { (version : Version) (most : ℕ)
+        → IsAnswered (map_with version most layers.old.items) (commands.Move name.now id x y w) (map_with version most layers.new.items) (updated result) }
+    ensures differ { AllDiffer (names_of layers.new.items) }
+    ensures limits { limits_of layers.new.items ≡ limits_of layers.old.items }
+    ensures adds { adds_of layers.new.items ≤ adds_of layers.old.items + 1 }
+    ensures kept { KeepsMemoryIn name.now result layers.old.items layers.new.items }
+    ensures cost { IsCostIn (layer_named name.now (map layer_of layers.old.items)) Moves result steps.old steps.new }
+    ensures told { IfOk result (λ spent. IsToldIn (layer_named name.now (map layer_of layers.old.items)) Moves spent steps.old steps.new) }
+{
+    match place_of(layers.as_slice(), name) {
+        Some(k) => layers.as_mut_slice()[k].relocate(id, Shape::Point { x, y, w }, steps),
         None => Err(UpdateFault::NoLayer),
     }
 }
@@ -53,12 +87,14 @@ pub(super) fn remove_in<P: OverPoints, S: OverSegments, L: Ledger>(
 ) -> Result<Spent, UpdateFault>
     requires differ { AllDiffer (names_of layers.old.items) }
     requires lap { AtLapStart steps.old }
-    ensures answered { IsAnswered (map layer_of layers.old.items) (commands.Drop name.now id) (map layer_of layers.new.items) (updated result) }
+    ensures answered { (version : Version) (most : ℕ)
+        → IsAnswered (map_with version most layers.old.items) (commands.Drop name.now id) (map_with version most layers.new.items) (updated result) }
     ensures differ { AllDiffer (names_of layers.new.items) }
+    ensures limits { limits_of layers.new.items ≡ limits_of layers.old.items }
     ensures adds { adds_of layers.new.items ≡ adds_of layers.old.items }
     ensures kept { KeepsMemoryIn name.now result layers.old.items layers.new.items }
-    ensures cost { IsCostIn (layer_named name.now (map layer_of layers.old.items)) result steps.old steps.new }
-    ensures told { IfOk result (λ spent. IsToldIn (layer_named name.now (map layer_of layers.old.items)) false spent steps.old steps.new) }
+    ensures cost { IsCostIn (layer_named name.now (map layer_of layers.old.items)) Drops result steps.old steps.new }
+    ensures told { IfOk result (λ spent. IsToldIn (layer_named name.now (map layer_of layers.old.items)) Drops spent steps.old steps.new) }
 {
     match place_of(layers.as_slice(), name) {
         Some(k) => layers.as_mut_slice()[k].remove(id, steps),

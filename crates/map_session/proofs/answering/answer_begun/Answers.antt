@@ -15,7 +15,7 @@ returns-in_err-line-clause-stopped g c =
     let new : Moment = moment c.line.new.self (g.K.Sink.told c.line.new.sink) c.line.new.steps in
     rw p.1 (λ start text so_far. stopped_last start _ text begun so_far new some (record {
       given = fault.0;
-      executed = said_alike _ _ c.as_slice.result.now begun _ _ _ (ap parse c.as_slice.ensures) fault.1;
+      executed = said_alike _ _ c.as_slice.result.now begun _ _ _ (ap (parse _) c.as_slice.ensures) fault.1;
       cut_off = fault.2;
     }))
 
@@ -27,7 +27,7 @@ returns-in_ok-line-clause-answered g c = λ start text so_far.
     let new : Moment = moment c.line.new.self (g.K.Sink.told c.line.new.sink) c.line.new.steps in
     ended_last start _ text begun so_far new some (record {
       given = done.0;
-      executed = said_alike _ _ c.as_slice.result.now begun _ _ _ (ap parse c.as_slice.ensures) done.1;
+      executed = said_alike _ _ c.as_slice.result.now begun _ _ _ (ap (parse _) c.as_slice.ensures) done.1;
       delivered = done.3;
     })
 

@@ -13,7 +13,7 @@ returns-in_err-line-2-clause-stopped g c =
     let fault = c.in_err-line-2.ensures.fault in
     rw p.1 (λ line is. record {
       given = fault.0;
-      executed = said_alike _ _ c.as_slice.result.now (line ++ c.args.end.now) _ _ _ (ap parse (c.as_slice.ensures ∙ c.push.ensures) ∙ ended_said c.args.begun.now line c.args.end.now is) fault.1;
+      executed = said_alike _ _ c.as_slice.result.now (line ++ c.args.end.now) _ _ _ (ap (parse _) (c.as_slice.ensures ∙ c.push.ensures) ∙ ended_said _ c.args.begun.now line c.args.end.now is) fault.1;
       cut_off = fault.2;
     })
 
@@ -22,7 +22,7 @@ returns-clause-answered g c = λ line is.
     let done = c.in_ok-line-2.ensures.done in
     record {
       given = done.0;
-      executed = said_alike _ _ c.as_slice.result.now (line ++ c.args.end.now) _ _ _ (ap parse (c.as_slice.ensures ∙ c.push.ensures) ∙ ended_said c.args.begun.now line c.args.end.now is) done.1;
+      executed = said_alike _ _ c.as_slice.result.now (line ++ c.args.end.now) _ _ _ (ap (parse _) (c.as_slice.ensures ∙ c.push.ensures) ∙ ended_said _ c.args.begun.now line c.args.end.now is) done.1;
       delivered = done.3;
     }
 

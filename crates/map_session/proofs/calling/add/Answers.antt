@@ -1,5 +1,6 @@
-use Rattle.std.proofs.Common.{true, refl}
+use Rattle.std.proofs.Common.{refl}
 use Rattle.map_model.specs.Command.{Add}
+use Rattle.map_model.specs.Cost.{Adds}
 use Rattle.map_model.specs.State.{layer_named}
 use Rattle.map_shapes.specs.Shape.{model_shape}
 use Rattle.map_layers.specs.Layers.{map_of}
@@ -14,8 +15,8 @@ returns-clause-answered g c =
 
 pub returns-clause-counted : goal.returns-clause-counted
 returns-clause-counted g c =
-    rw c.updated.ensures.cost (update_counted (map_of c.args.layers.now) (map_of c.add.new.self) (Add c.args.name.now c.args.id (model_shape c.args.shape)) (λ layer. refl) true c.add.result
+    rw c.updated.ensures.cost (update_counted (map_of c.args.layers.now) (map_of c.add.new.self) (Add c.args.name.now c.args.id (model_shape c.args.shape)) Adds (λ layer. refl) c.add.result
     c.add.ensures.answered c.add.ensures.cost c.add.ensures.told)
 
 pub returns-clause-lap : goal.returns-clause-lap
-returns-clause-lap g c = update_lap c.args.steps.now c.add.new.steps (layer_named c.args.name.now (map_of c.args.layers.now)) c.add.result c.add.ensures.cost
+returns-clause-lap g c = update_lap c.args.steps.now c.add.new.steps (layer_named c.args.name.now (map_of c.args.layers.now).layers) Adds c.add.result c.add.ensures.cost

@@ -1,5 +1,6 @@
-use Rattle.std.proofs.Common.{false, refl}
+use Rattle.std.proofs.Common.{refl}
 use Rattle.map_model.specs.Command.{Drop}
+use Rattle.map_model.specs.Cost.{Drops}
 use Rattle.map_model.specs.State.{layer_named}
 use Rattle.map_layers.specs.Layers.{map_of}
 use Rattle.map_session.proofs.Counted.{update_counted, update_lap}
@@ -13,8 +14,8 @@ returns-clause-answered g c =
 
 pub returns-clause-counted : goal.returns-clause-counted
 returns-clause-counted g c =
-    rw c.updated.ensures.cost (update_counted (map_of c.args.layers.now) (map_of c.remove.new.self) (Drop c.args.name.now c.args.id) (λ layer. refl) false c.remove.result
+    rw c.updated.ensures.cost (update_counted (map_of c.args.layers.now) (map_of c.remove.new.self) (Drop c.args.name.now c.args.id) Drops (λ layer. refl) c.remove.result
     c.remove.ensures.answered c.remove.ensures.cost c.remove.ensures.told)
 
 pub returns-clause-lap : goal.returns-clause-lap
-returns-clause-lap g c = update_lap c.args.steps.now c.remove.new.steps (layer_named c.args.name.now (map_of c.args.layers.now)) c.remove.result c.remove.ensures.cost
+returns-clause-lap g c = update_lap c.args.steps.now c.remove.new.steps (layer_named c.args.name.now (map_of c.args.layers.now).layers) Drops c.remove.result c.remove.ensures.cost

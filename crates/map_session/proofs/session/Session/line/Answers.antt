@@ -2,6 +2,8 @@ use Rattle.std.proofs.Common.{◌≡◌, ◌∙◌, Bool, None, Some, if◌then�
 use Rattle.std.proofs.lemmas.Result.{err_from_is_err_and}
 use Rattle.map_io.proofs.SinkLaws.{Delivers-nil}
 use Rattle.map_model.specs.Output.{written_for}
+use Rattle.map_model.specs.Version.{Version}
+use Rattle.map_shapes.specs.Version.{version_of}
 use Rattle.answer_text.specs.Pieces.{DeliversLines, CutOffInPieces}
 use Rattle.map_session.specs.declared.session.Done.TheVariants.{Answered, Refused}
 use Rattle.map_session.specs.Session.{map_in, given_by}
@@ -21,7 +23,9 @@ returns-in_err-write_reply-clause-fault g c =
     rw p.1 (
       given,
       c.in-Some.ensures.executed,
-      subst (λ (b : Bool). CutOffInPieces (g.K.Sink.told c.args.sink.now) (g.K.Sink.told c.write_reply.new.sink) (written_for b given.told)) same c.in_err-write_reply.ensures.cut_off,
+      subst (λ (v : Version). CutOffInPieces (g.K.Sink.told c.args.sink.now) (g.K.Sink.told c.write_reply.new.sink) (written_for v c.args.self.now.ledger given.told)) c.version.ensures
+          (subst (λ (b : Bool). CutOffInPieces (g.K.Sink.told c.args.sink.now) (g.K.Sink.told c.write_reply.new.sink) (written_for (version_of c.version.result) b given.told)) same
+          c.in_err-write_reply.ensures.cut_off),
     )
 
 pub returns-then-refused-clause-done : goal.returns-then-refused-clause-done
@@ -31,7 +35,9 @@ returns-then-refused-clause-done g c =
       given,
       c.in-Some.ensures.executed,
       ap (λ b. if b then Refused else Answered) c.if-refused.ensures,
-      subst (λ (b : Bool). DeliversLines (g.K.Sink.told c.args.sink.now) (g.K.Sink.told c.write_reply.new.sink) (written_for b given.told) 1) same c.in_ok-write_reply.ensures.delivered,
+      subst (λ (v : Version). DeliversLines (g.K.Sink.told c.args.sink.now) (g.K.Sink.told c.write_reply.new.sink) (written_for v c.args.self.now.ledger given.told) 1) c.version.ensures
+          (subst (λ (b : Bool). DeliversLines (g.K.Sink.told c.args.sink.now) (g.K.Sink.told c.write_reply.new.sink) (written_for (version_of c.version.result) b given.told) 1) same
+          c.in_ok-write_reply.ensures.delivered),
     )
 
 pub returns-clause-done : goal.returns-clause-done
@@ -41,5 +47,7 @@ returns-clause-done g c =
       given,
       c.in-Some.ensures.executed,
       ap (λ b. if b then Refused else Answered) c.if-refused.ensures,
-      subst (λ (b : Bool). DeliversLines (g.K.Sink.told c.args.sink.now) (g.K.Sink.told c.write_reply.new.sink) (written_for b given.told) 1) same c.in_ok-write_reply.ensures.delivered,
+      subst (λ (v : Version). DeliversLines (g.K.Sink.told c.args.sink.now) (g.K.Sink.told c.write_reply.new.sink) (written_for v c.args.self.now.ledger given.told) 1) c.version.ensures
+          (subst (λ (b : Bool). DeliversLines (g.K.Sink.told c.args.sink.now) (g.K.Sink.told c.write_reply.new.sink) (written_for (version_of c.version.result) b given.told) 1) same
+          c.in_ok-write_reply.ensures.delivered),
     )
