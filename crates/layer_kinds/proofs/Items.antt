@@ -1,18 +1,18 @@
 -- The items of a layer, as the definitions have them, beside its directory.
-use Rattle.std.proofs.Common.{◌≡◌, ℕ, ◌≤◌, Bool, true, false, if◌then◌else◌, List, [], ◌∷◌, Option, Some, None, Err, length, map, take, refl, sym, ap, ◌∙◌, subst, arith}
+use Rattle.std.proofs.Common.{◌≡◌, ℕ, ◌≤◌, Bool, true, false, if◌then◌else◌, List, [], ◌∷◌, ◌++◌, Option, Some, None, Ok, Err, length, map, take, refl, sym, ap, ◌∙◌, subst, arith}
 use Rattle.std.specs.Prelude.{reverse}
 use Rattle.std.specs.Option.{is_some, is_none}
 use Rattle.std.proofs.lemmas.Bool.Decides.{nat_tests}
 use Rattle.std.proofs.lemmas.Grind.{common_steps}
-use Rattle.std.proofs.lemmas.List.{length-map}
+use Rattle.std.proofs.lemmas.List.{length-map, map-append}
 use Rattle.map_shapes.specs.declared.spent.Spent.{Spent}
 use Rattle.id_chain.specs.Chain.{Entry, HandlesDiffer, is_linked, item_at}
 use Rattle.id_directory.specs.Directory.{ids, handle_of, without, IdsDiffer}
 use Rattle.map_model.specs.Answer.{latest}
-use Rattle.map_model.specs.State.{Item, is_live, most_items, shape_of, without_item}
+use Rattle.map_model.specs.State.{Item, is_live, shape_of, without_item}
 use Rattle.layer_kinds.specs.declared.faults.UpdateFault.{UpdateFault}
 use Rattle.layer_kinds.specs.declared.faults.UpdateFault.TheVariants as faults
-use Rattle.layer_kinds.specs.Layered.{items_of, IsAdd}
+use Rattle.layer_kinds.specs.Layered.{items_of, IsAdd, IsMove}
 
 module _ {I : Type 0} (id_of : I → ℕ) (item_of : I → Item) (same : (x : I) → (item_of x).id ≡ id_of x) where
   -- an identifier is live exactly where the directory finds it
@@ -77,12 +77,43 @@ module _ {I : Type 0} (id_of : I → ℕ) (item_of : I → Item) (same : (x : I)
   duplicate_refused new kept there = (live_by ∙ some_of (handle_of id_of id es) there, is ∙ sym (same item), ap (items_of item_of) kept)
 
   -- a full layer takes no item, and tells first that the identifier is live
-  pub full_refused : most_items ≤ length es → (fault : UpdateFault) → fault ≡ (if is_some (handle_of id_of id es) then faults.Duplicate id else faults.Full)
-      → IsAdd {T = Spent} (items_of item_of es) (item_of item) (items_of item_of es) (Err fault)
-  full_refused full fault told =
-      subst (λ (f : UpdateFault). IsAdd {T = Spent} (items_of item_of es) (item_of item) (items_of item_of es) (Err f)) (sym told) (by_live (is_some (handle_of id_of id es)) live_by)
+  pub full_refused : (most : ℕ) → most ≤ length es → (fault : UpdateFault) → fault ≡ (if is_some (handle_of id_of id es) then faults.Duplicate id else faults.Full)
+      → IsAdd {T = Spent} most (items_of item_of es) (item_of item) (items_of item_of es) (Err fault)
+  full_refused most full fault told =
+      subst (λ (f : UpdateFault). IsAdd {T = Spent} most (items_of item_of es) (item_of item) (items_of item_of es) (Err f)) (sym told) (by_live (is_some (handle_of id_of id es)) live_by)
     where
       by_live : (b : Bool) → is_live (item_of item).id (items_of item_of es) ≡ b
-          → IsAdd {T = Spent} (items_of item_of es) (item_of item) (items_of item_of es) (Err (if b then faults.Duplicate id else faults.Full))
+          → IsAdd {T = Spent} most (items_of item_of es) (item_of item) (items_of item_of es) (Err (if b then faults.Duplicate id else faults.Full))
       by_live true live = (live, is ∙ sym (same item), refl)
       by_live false dead = (dead, omega (arith, full, as_many_items item_of es), refl)
+
+  -- ---- a move
+
+  -- an identifier that the directory lacks is unknown
+  pub unknown_refused : (new : List (Entry I)) → new ≡ es → is_some (handle_of id_of id es) ≡ false
+      → IsMove {T = Spent} (items_of item_of es) (item_of item) (items_of item_of new) (Err (faults.Unknown id))
+  unknown_refused new kept none = (live_by ∙ none, is ∙ sym (same item), ap (items_of item_of) kept)
+
+  -- where memory is refused the items stay
+  pub move_refused : (new : List (Entry I)) → new ≡ es → is_some (handle_of id_of id es) ≡ true
+      → IsMove {T = Spent} (items_of item_of es) (item_of item) (items_of item_of new) (Err faults.NoMemory)
+  move_refused new kept there = (live_by ∙ there, ap (items_of item_of) kept)
+
+  -- the item with another stamp has the same identifier
+  pub same_identifier : (stamped : I) → item_of stamped ≡ item_of item → id_of stamped ≡ id
+  same_identifier stamped alike = sym (same stamped) ∙ ap (λ i. i.id) alike ∙ same item ∙ sym is
+
+  -- the others stay in their order, and the item comes last
+  pub moved_items : (spent : Spent) (stamped : I) (handle : ℕ) (new : List (Entry I)) → IdsDiffer id_of es → is_some (handle_of id_of id es) ≡ true
+      → item_of stamped ≡ item_of item → new ≡ without id_of (id_of stamped) es ++ record { handle = handle; item = stamped } ∷ []
+      → IsMove (items_of item_of es) (item_of item) (items_of item_of new) (Ok spent)
+  moved_items spent stamped handle new differ there alike renewed =
+      let rest : items_of item_of (without id_of (id_of stamped) es) ≡ without_item (item_of item).id (items_of item_of es) =
+      items_without id_of item_of same (id_of stamped) es differ
+      ∙ ap (λ n. without_item n (items_of item_of es)) (same_identifier stamped alike ∙ is ∙ sym (same item)) in (
+        live_by ∙ there,
+        ap (items_of item_of) renewed
+        ∙ map-append (λ e. item_of e.item) (without id_of (id_of stamped) es) (record { handle = handle; item = stamped } ∷ [])
+        ∙ ap (λ items. items ++ item_of stamped ∷ []) rest
+        ∙ ap (λ i. without_item (item_of item).id (items_of item_of es) ++ i ∷ []) alike,
+      )

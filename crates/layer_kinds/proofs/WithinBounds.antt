@@ -1,5 +1,5 @@
 -- The bounds of a layer are those of its indexes.
-use Rattle.std.proofs.Common.{◌≡◌, ℕ, zero, suc, ◌+◌, ◌-◌, ◌*◌, ◌^◌, ◌<◌, ◌≤◌, ◌∙◌, Bool, true, List, [], ◌∷◌, Option, Some, None, cond, sum_by, ap, subst, arith, pow-suc}
+use Rattle.std.proofs.Common.{◌≡◌, ℕ, zero, suc, ◌+◌, ◌-◌, ◌*◌, ◌^◌, ◌<◌, ◌≤◌, ◌∙◌, true, List, [], ◌∷◌, Option, Some, None, cond, sum_by, ap, subst, arith, pow-suc}
 use Rattle.std.specs.List.{range_with_len}
 use Rattle.std.specs.Option.{is_some, option_map_or}
 use Rattle.std.proofs.lemmas.List.Elements.{All-head, All-tail}
@@ -9,10 +9,10 @@ use Rattle.partial_build.specs.Quota.{quota}
 use Rattle.log_levels.specs.Cost.{IsWithin, quotas}
 use Rattle.log_levels.proofs.Spending.{IsWithin-more, IsWithin-then, quotas-first, quotas-fewer}
 use Rattle.map_structures.specs.Touches.{touches_at}
-use Rattle.map_model.specs.Cost.{greatest_level, turns_up_to, marks_up_to}
+use Rattle.map_model.specs.Cost.{Update, greatest_level, turns_up_to, marks_up_to, move_turns_up_to, move_marks_up_to, brings}
 use Rattle.map_model.proofs.Levels.{IsLog-halvings}
 use Rattle.map_shapes.specs.declared.spent.Spent.{Spent}
-use Rattle.layer_kinds.specs.Shares.{Rate, Rates, count_of, share, IsLow, AreLow, IsShared, prepare_turns, prepare_marks, insert_turns, insert_marks, delete_turns, delete_marks}
+use Rattle.layer_kinds.specs.Shares.{Rate, Rates, count_of, share, IsLow, AreLow, IsShared, prepare_turns, prepare_marks, insert_turns, insert_marks, delete_turns, delete_marks, move_turns, move_marks}
 use Rattle.layer_kinds.specs.SharesLaws.{IsLowThere}
 use Rattle.layer_kinds.specs.Costs.{IsInBounds, IsTold, turns_of, marks_of}
 
@@ -106,6 +106,24 @@ module _ (rates : Rates) (low : AreLow rates) (g : ℕ) where
       (shares (prepare_marks g) (delete_marks g) (marks_up_to g) (λ rate is. omega arith) rates low)
       (omega arith)
 
+  -- what a move costs, by the level
+  abbrev pub IsMoveAtMost : Counts → Counts → Type 0
+  IsMoveAtMost old new = IsWithin (count_of rates * move_turns_up_to g) (count_of rates * move_marks_up_to g) (touches_at g) old new
+
+  pub refused_move-cost : {old new : Counts} → IsShared (prepare_turns g) (prepare_marks g) rates g old new → IsMoveAtMost old new
+  refused_move-cost h = IsWithin-more h
+      (omega (arith, shares (prepare_turns g) (prepare_turns g) (2 * move_turns_up_to g) (λ rate is. omega (arith, quotas-low g rate is)) rates low))
+      (omega (arith, shares (prepare_marks g) (prepare_marks g) (2 * move_marks_up_to g) (λ rate is. omega arith) rates low))
+      (omega arith)
+
+  pub moved-cost : {old mid new : Counts} → IsShared (prepare_turns g) (prepare_marks g) rates g old mid
+      → IsShared (move_turns g) (move_marks g) rates g mid new → IsMoveAtMost old new
+  moved-cost h h' = IsWithin-more (IsWithin-then h h')
+      (shares (prepare_turns g) (move_turns g) (move_turns_up_to g)
+      (λ rate is. omega (arith, quotas-low g rate is, quotas-fewer rate.slope rate.base 0 g)) rates low)
+      (shares (prepare_marks g) (move_marks g) (move_marks_up_to g) (λ rate is. omega arith) rates low)
+      (omega arith)
+
 -- ---- a layer
 
 light : (m h : ℕ) → m < 2 * 2 ^ h → m < 2 ^ (h + 1)
@@ -121,16 +139,16 @@ greatest-light n few =
     light (2 * n + 10) (greatest_level n) log.1
 
 -- what an update of n items costs that is told
-pub IsTold-of : (indexes n : ℕ) (adds : Bool) (turns marks : ℕ) {spent : Spent} {old new : Counts} → IsInBounds indexes n old new → AtLapStart old
-    → turns ≡ turns_of indexes n → marks ≡ marks_of indexes n → turns < 2 ^ 32 → marks < 2 ^ 32
-    → (adds ≡ true → old.turns + 3 * indexes ≤ new.turns)
+pub IsTold-of : (update : Update) (indexes n turns marks : ℕ) {spent : Spent} {old new : Counts} → IsInBounds update indexes n old new → AtLapStart old
+    → turns ≡ turns_of update indexes n → marks ≡ marks_of update indexes n → turns < 2 ^ 32 → marks < 2 ^ 32
+    → (brings update ≡ true → old.turns + 3 * indexes ≤ new.turns)
     → spent ≡ record {
       turns = lap_of new.lap_start.turns new.turns;
       turn_bound = turns;
       marks = lap_of new.lap_start.marks new.marks;
       mark_bound = marks;
-    } → IsTold indexes n adds spent old new
-IsTold-of indexes n adds turns marks {spent} {old} {new} h lap turns_are marks_are few_turns few_marks some told =
+    } → IsTold update indexes n spent old new
+IsTold-of update indexes n turns marks {spent} {old} {new} h lap turns_are marks_are few_turns few_marks some told =
     let from_turns : new.lap_start.turns ≡ old.turns = ap (λ l. l.turns) h.spent.same_lap ∙ lap.no_turns in
     let from_marks : new.lap_start.marks ≡ old.marks = ap (λ l. l.marks) h.spent.same_lap ∙ lap.no_marks in
     let risen : old.turns ≤ new.turns = omega (arith, h.spent.turns_spent) in

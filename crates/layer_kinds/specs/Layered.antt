@@ -2,15 +2,16 @@
 use Rattle.std.specs.Prelude.{◌≡◌, ℕ, ◌<◌, ◌≤◌, Bool, true, false, List, Option, Result, Ok, Err, length, map}
 use Rattle.std.specs.Option.{is_some}
 use Rattle.id_chain.specs.Chain.{Entry}
-use Rattle.map_model.specs.State.{Item, most_items, is_live, with_item, without_item}
+use Rattle.map_model.specs.State.{Item, is_live, with_item, without_item}
 use Rattle.layer_kinds.specs.declared.faults.AskFault.{AskFault}
 use Rattle.layer_kinds.specs.declared.faults.AskFault.TheVariants as ask
 use Rattle.layer_kinds.specs.declared.faults.UpdateFault.{UpdateFault}
 use Rattle.layer_kinds.specs.declared.faults.UpdateFault.TheVariants.{Duplicate, Unknown, Full, NoMemory}
 
--- a layer: its name, its entries in order of add, how many adds there ever were, and the indexes over the entries
+-- a layer: its name, how many items it may have, its entries in order of add, how many adds and moves there ever were, and the indexes over the entries
 pub record Layered (X I : Type 0) : Type 0 where
   pub name : List ℕ
+  pub most_items : ℕ
   pub entries : List (Entry I)
   pub adds : ℕ
   pub indexes : X
@@ -21,12 +22,20 @@ items_of item_of es = map (λ e. item_of e.item) es
 
 -- An item whose identifier is live is refused, and any other where as many are live as may be; else it goes to the end, but for want
 -- of memory.
-abbrev pub IsAdd : {T : Type 0} → List Item → Item → List Item → Result T UpdateFault → Type 0
-IsAdd old item new (Ok done) = (is_live item.id old ≡ false) × (length old < most_items) × (new ≡ with_item item old)
-IsAdd old item new (Err (Duplicate id)) = (is_live item.id old ≡ true) × (id ≡ item.id) × (new ≡ old)
-IsAdd old item new (Err (Unknown id)) = ⊥
-IsAdd old item new (Err Full) = (is_live item.id old ≡ false) × (most_items ≤ length old) × (new ≡ old)
-IsAdd old item new (Err NoMemory) = (is_live item.id old ≡ false) × (length old < most_items) × (new ≡ old)
+abbrev pub IsAdd : {T : Type 0} → ℕ → List Item → Item → List Item → Result T UpdateFault → Type 0
+IsAdd most old item new (Ok done) = (is_live item.id old ≡ false) × (length old < most) × (new ≡ with_item item old)
+IsAdd most old item new (Err (Duplicate id)) = (is_live item.id old ≡ true) × (id ≡ item.id) × (new ≡ old)
+IsAdd most old item new (Err (Unknown id)) = ⊥
+IsAdd most old item new (Err Full) = (is_live item.id old ≡ false) × (most ≤ length old) × (new ≡ old)
+IsAdd most old item new (Err NoMemory) = (is_live item.id old ≡ false) × (length old < most) × (new ≡ old)
+
+-- An item whose identifier isn't live is refused, and any other goes to the end, where the one of that identifier goes, but for want of memory.
+abbrev pub IsMove : {T : Type 0} → List Item → Item → List Item → Result T UpdateFault → Type 0
+IsMove old item new (Ok done) = (is_live item.id old ≡ true) × (new ≡ with_item item (without_item item.id old))
+IsMove old item new (Err (Duplicate id)) = ⊥
+IsMove old item new (Err (Unknown id)) = (is_live item.id old ≡ false) × (id ≡ item.id) × (new ≡ old)
+IsMove old item new (Err Full) = ⊥
+IsMove old item new (Err NoMemory) = (is_live item.id old ≡ true) × (new ≡ old)
 
 -- An identifier that isn't live is refused, and any other item is taken out, but for want of memory.
 abbrev pub IsRemoval : {T : Type 0} → List Item → ℕ → List Item → Result T UpdateFault → Type 0

@@ -61,3 +61,11 @@ delete_turns g rate = 2 * quotas rate.slope rate.base 1 g
 -- its marks in a delete
 abbrev pub delete_marks : ℕ → Rate → ℕ
 delete_marks g rate = 2 * (5 * g + 3)
+
+-- its turns in a move: those of a delete, and then of an insert
+abbrev pub move_turns : ℕ → Rate → ℕ
+move_turns g rate = delete_turns g rate + insert_turns g rate
+
+-- its marks in a move
+abbrev pub move_marks : ℕ → Rate → ℕ
+move_marks g rate = delete_marks g rate + insert_marks g rate

@@ -11,7 +11,7 @@ pub enum UpdateFault {
     /// The identifier isn't live in the layer.
     #[error("identifier {0} isn't live in the layer")]
     Unknown(u64),
-    /// The layer has 65,536 live items.
+    /// The layer has as many live items as it may have.
     #[error("the layer is full")]
     Full,
     /// No memory was found.

@@ -5,7 +5,8 @@ mod has;
 ghost use Rattle.std.specs.Prelude.{◌≡◌, ℕ, ◌+◌, ◌*◌, ◌^◌, ◌<◌, ◌≤◌, ◌++◌, ◌∷◌, [], List, IsTrue, OnOk, length};
 ghost use Rattle.std.specs.Option.{is_some};
 ghost use Rattle.id_chain.specs.Chain.{Entry, HandlesDiffer, is_linked, without_handle};
-ghost use Rattle.layer_kinds.specs.Shares.{Rates, AreLow, count_of, CostsShares, prepare_turns, prepare_marks, insert_turns, insert_marks, delete_turns, delete_marks};
+ghost use Rattle.global_rebuild.specs.Index.{renewed};
+ghost use Rattle.layer_kinds.specs.Shares.{Rates, AreLow, count_of, CostsShares, prepare_turns, prepare_marks, insert_turns, insert_marks, delete_turns, delete_marks, move_turns, move_marks};
 ghost use Rattle.layer_kinds.specs.SharesLaws.{AreLow-one, AreLow-both};
 ghost use Rattle.layer_kinds.specs.Indexing.{rates_of, IsOf, IsReady};
 ghost use Rattle.layer_kinds.specs.Memory.{Memory, memories_of, Each, IsReadied, KeepsAll};
@@ -84,6 +85,23 @@ pub trait Indexes: Drop + Sized {
         ensures held { Each KeepsAll (memory self.old) (memory self.new) }
         ensures cost { CostsShares delete_turns delete_marks (2 * length chain.now.entries + 10) (rates self.old) steps.old steps.new };
 
+    /// Puts another item in the place of a linked one, which is renewed next: it goes to the end of the chain, under the same handle.
+    fn relocate<L: Ledger>(
+        &mut self,
+        chain: &Chain<Self::Item>,
+        handle: Handle,
+        item: Self::Item,
+        steps: &mut Steps<L>,
+    )
+        requires ready { are_ready self.old }
+        requires of { are_of self.old chain.now.entries (Self.Item.stamp item) }
+        requires linked { IsTrue (is_linked handle chain.now.entries) }
+        ensures of { are_of self.new (renewed handle item chain.now.entries) (Self.Item.stamp item + 1) }
+        ensures there { rates self.new ≡ rates self.old }
+        ensures held { Each KeepsAll (memory self.old) (memory self.new) }
+        ensures some_turns { steps.old.turns + 3 * count_of (rates self.old) ≤ steps.new.turns }
+        ensures cost { CostsShares move_turns move_marks (2 * length chain.now.entries + 10) (rates self.old) steps.old steps.new };
+
     /// All are of structures of the map.
     ghost low: { (s : Self) → AreLow (rates s) };
 }
@@ -160,6 +178,19 @@ where
         index.commit_delete(chain, handle, steps);
     }
 
+    fn relocate<L: Ledger>(
+        &mut self,
+        chain: &Chain<B::Item>,
+        handle: Handle,
+        item: B::Item,
+        steps: &mut Steps<L>,
+    ) {
+        let Some(index) = &mut self.index else {
+            return;
+        };
+        index.commit_move(chain, handle, item, steps);
+    }
+
     ghost low = { λ s. AreLow-one (record { slope = B.SLOPE; base = B.BASE }) s B.few };
 }
 
@@ -198,6 +229,18 @@ impl<A: Indexes, B: Indexes<Item = A::Item>> Indexes for (A, B) {
     fn delete<L: Ledger>(&mut self, chain: &Chain<A::Item>, handle: Handle, steps: &mut Steps<L>) {
         self.0.delete(chain, handle, steps);
         self.1.delete(chain, handle, steps);
+    }
+
+    #[tactic(auto, using(crate::proofs::Shared::costs_then))]
+    fn relocate<L: Ledger>(
+        &mut self,
+        chain: &Chain<A::Item>,
+        handle: Handle,
+        item: A::Item,
+        steps: &mut Steps<L>,
+    ) {
+        self.0.relocate(chain, handle, item, steps);
+        self.1.relocate(chain, handle, item, steps);
     }
 
     ghost low = { λ s. AreLow-both (A.rates s.0) (B.rates s.1) (A.low s.0) (B.low s.1) };

@@ -8,12 +8,12 @@ ghost use Rattle.query_laws.specs.StepLedger.{AtLapStart};
 ghost use Rattle.map_model.specs.Index.{one_if};
 ghost use Rattle.map_model.specs.Answer.{latest};
 ghost use Rattle.map_model.specs.State as state;
-ghost use Rattle.map_model.specs.Cost.{bounds_at};
+ghost use Rattle.map_model.specs.Cost.{Adds, Drops, Moves, bounds_at};
 ghost use Rattle.map_shapes.specs.Shape.{model_shape};
 ghost use Rattle.id_directory.specs.Directory.{handle_of};
 ghost use Rattle.layer_kinds.specs.declared.faults.UpdateFault.TheVariants as faults;
 ghost use Rattle.layer_kinds.specs.Shares.{count_of};
-ghost use Rattle.layer_kinds.specs.Layered.{items_of, IsAdd, IsRemoval};
+ghost use Rattle.layer_kinds.specs.Layered.{items_of, IsAdd, IsMove, IsRemoval};
 ghost use Rattle.layer_kinds.specs.Costs.{turns_of, marks_of, IsCost, IsTold};
 ghost use Rattle.layer_kinds.specs.Memory.{KeepsMemory};
 
@@ -28,42 +28,42 @@ use std::alloc::Global;
 use std::marker::Model;
 use std::sync::ledger::Ledger;
 
-/// The most live items of a layer.
-const MOST_ITEMS: usize = 65_536;
-
 /// Items by identifier, and the indexes over them. Contracts see the items in order of add.
 ///
 /// Each update is handed steps whose lap begins there. All memory is taken, in all indexes, before anything is changed.
 #[derive(Drop)]
 pub struct KindLayer<X: Indexes> {
     name: Name,
+    most_items: usize,
     directory: Directory<X::Item>,
     indexes: X,
 }
 
 impl<X: Indexes> Model for KindLayer<X> {
-    ghost use Rattle.std.specs.Prelude.{◌≡◌, ◌≤◌, None, length};
-    ghost use Rattle.map_model.specs.State.{most_items};
+    ghost use Rattle.std.specs.Prelude.{◌≡◌, ◌≤◌, ◌^◌, None, length};
     ghost use Rattle.layer_kinds.specs.Layered.{Layered};
 
     ghost Value = { Layered X X.Item };
 
-    ghost view = { λ l. record { name = l.name; entries = l.directory.entries; adds = l.directory.adds; indexes = l.indexes } };
+    ghost view = { λ l. record { name = l.name; most_items = l.most_items; entries = l.directory.entries; adds = l.directory.adds; indexes = l.indexes } };
 
     ghost invariant = { λ l. (l.directory.pending ≡ None) × X.are_of l.indexes l.directory.entries l.directory.adds
-        × (length l.directory.entries ≤ most_items) × (length (X.rates l.indexes) ≤ 4) };
+        × (length l.directory.entries ≤ l.most_items) × (l.most_items ≤ 2 ^ 16) × (length (X.rates l.indexes) ≤ 4) };
 }
 
 impl<X: Indexes> KindLayer<X> {
-    /// A layer without items, over indexes without items, four at most. It takes no memory; updates take theirs from `alloc`.
-    pub fn new(alloc: Global, name: Name, indexes: X) -> KindLayer<X>
+    /// A layer without items, which may have so many, over indexes without items, four at most. It takes no memory; updates take theirs from
+    /// `alloc`.
+    pub fn new(alloc: Global, name: Name, most_items: usize, indexes: X) -> KindLayer<X>
+        requires most { most_items ≤ 2 ^ 16 }
         requires of { X.are_of indexes [] 0 }
         requires few { length (X.rates indexes) ≤ 4 }
-        ensures { result ≡ record { name = name; entries = []; adds = 0; indexes = indexes } }
+        ensures { result ≡ record { name = name; most_items = most_items; entries = []; adds = 0; indexes = indexes } }
     {
         KindLayer {
             name,
-            directory: Directory::new(alloc, MOST_ITEMS),
+            most_items,
+            directory: Directory::new(alloc, most_items),
             indexes,
         }
     }
@@ -83,13 +83,17 @@ impl<X: Indexes> KindLayer<X> {
         self.directory.chain().len()
     }
 
-    /// What its updates and questions may cost now.
+    /// What its updates and questions may cost now: a drop what an add may.
     pub fn bounds(&self) -> Bounds
-        ensures turns { result.turns ≡ turns_of (count_of (X.rates self.now.indexes)) (length self.now.entries) }
-        ensures marks { result.marks ≡ marks_of (count_of (X.rates self.now.indexes)) (length self.now.entries) }
+        ensures turns { result.turns ≡ turns_of Adds (count_of (X.rates self.now.indexes)) (length self.now.entries) }
+        ensures marks { result.marks ≡ marks_of Adds (count_of (X.rates self.now.indexes)) (length self.now.entries) }
+        ensures move_turns { result.move_turns ≡ turns_of Moves (count_of (X.rates self.now.indexes)) (length self.now.entries) }
+        ensures move_marks { result.move_marks ≡ marks_of Moves (count_of (X.rates self.now.indexes)) (length self.now.entries) }
         ensures parts { result.parts ≡ (bounds_at (length self.now.entries)).parts }
         ensures few_turns { result.turns < 2 ^ 32 }
         ensures few_marks { result.marks < 2 ^ 32 }
+        ensures few_move_turns { result.move_turns < 2 ^ 32 }
+        ensures few_move_marks { result.move_marks < 2 ^ 32 }
     {
         Bounds::new(self.len(), self.indexes.count())
     }
@@ -119,17 +123,18 @@ impl<X: Indexes> KindLayer<X> {
     ) -> Result<Spent, UpdateFault>
         requires few { self.old.adds < 2 ^ 62 }
         requires lap { AtLapStart steps.old }
-        ensures added { IsAdd (items_of X.Item.item_of self.old.entries) (X.Item.item_of item) (items_of X.Item.item_of self.new.entries) result }
+        ensures added { IsAdd self.old.most_items (items_of X.Item.item_of self.old.entries) (X.Item.item_of item) (items_of X.Item.item_of self.new.entries) result }
         ensures adds { self.new.adds ≡ self.old.adds + one_if (is_ok result) }
         ensures name { self.new.name ≡ self.old.name }
+        ensures limit { self.new.most_items ≡ self.old.most_items }
         ensures there { X.rates self.new.indexes ≡ X.rates self.old.indexes }
         ensures kept { KeepsMemory result (X.memory self.old.indexes) (X.memory self.new.indexes) }
-        ensures cost { IsCost (count_of (X.rates self.old.indexes)) (length self.old.entries) result steps.old steps.new }
-        ensures told { IfOk result (λ spent. IsTold (count_of (X.rates self.old.indexes)) (length self.old.entries) true spent steps.old steps.new) }
+        ensures cost { IsCost Adds (count_of (X.rates self.old.indexes)) (length self.old.entries) result steps.old steps.new }
+        ensures told { IfOk result (λ spent. IsTold Adds (count_of (X.rates self.old.indexes)) (length self.old.entries) spent steps.old steps.new) }
     {
         let bounds = self.bounds();
         let id = item.id();
-        if self.directory.chain().len() >= MOST_ITEMS {
+        if self.directory.chain().len() >= self.most_items {
             return Err(self.fault_when_full(id));
         }
         if !self.directory.prepare_add(id)? {
@@ -141,7 +146,7 @@ impl<X: Indexes> KindLayer<X> {
         }
         let handle = self.directory.add(item.stamped(self.directory.adds()));
         self.indexes.insert(self.directory.chain(), handle, steps);
-        Ok(spent(bounds, steps))
+        Ok(spent(bounds.turns, bounds.marks, steps))
     }
 
     /// Why a full layer takes no item with this identifier.
@@ -160,10 +165,11 @@ impl<X: Indexes> KindLayer<X> {
         ensures removed { IsRemoval (items_of X.Item.item_of self.old.entries) id (items_of X.Item.item_of self.new.entries) result }
         ensures adds { self.new.adds ≡ self.old.adds }
         ensures name { self.new.name ≡ self.old.name }
+        ensures limit { self.new.most_items ≡ self.old.most_items }
         ensures there { X.rates self.new.indexes ≡ X.rates self.old.indexes }
         ensures kept { KeepsMemory result (X.memory self.old.indexes) (X.memory self.new.indexes) }
-        ensures cost { IsCost (count_of (X.rates self.old.indexes)) (length self.old.entries) result steps.old steps.new }
-        ensures told { IfOk result (λ spent. IsTold (count_of (X.rates self.old.indexes)) (length self.old.entries) false spent steps.old steps.new) }
+        ensures cost { IsCost Drops (count_of (X.rates self.old.indexes)) (length self.old.entries) result steps.old steps.new }
+        ensures told { IfOk result (λ spent. IsTold Drops (count_of (X.rates self.old.indexes)) (length self.old.entries) spent steps.old steps.new) }
     {
         let bounds = self.bounds();
         let Some(handle) = self.directory.find(id) else {
@@ -172,6 +178,39 @@ impl<X: Indexes> KindLayer<X> {
         self.indexes.prepare(self.directory.chain(), steps)?;
         self.indexes.delete(self.directory.chain(), handle, steps);
         self.directory.remove(id);
-        Ok(spent(bounds, steps))
+        Ok(spent(bounds.turns, bounds.marks, steps))
+    }
+
+    /// Puts an item in the place of the one with its identifier, at the end and with a stamp of its own, and says what it cost.
+    ///
+    /// `Unknown` where the identifier isn't live, before anything is counted. `NoMemory` where memory isn't given to one of the indexes, before
+    /// any of them has changed: the item that was there stays, in its place. A move is never too many, and takes no place in the chain. In each
+    /// index it is one update and takes seven ticks at most, where an add or a drop takes six.
+    pub fn relocate<L: Ledger>(
+        &mut self,
+        item: X::Item,
+        steps: &mut Steps<L>,
+    ) -> Result<Spent, UpdateFault>
+        requires few { self.old.adds < 2 ^ 62 }
+        requires lap { AtLapStart steps.old }
+        ensures moved { IsMove (items_of X.Item.item_of self.old.entries) (X.Item.item_of item) (items_of X.Item.item_of self.new.entries) result }
+        ensures adds { self.new.adds ≡ self.old.adds + one_if (is_ok result) }
+        ensures name { self.new.name ≡ self.old.name }
+        ensures limit { self.new.most_items ≡ self.old.most_items }
+        ensures there { X.rates self.new.indexes ≡ X.rates self.old.indexes }
+        ensures kept { KeepsMemory result (X.memory self.old.indexes) (X.memory self.new.indexes) }
+        ensures cost { IsCost Moves (count_of (X.rates self.old.indexes)) (length self.old.entries) result steps.old steps.new }
+        ensures told { IfOk result (λ spent. IsTold Moves (count_of (X.rates self.old.indexes)) (length self.old.entries) spent steps.old steps.new) }
+    {
+        let bounds = self.bounds();
+        let id = item.id();
+        let Some(handle) = self.directory.find(id) else {
+            return Err(UpdateFault::Unknown(id));
+        };
+        self.indexes.prepare(self.directory.chain(), steps)?;
+        let moved = item.stamped(self.directory.adds());
+        self.indexes.relocate(self.directory.chain(), handle, moved, steps);
+        self.directory.renew(handle, moved);
+        Ok(spent(bounds.move_turns, bounds.move_marks, steps))
     }
 }

@@ -3,7 +3,7 @@ use Rattle.std.specs.Option.{is_some, is_none}
 use Rattle.std.proofs.lemmas.List.{length-append, map-append}
 use Rattle.id_directory.specs.Directory.{handle_of}
 use Rattle.map_model.specs.State.{is_live}
-use Rattle.map_model.specs.Cost.{greatest_level}
+use Rattle.map_model.specs.Cost.{Adds, greatest_level}
 use Rattle.map_shapes.specs.declared.spent.Spent.{Spent}
 use Rattle.layer_kinds.specs.declared.faults.UpdateFault.TheVariants as faults
 use Rattle.layer_kinds.specs.Shares.{count_of, IsShared, insert_turns, insert_marks}
@@ -15,11 +15,11 @@ use Rattle.layer_kinds.proofs.WithinBounds.{IsTold-of, greatest-light, refused-c
 use Rattle.layer_kinds.proofs.Items.{live_found, as_many_items, duplicate_refused, full_refused}
 use Rattle.layer_kinds.proofs.kind_layer.KindLayer.add.Goals as goal
 
-pub returns-then-len-ge-MOST_ITEMS-clause-added : goal.returns-then-len-ge-MOST_ITEMS-clause-added
-returns-then-len-ge-MOST_ITEMS-clause-added g c =
+pub returns-then-len-ge-most_items-clause-added : goal.returns-then-len-ge-most_items-clause-added
+returns-then-len-ge-most_items-clause-added g c =
     let long : c.len.result ≡ length c.args.self.now.entries = search rules in
     full_refused g.X.Item.Named.id g.X.Item.Shaped.item_of g.met.X.Item.Shaped.same_id c.args.item c.args.self.now.entries c.id-id.result c.id-id.ensures
-    (omega (arith, c.if-len-ge-MOST_ITEMS.true, long)) c.fault_when_full.result c.fault_when_full.ensures
+    c.args.self.now.most_items (omega (arith, c.if-len-ge-most_items.true, long, ap (λ k. k.most_items) c.self.view_is)) c.fault_when_full.result c.fault_when_full.ensures
 
 pub returns-then-not-branch-clause-added : goal.returns-then-not-branch-clause-added
 returns-then-not-branch-clause-added g c =
@@ -38,9 +38,9 @@ returns-in_err-prepare_add-clause-added g c =
     let none : is_some (handle_of id (id c.args.item) es) ≡ false = search rules in
     let long : c.len.result ≡ length es = search rules in
     let same : c.prepare_add.new.self.entries ≡ es = search rules in
-    subst (IsAdd (items_of item_of es) (item_of c.args.item) (items_of item_of c.prepare_add.new.self.entries)) (sym refused) (
+    subst (IsAdd c.args.self.now.most_items (items_of item_of es) (item_of c.args.item) (items_of item_of c.prepare_add.new.self.entries)) (sym refused) (
       ap (λ k. is_live k (items_of item_of es)) (laws c.args.item) ∙ live_found id item_of laws (id c.args.item) es ∙ none,
-      omega (arith, c.if-len-ge-MOST_ITEMS.false, long, as_many_items item_of es),
+      omega (arith, c.if-len-ge-most_items.false, long, as_many_items item_of es, ap (λ k. k.most_items) c.self.view_is),
       ap (items_of item_of) same,
     )
 
@@ -54,7 +54,7 @@ returns-then-is_err-clause-added g c =
     let long : c.len.result ≡ length es = search rules in
     let same : c.cancel_add.new.self.entries ≡ es = search rules in (
       ap (λ k. is_live k (items_of item_of es)) (laws c.args.item) ∙ live_found id item_of laws (id c.args.item) es ∙ none,
-      omega (arith, c.if-len-ge-MOST_ITEMS.false, long, as_many_items item_of es),
+      omega (arith, c.if-len-ge-most_items.false, long, as_many_items item_of es, ap (λ k. k.most_items) c.self.view_is),
       ap (items_of item_of) same,
     )
 
@@ -86,7 +86,7 @@ returns-clause-added g c =
     let none : is_some (handle_of id (id c.args.item) es) ≡ false = search rules in
     let long : c.len.result ≡ length es = search rules in (
       ap (λ k. is_live k (items_of item_of es)) (laws c.args.item) ∙ live_found id item_of laws (id c.args.item) es ∙ none,
-      omega (arith, c.if-len-ge-MOST_ITEMS.false, long, as_many_items item_of es),
+      omega (arith, c.if-len-ge-most_items.false, long, as_many_items item_of es, ap (λ k. k.most_items) c.self.view_is),
       items,
     )
 
@@ -96,8 +96,8 @@ returns-then-is_err-clause-cost g c =
     let n = length l.directory.entries in
     let same : c.chain-2.result.now.entries ≡ l.directory.entries = search rules in
     let level = greatest_level n in
-    let light : 2 * n + 10 < 2 ^ (level + 1) = greatest-light n c.self.invariant.2 in
-    subst (λ k. IsInBounds (count_of (g.X.Indexes.rates k.indexes)) (length k.entries) c.args.steps.now c.prepare.new.steps) c.self.view_is
+    let light : 2 * n + 10 < 2 ^ (level + 1) = greatest-light n (omega (arith, c.self.invariant.2, c.self.invariant.3)) in
+    subst (λ k. IsInBounds Adds (count_of (g.X.Indexes.rates k.indexes)) (length k.entries) c.args.steps.now c.prepare.new.steps) c.self.view_is
     (refused-cost (g.X.Indexes.rates l.indexes) (g.met.X.Indexes.low l.indexes) level (c.prepare.ensures.cost.within level (omega (arith, light, ap length same))))
 
 pub returns-clause-cost : goal.returns-clause-cost
@@ -109,8 +109,8 @@ returns-clause-cost g c =
     let more : length c.chain-3.result.now.entries ≡ n + 1 =
     ap length all ∙ length-append l.directory.entries (record { handle = c.add-handle.result; item = c.stamped.result } ∷ []) in
     let level = greatest_level n in
-    let light : 2 * n + 10 < 2 ^ (level + 1) = greatest-light n c.self.invariant.2 in
-    subst (λ k. IsInBounds (count_of (g.X.Indexes.rates k.indexes)) (length k.entries) c.args.steps.now c.insert.new.steps) c.self.view_is
+    let light : 2 * n + 10 < 2 ^ (level + 1) = greatest-light n (omega (arith, c.self.invariant.2, c.self.invariant.3)) in
+    subst (λ k. IsInBounds Adds (count_of (g.X.Indexes.rates k.indexes)) (length k.entries) c.args.steps.now c.insert.new.steps) c.self.view_is
     (added-cost (g.X.Indexes.rates l.indexes) (g.met.X.Indexes.low l.indexes) level (c.prepare.ensures.cost.within level (omega (arith, light, ap length same)))
     (subst (λ rs. IsShared (insert_turns level) (insert_marks level) rs level c.prepare.new.steps c.insert.new.steps) c.prepare.ensures.there
     (c.insert.ensures.cost.within level (omega (arith, light, more)))))
@@ -121,17 +121,17 @@ returns-clause-told g c =
     let n = length l.directory.entries in
     let rates = g.X.Indexes.rates c.args.self.now.indexes in
     let same : c.chain-2.result.now.entries ≡ l.directory.entries = search rules in
-    let prepared = c.prepare.ensures.cost.within (greatest_level n) (omega (arith, ap length same, greatest-light n c.self.invariant.2)) in
+    let prepared = c.prepare.ensures.cost.within (greatest_level n) (omega (arith, ap length same, greatest-light n (omega (arith, c.self.invariant.2, c.self.invariant.3)))) in
     let later : c.args.steps.now.turns ≤ c.prepare.new.steps.turns = omega (arith, prepared.spent.turns_spent) in
     let there : count_of (g.X.Indexes.rates c.prepare.new.self) ≡ count_of rates =
     ap count_of c.prepare.ensures.there ∙ ap (λ k. count_of (g.X.Indexes.rates k.indexes)) c.self.view_is in
     let some_turns : c.args.steps.now.turns + 3 * count_of rates ≤ c.insert.new.steps.turns = omega (arith, later, c.insert.ensures.some_turns, there) in
-    let cost : IsInBounds (count_of rates) (length c.args.self.now.entries) c.args.steps.now c.insert.new.steps = returns-clause-cost g c in
-    IsTold-of (count_of rates) (length c.args.self.now.entries) true c.bounds-bounds.result.turns c.bounds-bounds.result.marks cost c.requires.lap
+    let cost : IsInBounds Adds (count_of rates) (length c.args.self.now.entries) c.args.steps.now c.insert.new.steps = returns-clause-cost g c in
+    IsTold-of Adds (count_of rates) (length c.args.self.now.entries) c.bounds-bounds.result.turns c.bounds-bounds.result.marks cost c.requires.lap
     c.bounds-bounds.ensures.turns c.bounds-bounds.ensures.marks c.bounds-bounds.ensures.few_turns c.bounds-bounds.ensures.few_marks (λ adds. some_turns) c.spent.ensures
 
-pub returns-then-len-ge-MOST_ITEMS-clause-kept : goal.returns-then-len-ge-MOST_ITEMS-clause-kept
-returns-then-len-ge-MOST_ITEMS-clause-kept g c =
+pub returns-then-len-ge-most_items-clause-kept : goal.returns-then-len-ge-most_items-clause-kept
+returns-then-len-ge-most_items-clause-kept g c =
     KeepsMemory-same {T = Spent} (Err c.fault_when_full.result) (g.X.Indexes.memory c.args.self.now.indexes)
 
 pub returns-then-not-branch-clause-kept : goal.returns-then-not-branch-clause-kept

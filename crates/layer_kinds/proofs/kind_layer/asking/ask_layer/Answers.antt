@@ -22,7 +22,7 @@ returns-in_err-given-clause-touches g c =
     let refused : IsAskRefusal c.index.result.now g.Q.Question.refusable c.from_residual.result = search rules in
     subst (λ k. IsTouching (bounds_at (length k.entries)).parts (most_of (g.Q.MapQuestion.touches (greatest_level (length k.entries))) (length k.entries)) c.from_residual.result c.args.steps.now c.ask.new.steps) c.layer.view_is
     (touching g.R.Item.Item.stamp (g.Q.MapQuestion.hits q) (g.R.AnsweringRows.ask_touches q) g.Q.MapQuestion.touches (g.met.Q.MapQuestion.part_touches q) g.Q.MapQuestion.few
-    es l.directory.adds c.layer.invariant.2 c.index.result.now g.Q.Question.refusable c.from_residual.result refused here c.ask.ensures.few c.ask.ensures.cost c.ask.ensures.nothing)
+    es l.directory.adds (omega (arith, c.layer.invariant.2, c.layer.invariant.3)) c.index.result.now g.Q.Question.refusable c.from_residual.result refused here c.ask.ensures.few c.ask.ensures.cost c.ask.ensures.nothing)
 
 pub returns-clause-touches : goal.returns-clause-touches
 returns-clause-touches g c =
@@ -34,7 +34,7 @@ returns-clause-touches g c =
     subst (λ o. IsOf (λ part. part) g.R.Item.Item.stamp o es l.directory.adds) (sym c.index.ensures) of in
     subst (λ k. ReadsAtMost (bounds_at (length k.entries)).parts (most_of (g.Q.MapQuestion.touches (greatest_level (length k.entries))) (length k.entries)) c.args.steps.now c.ask.new.steps) c.layer.view_is
     (few_touches g.R.Item.Item.stamp (g.Q.MapQuestion.hits q) (g.R.AnsweringRows.ask_touches q) g.Q.MapQuestion.touches (g.met.Q.MapQuestion.part_touches q) g.Q.MapQuestion.few
-    es l.directory.adds c.layer.invariant.2 c.index.result.now here c.ask.ensures.few c.ask.ensures.cost c.ask.ensures.nothing)
+    es l.directory.adds (omega (arith, c.layer.invariant.2, c.layer.invariant.3)) c.index.result.now here c.ask.ensures.few c.ask.ensures.cost c.ask.ensures.nothing)
 
 pub returns-clause-answer : goal.returns-clause-answer
 returns-clause-answer g c =
@@ -45,7 +45,7 @@ returns-clause-answer g c =
     let of = g.met.X.Has.is_of l.indexes es l.directory.adds c.layer.invariant.1 in
     let here : IsOf (λ part. part) g.R.Item.Item.stamp c.index.result.now es l.directory.adds =
     subst (λ o. IsOf (λ part. part) g.R.Item.Item.stamp o es l.directory.adds) (sym c.index.ensures) of in
-    let few : length points ≤ 2 ^ 16 = omega (arith, length-map es (λ e. e.item), c.layer.invariant.2) in
+    let few : length points ≤ 2 ^ 16 = omega (arith, length-map es (λ e. e.item), c.layer.invariant.2, c.layer.invariant.3) in
     ap g.Q.OneQuestion.tells (c.in_ok-given.ensures.answer es l.directory.adds here).0 ∙ g.met.Q.MapQuestion.scans q points few
     ∙ ap (λ items. answer_over items (g.Q.OneQuestion.asks q)) (items_of-map g.R.Item.Shaped.item_of es)
     ∙ ap (λ k. answer_over (items_of g.R.Item.Shaped.item_of k.entries) (g.Q.OneQuestion.asks q)) c.layer.view_is
@@ -86,7 +86,7 @@ returns-clause-cost g c =
     subst (λ k. IsAsking (length k.entries) (g.Q.MapQuestion.most_touches (greatest_level (length k.entries)) asked.parts (length k.entries) c.in_ok-given.given.answer)
     asked c.args.steps.now c.ask.new.steps) c.layer.view_is
     (asked_told g.R.Item.Item.stamp (g.Q.MapQuestion.hits q) (g.R.AnsweringRows.ask_touches q) g.Q.MapQuestion.touches (g.met.Q.MapQuestion.part_touches q) g.Q.MapQuestion.few
-    es l.directory.adds c.layer.invariant.2 c.index.result.now asked (g.Q.MapQuestion.most_touches level asked.parts n c.in_ok-given.given.answer) here c.in_ok-given.ensures.refused
+    es l.directory.adds (omega (arith, c.layer.invariant.2, c.layer.invariant.3)) c.index.result.now asked (g.Q.MapQuestion.most_touches level asked.parts n c.in_ok-given.given.answer) here c.in_ok-given.ensures.refused
     c.in_ok-given.ensures.few c.in_ok-given.ensures.cost
     (subst (λ k. IfSome c.index.result.now (λ i. k ≡ parts_of i.main.levels)) (sym c.told-asked.ensures.parts) c.in_ok-given.ensures.parts)
     (subst (λ k. c.ask.new.steps.consulted ≡ c.args.steps.now.consulted + k) (sym c.told-asked.ensures.parts) c.in_ok-given.ensures.consulted)
