@@ -1,6 +1,8 @@
-//! Tests of what the program is made of, but for its indexes: counted steps, lists, lines, replies, and streams of std.
+//! Tests of what the program is made of, but for its indexes: counted steps, coordinates, lists, lines, replies, and streams of std.
 #![tactic(auto)]
 
+#[cfg(test)]
+mod coordinates;
 #[cfg(test)]
 mod lines;
 #[cfg(test)]

@@ -60,6 +60,16 @@ impl Indexes for PointIndexes {
         self.indexes.delete(chain, handle, steps);
     }
 
+    fn relocate<L: Ledger>(
+        &mut self,
+        chain: &Chain<Point>,
+        handle: Handle,
+        item: Point,
+        steps: &mut Steps<L>,
+    ) {
+        self.indexes.relocate(chain, handle, item, steps);
+    }
+
     ghost low = { λ s. points-low s.indexes.0 s.indexes.1.0 s.indexes.1.1 };
 }
 

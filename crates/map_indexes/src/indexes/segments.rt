@@ -53,6 +53,16 @@ impl Indexes for SegmentIndexes {
         self.index.delete(chain, handle, steps);
     }
 
+    fn relocate<L: Ledger>(
+        &mut self,
+        chain: &Chain<Segment>,
+        handle: Handle,
+        item: Segment,
+        steps: &mut Steps<L>,
+    ) {
+        self.index.relocate(chain, handle, item, steps);
+    }
+
     ghost low = { λ s. segments-low s.index };
 }
 
