@@ -1,5 +1,5 @@
 -- The items of a layer, as the definitions have them, beside its directory.
-use Rattle.std.proofs.Common.{◌≡◌, ℕ, ◌≤◌, Bool, true, false, if◌then◌else◌, List, [], ◌∷◌, ◌++◌, Option, Some, None, Ok, Err, length, map, take, refl, sym, ap, ◌∙◌, subst, arith}
+use Rattle.std.proofs.Common.{◌≡◌, ℕ, ◌+◌, ◌≤◌, Bool, true, false, if◌then◌else◌, List, [], ◌∷◌, ◌++◌, Option, Some, None, Ok, Err, length, map, take, refl, sym, ap, ◌∙◌, subst, arith}
 use Rattle.std.specs.Prelude.{reverse}
 use Rattle.std.specs.Option.{is_some, is_none}
 use Rattle.std.proofs.lemmas.Bool.Decides.{nat_tests}
@@ -42,6 +42,11 @@ module _ {I : Type 0} (id_of : I → ℕ) where
   pub fewer : (id : ℕ) (es : List (Entry I)) → length (without id_of id es) ≤ length es
   fewer id [] = omega arith
   fewer id (e ∷ es) = grind (arith, nat_tests, common_steps, fewer id es)
+
+  -- where an identifier is found, one entry has it
+  pub one_fewer : (id handle : ℕ) (es : List (Entry I)) → handle_of id_of id es ≡ Some handle → length (without id_of id es) + 1 ≡ length es
+  one_fewer id handle [] found = absurd cc
+  one_fewer id handle (e ∷ es) found = grind (arith, nat_tests, common_steps, one_fewer id handle es)
 
 module _ {I : Type 0} (id_of : I → ℕ) (item_of : I → Item) (same : (x : I) → (item_of x).id ≡ id_of x) where
   -- the shape of an identifier is that of the item under the handle that is found

@@ -134,7 +134,8 @@ impl<X: Indexes> KindLayer<X> {
     {
         let bounds = self.bounds();
         let id = item.id();
-        if self.directory.chain().len() >= self.most_items {
+        let is_full = self.directory.chain().len() >= self.most_items;
+        if is_full {
             return Err(self.fault_when_full(id));
         }
         if !self.directory.prepare_add(id)? {
@@ -183,9 +184,9 @@ impl<X: Indexes> KindLayer<X> {
 
     /// Puts an item in the place of the one with its identifier, at the end and with a stamp of its own, and says what it cost.
     ///
-    /// `Unknown` where the identifier isn't live, before anything is counted. `NoMemory` where memory isn't given to one of the indexes, before
-    /// any of them has changed: the item that was there stays, in its place. A move is never too many, and takes no place in the chain. In each
-    /// index it is one update and takes seven ticks at most, where an add or a drop takes six.
+    /// `Unknown` where the identifier isn't live, before anything is counted; `NoMemory` where memory isn't given to one of the indexes: the item
+    /// that was there stays then, and in its place. No layer is too full for it. In each index it is a drop and an add under one preparation:
+    /// seven ticks at most, where either has six.
     pub fn relocate<L: Ledger>(
         &mut self,
         item: X::Item,

@@ -72,10 +72,22 @@ impl<X: Indexes> Indexes for Unfed<X> {
         ask_for(self.alloc, GIVE);
     }
 
+    fn relocate<L: Ledger>(
+        &mut self,
+        chain: &Chain<X::Item>,
+        handle: Handle,
+        item: X::Item,
+        steps: &mut Steps<L>,
+    ) {
+        ask_for(self.alloc, REFUSE);
+        self.indexes.relocate(chain, handle, item, steps);
+        ask_for(self.alloc, GIVE);
+    }
+
     ghost low = { λ s. X.low s.indexes };
 }
 
-/// Adds a point of a weight, or drops one where the weight is 0.
+/// Adds a point of a weight, or moves it where it is live; or drops one where the weight is 0.
 fn change<X: Indexes<Item = Point>, L: Ledger>(
     layer: &mut KindLayer<X>,
     id: u64,
@@ -99,10 +111,13 @@ fn change<X: Indexes<Item = Point>, L: Ledger>(
         w: u32::from(w),
         stamp: 0,
     };
+    if layer.get(id).is_some() {
+        return layer.relocate(point, &mut steps);
+    }
     layer.add(point, &mut steps)
 }
 
-/// Adds so many points, and drops the oldest where more than some are kept. Gives how many there are then.
+/// Adds so many points, and where more than some are kept moves the newest and drops the oldest. Gives how many there are then.
 fn updated<X: Indexes<Item = Point>>(
     layer: KindLayer<X>,
     adds: u32,
@@ -115,13 +130,14 @@ fn updated<X: Indexes<Item = Point>>(
     for id in 0..u64::from(adds) {
         change::<X, Brand>(&mut layer, id, 1, blank())?;
         if id >= kept {
+            change::<X, Brand>(&mut layer, id, 2, blank())?;
             change::<X, Brand>(&mut layer, id - kept, 0, blank())?;
         }
     }
     Ok(layer.len())
 }
 
-/// Adds and drops with many rebuilds, where no commit gets memory. And a fill whose last 120 preparations get none either: they make do with
+/// Adds, moves and drops with many rebuilds, where no commit gets memory. And a fill whose last 120 preparations get none either: they make do with
 /// what constructions left that came round, since no room of a larger level is due meanwhile.
 #[test]
 fn what_is_prepared_is_enough(rt: HostRuntime) {
@@ -133,7 +149,7 @@ fn what_is_prepared_is_enough(rt: HostRuntime) {
             indexes: LayerIndex::<FlatBuilder<Point>>::new(alloc, true),
             fed,
         };
-        let layer = KindLayer::new(alloc, name, indexes);
+        let layer = KindLayer::new(alloc, name, 560, indexes);
         assert_eq!(rt; updated(layer, adds, kept).ok(), Some(kept as usize));
     }
 }

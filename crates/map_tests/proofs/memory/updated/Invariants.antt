@@ -5,4 +5,4 @@ abbrev pub ghosts-change : goal.ghosts-change
 ghosts-change g a = record { name = a.blank.name; parts = a.blank.parts }
 
 abbrev pub invariant-loop-id : goal.invariant-loop-id
-invariant-loop-id g l = l.layer.adds ≤ 2 * l.id
+invariant-loop-id g l = l.layer.adds ≤ 3 * l.id

@@ -15,11 +15,11 @@ use Rattle.layer_kinds.proofs.WithinBounds.{IsTold-of, greatest-light, refused-c
 use Rattle.layer_kinds.proofs.Items.{live_found, as_many_items, duplicate_refused, full_refused}
 use Rattle.layer_kinds.proofs.kind_layer.KindLayer.add.Goals as goal
 
-pub returns-then-len-ge-most_items-clause-added : goal.returns-then-len-ge-most_items-clause-added
-returns-then-len-ge-most_items-clause-added g c =
+pub returns-then-is_full-clause-added : goal.returns-then-is_full-clause-added
+returns-then-is_full-clause-added g c =
     let long : c.len.result ≡ length c.args.self.now.entries = search rules in
     full_refused g.X.Item.Named.id g.X.Item.Shaped.item_of g.met.X.Item.Shaped.same_id c.args.item c.args.self.now.entries c.id-id.result c.id-id.ensures
-    c.args.self.now.most_items (omega (arith, c.if-len-ge-most_items.true, long, ap (λ k. k.most_items) c.self.view_is)) c.fault_when_full.result c.fault_when_full.ensures
+    c.args.self.now.most_items (omega (arith, c.if-is_full.true, long, ap (λ k. k.most_items) c.self.view_is)) c.fault_when_full.result c.fault_when_full.ensures
 
 pub returns-then-not-branch-clause-added : goal.returns-then-not-branch-clause-added
 returns-then-not-branch-clause-added g c =
@@ -40,7 +40,7 @@ returns-in_err-prepare_add-clause-added g c =
     let same : c.prepare_add.new.self.entries ≡ es = search rules in
     subst (IsAdd c.args.self.now.most_items (items_of item_of es) (item_of c.args.item) (items_of item_of c.prepare_add.new.self.entries)) (sym refused) (
       ap (λ k. is_live k (items_of item_of es)) (laws c.args.item) ∙ live_found id item_of laws (id c.args.item) es ∙ none,
-      omega (arith, c.if-len-ge-most_items.false, long, as_many_items item_of es, ap (λ k. k.most_items) c.self.view_is),
+      omega (arith, c.if-is_full.false, long, as_many_items item_of es, ap (λ k. k.most_items) c.self.view_is),
       ap (items_of item_of) same,
     )
 
@@ -54,7 +54,7 @@ returns-then-is_err-clause-added g c =
     let long : c.len.result ≡ length es = search rules in
     let same : c.cancel_add.new.self.entries ≡ es = search rules in (
       ap (λ k. is_live k (items_of item_of es)) (laws c.args.item) ∙ live_found id item_of laws (id c.args.item) es ∙ none,
-      omega (arith, c.if-len-ge-most_items.false, long, as_many_items item_of es, ap (λ k. k.most_items) c.self.view_is),
+      omega (arith, c.if-is_full.false, long, as_many_items item_of es, ap (λ k. k.most_items) c.self.view_is),
       ap (items_of item_of) same,
     )
 
@@ -86,7 +86,7 @@ returns-clause-added g c =
     let none : is_some (handle_of id (id c.args.item) es) ≡ false = search rules in
     let long : c.len.result ≡ length es = search rules in (
       ap (λ k. is_live k (items_of item_of es)) (laws c.args.item) ∙ live_found id item_of laws (id c.args.item) es ∙ none,
-      omega (arith, c.if-len-ge-most_items.false, long, as_many_items item_of es, ap (λ k. k.most_items) c.self.view_is),
+      omega (arith, c.if-is_full.false, long, as_many_items item_of es, ap (λ k. k.most_items) c.self.view_is),
       items,
     )
 
@@ -130,8 +130,8 @@ returns-clause-told g c =
     IsTold-of Adds (count_of rates) (length c.args.self.now.entries) c.bounds-bounds.result.turns c.bounds-bounds.result.marks cost c.requires.lap
     c.bounds-bounds.ensures.turns c.bounds-bounds.ensures.marks c.bounds-bounds.ensures.few_turns c.bounds-bounds.ensures.few_marks (λ adds. some_turns) c.spent.ensures
 
-pub returns-then-len-ge-most_items-clause-kept : goal.returns-then-len-ge-most_items-clause-kept
-returns-then-len-ge-most_items-clause-kept g c =
+pub returns-then-is_full-clause-kept : goal.returns-then-is_full-clause-kept
+returns-then-is_full-clause-kept g c =
     KeepsMemory-same {T = Spent} (Err c.fault_when_full.result) (g.X.Indexes.memory c.args.self.now.indexes)
 
 pub returns-then-not-branch-clause-kept : goal.returns-then-not-branch-clause-kept

@@ -1,5 +1,6 @@
 use Rattle.std.proofs.Common.{rules, ◌≡◌, ◌+◌, ◌*◌, ◌^◌, ◌≤◌, ◌<◌, ◌∙◌, true, false, [], ◌∷◌, ◌++◌, Some, None, Err, length, ap, sym, subst, refl, arith}
 use Rattle.std.specs.Option.{is_some}
+use Rattle.std.proofs.lemmas.List.{length-append}
 use Rattle.id_chain.specs.Chain.{HandlesDiffer, without_handle}
 use Rattle.id_directory.specs.Directory.{handle_of, without, IdsDiffer}
 use Rattle.id_directory.proofs.Identifiers.{same_by_handle}
@@ -13,7 +14,7 @@ use Rattle.layer_kinds.specs.Layered.{items_of, IsMove}
 use Rattle.layer_kinds.specs.Memory.{Each, IsReadied, LosesOne, KeepsMemory}
 use Rattle.layer_kinds.proofs.Keeping.{loses_one}
 use Rattle.layer_kinds.proofs.WithinBounds.{IsTold-of, greatest-light, refused_move-cost, moved-cost}
-use Rattle.layer_kinds.proofs.Items.{linked_found, fewer, unknown_refused, move_refused, same_identifier, moved_items}
+use Rattle.layer_kinds.proofs.Items.{linked_found, one_fewer, unknown_refused, move_refused, same_identifier, moved_items}
 use Rattle.layer_kinds.proofs.kind_layer.KindLayer.relocate.Goals as goal
 
 pub returns-in_default-clause-moved : goal.returns-in_default-clause-moved
@@ -68,14 +69,17 @@ invariant_of-self-2 g c =
     let adds : c.renew.new.self.adds ≡ g.X.Item.Item.stamp moved + 1 = search rules in
     let pending : c.renew.new.self.pending ≡ None = search rules in
     let same : c.chain-2.result.now.entries ≡ es = search rules in
-    let found : handle_of id (id moved) es ≡ Some handle = renew-requires-clause-present g c in
+    let by_id : handle_of id c.id-id.result es ≡ Some handle = search rules in
+    let alike : id moved ≡ c.id-id.result =
+    same_identifier id g.X.Item.Shaped.item_of g.met.X.Item.Shaped.same_id c.args.item es c.id-id.result c.id-id.ensures moved c.stamped-moved.ensures.same_item in
+    let found : handle_of id (id moved) es ≡ Some handle = ap (λ k. handle_of id k es) alike ∙ by_id in
     let differ : HandlesDiffer es = search rules in
     let all : c.renew.new.self.entries ≡ without id (id moved) es ++ record { handle = handle; item = moved } ∷ [] = search rules in
     let by_handle : c.renew.new.self.entries ≡ renewed handle moved es =
     all ∙ ap (λ rest. rest ++ record { handle = handle; item = moved } ∷ []) (same_by_handle id (id moved) handle es differ found).rest in (
       pending,
       rw (by_handle, adds, ← same) c.relocate.ensures.of,
-      omega (arith, c.self.invariant.2),
+      omega (arith, c.self.invariant.2, ap length all, length-append (without id (id moved) es) (record { handle = handle; item = moved } ∷ []), one_fewer id (id moved) handle es found),
       c.self.invariant.3,
       omega (arith, c.self.invariant.4, ap length c.relocate.ensures.there, ap length c.prepare.ensures.there),
     )
