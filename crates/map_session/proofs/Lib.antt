@@ -7,3 +7,4 @@ pub mod AllCounted
 pub mod Unended
 pub mod Underway
 pub mod Ledger
+pub mod Kept

@@ -140,7 +140,7 @@ module _ (start now : Moment) (text begun : List ℕ) (so_far : IsUnderway start
       subst (λ (ls : List (List ℕ)). Runs start ls new) (sym (lines_with_last text begun so_far.front some))
       (Runs-push start now new (whole_lines text) (unended text) so_far.answered (record {
         given = a.given;
-        executed = said_alike _ _ begun (unended text) _ _ _ (front_said _ begun (unended text) so_far.front) a.executed;
+        executed = said_alike now.session _ begun (unended text) _ _ _ (front_said (map_in now.session).version begun (unended text) so_far.front) a.executed;
         delivered = a.delivered;
       }))
 
@@ -148,6 +148,6 @@ module _ (start now : Moment) (text begun : List ℕ) (so_far : IsUnderway start
   pub stopped_last : (new : Moment) → 0 < length begun → StopsInLine now begun new → IsStoppedBehind (length (whole_lines text)) start (lines text) new
   stopped_last new some s = (
     stopped start now new (whole_lines text) [] (lines text) (unended text) s.given (lines_with_last text begun so_far.front some) so_far.answered
-        (said_alike _ _ begun (unended text) _ _ _ (front_said _ begun (unended text) so_far.front) s.executed) s.cut_off,
+        (said_alike now.session _ begun (unended text) _ _ _ (front_said (map_in now.session).version begun (unended text) so_far.front) s.executed) s.cut_off,
     omega arith,
   )

@@ -3,6 +3,7 @@ use Rattle.std.proofs.lemmas.Bool.{eqb-false, eqb-true}
 use Rattle.std.proofs.lemmas.Result.{err_from_is_err_and}
 use Rattle.map_model.specs.Grammar.{parse}
 use Rattle.map_session.specs.Answering.{Moment, moment}
+use Rattle.map_session.specs.Session.{map_in}
 use Rattle.map_session.proofs.Underway.{said_alike, ended_whole, ended_last, stopped_last}
 use Rattle.map_session.proofs.answering.answer_begun.Goals as goal
 
@@ -15,7 +16,7 @@ returns-in_err-line-clause-stopped g c =
     let new : Moment = moment c.line.new.self (g.K.Sink.told c.line.new.sink) c.line.new.steps in
     rw p.1 (λ start text so_far. stopped_last start _ text begun so_far new some (record {
       given = fault.0;
-      executed = said_alike _ _ c.as_slice.result.now begun _ _ _ (ap (parse _) c.as_slice.ensures) fault.1;
+      executed = said_alike c.args.session.now _ c.as_slice.result.now begun _ _ _ (ap (parse (map_in c.args.session.now).version) c.as_slice.ensures) fault.1;
       cut_off = fault.2;
     }))
 
@@ -27,7 +28,7 @@ returns-in_ok-line-clause-answered g c = λ start text so_far.
     let new : Moment = moment c.line.new.self (g.K.Sink.told c.line.new.sink) c.line.new.steps in
     ended_last start _ text begun so_far new some (record {
       given = done.0;
-      executed = said_alike _ _ c.as_slice.result.now begun _ _ _ (ap (parse _) c.as_slice.ensures) done.1;
+      executed = said_alike c.args.session.now _ c.as_slice.result.now begun _ _ _ (ap (parse (map_in c.args.session.now).version) c.as_slice.ensures) done.1;
       delivered = done.3;
     })
 

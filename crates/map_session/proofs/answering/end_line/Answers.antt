@@ -4,6 +4,7 @@ use Rattle.std.proofs.lemmas.List.{nil_from_length}
 use Rattle.std.proofs.lemmas.Result.{err_from_is_err_and}
 use Rattle.map_model.specs.Grammar.{parse}
 use Rattle.map_session.specs.Answering.{moment, AnswersLine, StopsInLine}
+use Rattle.map_session.specs.Session.{map_in}
 use Rattle.map_session.proofs.Underway.{empty_front, said_alike, ended_said}
 use Rattle.map_session.proofs.answering.end_line.Goals as goal
 
@@ -11,18 +12,20 @@ pub returns-in_err-line-2-clause-stopped : goal.returns-in_err-line-2-clause-sto
 returns-in_err-line-2-clause-stopped g c =
     let p = err_from_is_err_and c.from_residual-in_err-line-2.result c.from_residual-in_err-line-2.ensures.1 in
     let fault = c.in_err-line-2.ensures.fault in
+    let version = (map_in c.args.session.now).version in
     rw p.1 (λ line is. record {
       given = fault.0;
-      executed = said_alike _ _ c.as_slice.result.now (line ++ c.args.end.now) _ _ _ (ap (parse _) (c.as_slice.ensures ∙ c.push.ensures) ∙ ended_said _ c.args.begun.now line c.args.end.now is) fault.1;
+      executed = said_alike c.args.session.now _ c.as_slice.result.now (line ++ c.args.end.now) _ _ _ (ap (parse version) (c.as_slice.ensures ∙ c.push.ensures) ∙ ended_said version c.args.begun.now line c.args.end.now is) fault.1;
       cut_off = fault.2;
     })
 
 pub returns-clause-answered : goal.returns-clause-answered
 returns-clause-answered g c = λ line is.
     let done = c.in_ok-line-2.ensures.done in
+    let version = (map_in c.args.session.now).version in
     record {
       given = done.0;
-      executed = said_alike _ _ c.as_slice.result.now (line ++ c.args.end.now) _ _ _ (ap (parse _) (c.as_slice.ensures ∙ c.push.ensures) ∙ ended_said _ c.args.begun.now line c.args.end.now is) done.1;
+      executed = said_alike c.args.session.now _ c.as_slice.result.now (line ++ c.args.end.now) _ _ _ (ap (parse version) (c.as_slice.ensures ∙ c.push.ensures) ∙ ended_said version c.args.begun.now line c.args.end.now is) done.1;
       delivered = done.3;
     }
 
