@@ -39,7 +39,7 @@ enum {
     LIVEMAP_BAD_FIELDS,      /* fields */
     LIVEMAP_BAD_NAME,        /* name: of other than 1 to 16 ASCII letters, digits, `_` and `-` */
     LIVEMAP_BAD_NUMBER,      /* number */
-    LIVEMAP_BAD_RANGE,       /* range: a number past 2^31 - 1, or more than 64 asked for */
+    LIVEMAP_BAD_RANGE,       /* range: a number past its limits, which are 2^31 - 1 and in version 2 -2^31, or more than 64 asked for */
     LIVEMAP_BAD_ORDER,       /* order: a lower end past its upper end */
     LIVEMAP_NO_LAYER,        /* layer: none of this name */
     LIVEMAP_WRONG_KIND,      /* kind: points for segments, or segments for points */
@@ -49,7 +49,8 @@ enum {
     LIVEMAP_DUPLICATE,       /* duplicate: the identifier is live */
     LIVEMAP_UNKNOWN,         /* unknown: the identifier isn't live */
     LIVEMAP_FULL,            /* full: the layer has 65,536 items */
-    LIVEMAP_NO_MEMORY        /* memory: the map is as it was */
+    LIVEMAP_NO_MEMORY,       /* memory: the map is as it was */
+    LIVEMAP_HAS_LAYERS       /* version: there is a layer already */
 };
 
 /* The bytes of a map. */
@@ -76,7 +77,7 @@ size_t livemap_text(livemap *at, uint8_t *out, size_t room);
 /* The indexes of a layer of points. */
 enum { LIVEMAP_RANGE = 1, LIVEMAP_NEAR = 2, LIVEMAP_TOP = 4 };
 
-/* A point that was found, and its squared distance. */
+/* A point that was found, and its squared distance: 2^64 - 1 where it is more, as it may be in version 2. */
 typedef struct { uint64_t id, distance; } livemap_found;
 
 /* A new map without layers, or NULL where there is no memory. livemap_free frees it. */
@@ -96,7 +97,7 @@ static inline void livemap_free(livemap *at) {
 /* Why the last line was refused. */
 static inline int livemap_why(livemap *at) {
     static const char *const words[] = {"line", "command", "fields", "name", "number", "range", "order", "layer",
-                                        "kind", "index", "taken", "room", "duplicate", "unknown", "full", "memory"};
+                                        "kind", "index", "taken", "room", "duplicate", "unknown", "full", "memory", "version"};
     uint8_t text[16] = {0};
     livemap_text(at, text, sizeof text);
     for (size_t i = 0; i < sizeof words / sizeof *words; i++) {
@@ -123,7 +124,7 @@ static inline int livemap_say(livemap *at, const char *form, ...) {
     return status == LIVEMAP_REFUSED ? livemap_why(at) : (int)status;
 }
 
-/* The numbers of the last answer: those that fit, and how many there are. */
+/* The numbers of the last answer: those that fit, and how many there are. One below 0 is 2^64 more, and one past 2^64 - 1 is that. */
 static inline int livemap_numbers(livemap *at, uint64_t *out, size_t room, size_t *count) {
     uint8_t few[512] = {0}, *text = few;
     size_t size = livemap_text(at, few, sizeof few), found = 0;
@@ -133,10 +134,13 @@ static inline int livemap_numbers(livemap *at, uint64_t *out, size_t room, size_
         livemap_text(at, text, size);
     }
     uint64_t number = 0;
+    int is_negative = 0;
     for (size_t i = 1; i < size; i++) {
         int was_digit = text[i - 1] >= '0' && text[i - 1] <= '9', is_digit = text[i] >= '0' && text[i] <= '9';
-        if (is_digit) number = (was_digit ? number * 10 : 0) + (uint64_t)(text[i] - '0');
-        if (was_digit && !is_digit && found++ < room) out[found - 1] = number;
+        uint64_t digit = (uint64_t)(text[i] - '0');
+        if (is_digit && !was_digit) number = digit, is_negative = text[i - 1] == '-';
+        else if (is_digit) number = number > (UINT64_MAX - digit) / 10 ? UINT64_MAX : number * 10 + digit;
+        if (was_digit && !is_digit && found++ < room) out[found - 1] = is_negative ? 0 - number : number;
     }
     if (text != few) free(text);
     *count = found;
@@ -161,6 +165,11 @@ static inline int livemap_pair(livemap *at, int status, uint64_t pair[2]) {
     return !status && count < 2 ? LIVEMAP_NONE : status;
 }
 
+/* Chooses version 1 or 2 of what is said to a map without layers. In version 2 coordinates may be negative. */
+static inline int livemap_choose_version(livemap *at, int version) {
+    return livemap_say(at, "livemap %d", version);
+}
+
 /* Makes a layer of points with these indexes, as LIVEMAP_RANGE | LIVEMAP_NEAR. */
 static inline int livemap_points(livemap *at, const char *layer, unsigned indexes) {
     return livemap_say(at, "layer %s points%s%s%s", layer, indexes & LIVEMAP_RANGE ? " range" : "", indexes & LIVEMAP_NEAR ? " near" : "",
@@ -173,13 +182,18 @@ static inline int livemap_segments(livemap *at, const char *layer) {
 }
 
 /* Adds a point of a weight. */
-static inline int livemap_add_point(livemap *at, const char *layer, uint64_t id, uint32_t x, uint32_t y, uint32_t weight) {
-    return livemap_say(at, "add %s %llu %lu %lu %lu", layer, (unsigned long long)id, (unsigned long)x, (unsigned long)y, (unsigned long)weight);
+static inline int livemap_add_point(livemap *at, const char *layer, uint64_t id, int64_t x, int64_t y, uint32_t weight) {
+    return livemap_say(at, "add %s %llu %lld %lld %lu", layer, (unsigned long long)id, (long long)x, (long long)y, (unsigned long)weight);
+}
+
+/* Gives a point another place and weight, in one update. It is then the last one. */
+static inline int livemap_move_point(livemap *at, const char *layer, uint64_t id, int64_t x, int64_t y, uint32_t weight) {
+    return livemap_say(at, "move %s %llu %lld %lld %lu", layer, (unsigned long long)id, (long long)x, (long long)y, (unsigned long)weight);
 }
 
 /* Adds the segment from (lo, y) to (hi, y). */
-static inline int livemap_add_segment(livemap *at, const char *layer, uint64_t id, uint32_t lo, uint32_t hi, uint32_t y) {
-    return livemap_say(at, "seg %s %llu %lu %lu %lu", layer, (unsigned long long)id, (unsigned long)lo, (unsigned long)hi, (unsigned long)y);
+static inline int livemap_add_segment(livemap *at, const char *layer, uint64_t id, int64_t lo, int64_t hi, int64_t y) {
+    return livemap_say(at, "seg %s %llu %lld %lld %lld", layer, (unsigned long long)id, (long long)lo, (long long)hi, (long long)y);
 }
 
 /* Takes an item out. */
@@ -188,39 +202,39 @@ static inline int livemap_remove(livemap *at, const char *layer, uint64_t id) {
 }
 
 /* A question about the points of a rectangle, its border too. */
-static inline int livemap_in_rectangle(livemap *at, const char *word, const char *layer, uint32_t x1, uint32_t y1, uint32_t x2, uint32_t y2) {
-    return livemap_say(at, "%s %s %lu %lu %lu %lu", word, layer, (unsigned long)x1, (unsigned long)y1, (unsigned long)x2, (unsigned long)y2);
+static inline int livemap_in_rectangle(livemap *at, const char *word, const char *layer, int64_t x1, int64_t y1, int64_t x2, int64_t y2) {
+    return livemap_say(at, "%s %s %lld %lld %lld %lld", word, layer, (long long)x1, (long long)y1, (long long)x2, (long long)y2);
 }
 
 /* How many points are in a rectangle. */
-static inline int livemap_count(livemap *at, const char *layer, uint32_t x1, uint32_t y1, uint32_t x2, uint32_t y2, uint64_t *count) {
+static inline int livemap_count(livemap *at, const char *layer, int64_t x1, int64_t y1, int64_t x2, int64_t y2, uint64_t *count) {
     return livemap_number(at, livemap_in_rectangle(at, "count", layer, x1, y1, x2, y2), count);
 }
 
 /* What the points in a rectangle weigh together. */
-static inline int livemap_sum(livemap *at, const char *layer, uint32_t x1, uint32_t y1, uint32_t x2, uint32_t y2, uint64_t *sum) {
+static inline int livemap_sum(livemap *at, const char *layer, int64_t x1, int64_t y1, int64_t x2, int64_t y2, uint64_t *sum) {
     return livemap_number(at, livemap_in_rectangle(at, "sum", layer, x1, y1, x2, y2), sum);
 }
 
 /* The points in a rectangle, ascending: those that fit, and how many there are. */
-static inline int livemap_list(livemap *at, const char *layer, uint32_t x1, uint32_t y1, uint32_t x2, uint32_t y2, uint64_t *ids, size_t room,
+static inline int livemap_list(livemap *at, const char *layer, int64_t x1, int64_t y1, int64_t x2, int64_t y2, uint64_t *ids, size_t room,
                                size_t *count) {
     return livemap_listed(at, livemap_in_rectangle(at, "list", layer, x1, y1, x2, y2), ids, room, count);
 }
 
 /* The point nearest to a place, or LIVEMAP_NONE. */
-static inline int livemap_near(livemap *at, const char *layer, uint32_t x, uint32_t y, livemap_found *found) {
+static inline int livemap_near(livemap *at, const char *layer, int64_t x, int64_t y, livemap_found *found) {
     uint64_t pair[2];
-    int status = livemap_pair(at, livemap_say(at, "near %s %lu %lu", layer, (unsigned long)x, (unsigned long)y), pair);
+    int status = livemap_pair(at, livemap_say(at, "near %s %lld %lld", layer, (long long)x, (long long)y), pair);
     if (!status) found->id = pair[0], found->distance = pair[1];
     return status;
 }
 
 /* The k nearest points, the nearest first, k from 1 to 64: `found` has room for k, and `count` says how many there are. */
-static inline int livemap_nearest(livemap *at, const char *layer, uint32_t k, uint32_t x, uint32_t y, livemap_found *found, size_t *count) {
+static inline int livemap_nearest(livemap *at, const char *layer, uint32_t k, int64_t x, int64_t y, livemap_found *found, size_t *count) {
     uint64_t numbers[128];
     size_t all = 0;
-    int status = livemap_listed(at, livemap_say(at, "nearest %s %lu %lu %lu", layer, (unsigned long)k, (unsigned long)x, (unsigned long)y), numbers,
+    int status = livemap_listed(at, livemap_say(at, "nearest %s %lu %lld %lld", layer, (unsigned long)k, (long long)x, (long long)y), numbers,
                                 128, &all);
     if (status) return status;
     *count = all / 2;
@@ -229,35 +243,35 @@ static inline int livemap_nearest(livemap *at, const char *layer, uint32_t k, ui
 }
 
 /* The highest point of a strip and its y, or LIVEMAP_NONE. */
-static inline int livemap_top(livemap *at, const char *layer, uint32_t x1, uint32_t x2, uint64_t *id, uint32_t *y) {
+static inline int livemap_top(livemap *at, const char *layer, int64_t x1, int64_t x2, uint64_t *id, int64_t *y) {
     uint64_t pair[2];
-    int status = livemap_pair(at, livemap_say(at, "top %s %lu %lu", layer, (unsigned long)x1, (unsigned long)x2), pair);
-    if (!status) *id = pair[0], *y = (uint32_t)pair[1];
+    int status = livemap_pair(at, livemap_say(at, "top %s %lld %lld", layer, (long long)x1, (long long)x2), pair);
+    if (!status) *id = pair[0], *y = (int64_t)pair[1];
     return status;
 }
 
 /* The points of a strip that are as high as y, ascending: those that fit, and how many there are. */
-static inline int livemap_above(livemap *at, const char *layer, uint32_t x1, uint32_t x2, uint32_t y, uint64_t *ids, size_t room, size_t *count) {
-    return livemap_listed(at, livemap_say(at, "above %s %lu %lu %lu", layer, (unsigned long)x1, (unsigned long)x2, (unsigned long)y), ids, room,
+static inline int livemap_above(livemap *at, const char *layer, int64_t x1, int64_t x2, int64_t y, uint64_t *ids, size_t room, size_t *count) {
+    return livemap_listed(at, livemap_say(at, "above %s %lld %lld %lld", layer, (long long)x1, (long long)x2, (long long)y), ids, room,
                           count);
 }
 
 /* The segments over x, ascending: those that fit, and how many there are. */
-static inline int livemap_stab(livemap *at, const char *layer, uint32_t x, uint64_t *ids, size_t room, size_t *count) {
-    return livemap_listed(at, livemap_say(at, "stab %s %lu", layer, (unsigned long)x), ids, room, count);
+static inline int livemap_stab(livemap *at, const char *layer, int64_t x, uint64_t *ids, size_t room, size_t *count) {
+    return livemap_listed(at, livemap_say(at, "stab %s %lld", layer, (long long)x), ids, room, count);
 }
 
 /* How many segments are over x. */
-static inline int livemap_stab_count(livemap *at, const char *layer, uint32_t x, uint64_t *count) {
-    return livemap_number(at, livemap_say(at, "stabcount %s %lu", layer, (unsigned long)x), count);
+static inline int livemap_stab_count(livemap *at, const char *layer, int64_t x, uint64_t *count) {
+    return livemap_number(at, livemap_say(at, "stabcount %s %lld", layer, (long long)x), count);
 }
 
 /* The numbers of an item: x, y and weight of a point, lo, hi and y of a segment. */
-static inline int livemap_get(livemap *at, const char *layer, uint64_t id, uint32_t numbers[3]) {
+static inline int livemap_get(livemap *at, const char *layer, uint64_t id, int64_t numbers[3]) {
     uint64_t found[3] = {0, 0, 0};
     size_t count = 0;
     int status = livemap_listed(at, livemap_say(at, "get %s %llu", layer, (unsigned long long)id), found, 3, &count);
-    for (size_t i = 0; !status && i < 3; i++) numbers[i] = (uint32_t)found[i];
+    for (size_t i = 0; !status && i < 3; i++) numbers[i] = (int64_t)found[i];
     return status;
 }
 

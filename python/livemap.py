@@ -12,7 +12,8 @@ about those that are live:
         cars.count(0, 0, 400, 70)    # 0
         cars.add(7, 1, 1)            # raises livemap.Duplicate: no duplicate 7
 
-Identifiers are up to 2**64 - 1, coordinates and weights up to 2**31 - 1. A refused call raises a `Refused` and leaves the map as it is.
+Identifiers are up to 2**64 - 1, coordinates and weights up to 2**31 - 1, coordinates of a `livemap.Map(2)` from -2**31. A refused call
+raises a `Refused` and leaves the map as it is.
 `Map.line` and `Map.answer` take the lines of the program's language, one or many at once; many at once cost less.
 
 The shared library is found by the variable LIVEMAP_LIBRARY, beside this file, where `tools/library` puts it, or by the system. A map may
@@ -30,7 +31,7 @@ from typing import Iterable, List, NamedTuple, Optional, Type, Union
 
 __all__ = [
     "Map", "Points", "Segments", "Found", "Peak", "Point", "Segment", "Refused", "BadLine", "NoLayer", "WrongKind", "NoIndex", "Taken",
-    "NoRoom", "Duplicate", "UnknownId", "Full", "NoMemory", "WornOut",
+    "NoRoom", "Duplicate", "UnknownId", "Full", "HasLayers", "NoMemory", "WornOut",
 ]
 
 
@@ -92,6 +93,10 @@ class NoRoom(Refused):
     """There are eight layers."""
 
 
+class HasLayers(Refused):
+    """There is a layer already, so the version stays."""
+
+
 class Duplicate(Refused):
     """The layer has an item of this identifier."""
 
@@ -114,7 +119,7 @@ class WornOut(Exception):
 
 _REFUSALS: dict[str, Type[Refused]] = {
     "layer": NoLayer, "kind": WrongKind, "index": NoIndex, "taken": Taken, "room": NoRoom, "duplicate": Duplicate, "unknown": UnknownId,
-    "full": Full, "memory": NoMemory,
+    "full": Full, "version": HasLayers, "memory": NoMemory,
 }
 
 # The statuses of include/livemap.h.
@@ -146,9 +151,9 @@ def _bytes(text: Union[str, bytes]) -> bytes:
 
 
 class Map:
-    """A map without layers. Close it, or use it in a `with`, to free its memory at once."""
+    """A map without layers, of version 1 or 2. Close it, or use it in a `with`, to free its memory at once."""
 
-    def __init__(self) -> None:
+    def __init__(self, version: int = 1) -> None:
         self._at = 0
         self._lock = threading.Lock()
         self._block = ctypes.create_string_buffer(_library.livemap_size() + 15)
@@ -156,6 +161,8 @@ class Map:
         at = (ctypes.addressof(self._block) + 15) & ~15
         _library.livemap_init(at)
         self._at = at
+        if version != 1:
+            self._ask(f"livemap {version}")
 
     def points(self, name: str, *indexes: str) -> Points:
         """Makes a layer of points with one or more of the indexes `range`, `near` and `top`."""
@@ -259,6 +266,10 @@ class Points(Layer):
     def add(self, id: int, x: int, y: int, w: int = 0) -> None:
         """Adds a point of weight `w`."""
         self.map._ask(f"add {self.name} {id} {x} {y} {w}")
+
+    def move(self, id: int, x: int, y: int, w: int = 0) -> None:
+        """Gives a point another place and weight, in one update. It is then the last one."""
+        self.map._ask(f"move {self.name} {id} {x} {y} {w}")
 
     def get(self, id: int) -> Point:
         """Where a point is."""

@@ -1,16 +1,18 @@
 /* Livemap behind Redis 7.0: a key is a map. Each command says one line of the language, and has the answer as Redis' own replies:
  *
- *     LM.LAYER key NAME points|segments INDEX..     LM.ADD key NAME ID X Y W     LM.SEG key NAME ID LO HI Y     LM.DROP key NAME ID
+ *     LM.LIVEMAP key V     LM.LAYER key NAME points|segments INDEX..     LM.ADD key NAME ID X Y W     LM.SEG key NAME ID LO HI Y
+ *     LM.MOVE key NAME ID X Y W     LM.DROP key NAME ID
  *     LM.COUNT, LM.SUM, LM.LIST key NAME X1 Y1 X2 Y2     LM.NEAR key NAME X Y     LM.NEAREST key NAME K X Y
  *     LM.TOP key NAME X1 X2     LM.ABOVE key NAME X1 X2 Y     LM.STAB, LM.STABCOUNT key NAME X
  *     LM.GET key NAME ID     LM.SIZE key NAME     LM.RECENT key NAME K     LM.LINE key LINE
  *
  * `ok` is OK, a refusal an error with its words, a number an integer, a list an array, and what `near` and `top` don't find is null.
- * Identifiers past 2^63 - 1 are strings. LM.LINE answers with the text as it is.
+ * Identifiers and distances past 2^63 - 1 are strings. LM.LINE answers with the text as it is.
  *
  * An update is replicated, and goes into the append-only file, once it is accepted; no refused one does, since a replay may have the
- * memory that it lacked. The lines that made the layers and added what is live are kept beside the map, in order: these are what a dump
- * and a rewritten append-only file have. That they make a map with the same answers is what the map's contract says; costs may differ.
+ * memory that it lacked. The lines that chose the version, made the layers and added what is live, a moved point where it is now, are kept
+ * beside the map, in order: these are what a dump and a rewritten append-only file have. That they make a map with the same answers is what
+ * the map's contract says; costs may differ.
  *
  * The few calls of the module API that are used are declared here, since Debian has no header of it. */
 #include <stdint.h>
@@ -123,7 +125,7 @@ typedef struct {
     size_t bytes; /* of the map */
     size_t kept;  /* of the lines */
     uint64_t next;
-    Dict *lines;  /* by their numbers, in order: those that made the layers and added what is live */
+    Dict *lines;  /* by their numbers, in order: those that chose the version, made the layers and added what is live */
     Dict *adds;   /* the number of the line that added an item, by layer and identifier */
 } Value;
 
@@ -151,7 +153,11 @@ static int is_word(const Words *words, int k, const char *word) {
 }
 
 static int is_update(const Words *words) {
-    return is_word(words, 0, "layer") || is_word(words, 0, "add") || is_word(words, 0, "seg") || is_word(words, 0, "drop");
+    static const char *const updates[] = {"livemap", "layer", "add", "seg", "move", "drop"};
+    for (size_t i = 0; i < sizeof updates / sizeof *updates; i++) {
+        if (is_word(words, 0, updates[i])) return 1;
+    }
+    return 0;
 }
 
 /* A number as a key of a dict, so that these are in its order. */
@@ -210,22 +216,24 @@ static Value *new_value(void) {
     return NULL;
 }
 
-/* Keeps an accepted line that makes a layer or adds an item. */
+/* Keeps an accepted line that chooses the version, makes a layer or adds an item, and of a move the line that would add the point. */
 static void keep(Value *value, const Words *words, const char *text, size_t size) {
-    Line *line = RM_Alloc(sizeof *line + size);
-    line->size = size;
-    memcpy(line->text, text, size);
+    size_t from = is_word(words, 0, "move") ? (size_t)(words->at[0] - text) + 4 : 0, front = from ? 3 : 0;
+    Line *line = RM_Alloc(sizeof *line + front + size - from);
+    line->size = front + size - from;
+    memcpy(line->text, "add", front);
+    memcpy(line->text + front, text + from, size - from);
     value->kept += RM_MallocSize(line);
     Number number = number_key(value->next);
     RM_DictSetC(value->lines, number.bytes, 8, line);
-    if (!is_word(words, 0, "layer")) {
+    if (!is_word(words, 0, "livemap") && !is_word(words, 0, "layer")) {
         Item item = item_key(words);
         RM_DictSetC(value->adds, item.bytes, item.size, (void *)(uintptr_t)value->next);
     }
     value->next++;
 }
 
-/* Forgets the line that added an item, since it was dropped. */
+/* Forgets the line that added an item, since it was moved or dropped. */
 static void forget(Value *value, const Words *words) {
     Item item = item_key(words);
     void *at = NULL, *line = NULL;
@@ -242,8 +250,8 @@ static uint32_t execute(Value *value, const char *text, size_t size) {
     uint32_t status = livemap_line(value->map, (const uint8_t *)text, size);
     if (status != LIVEMAP_OK) return status;
     Words words = words_of(text, size);
-    if (is_word(&words, 0, "drop")) forget(value, &words);
-    else if (is_update(&words)) keep(value, &words, text, size);
+    if (is_word(&words, 0, "drop") || is_word(&words, 0, "move")) forget(value, &words);
+    if (is_update(&words) && !is_word(&words, 0, "drop")) keep(value, &words, text, size);
     return status;
 }
 
@@ -287,11 +295,13 @@ static void rewrite(IO *io, String *key, void *at) {
 static Type *type;
 
 /* A number, as an integer where it is one of Redis'. */
-static void reply_number(Ctx *ctx, const char *digits, size_t size) {
+static void reply_number(Ctx *ctx, const char *text, size_t size) {
+    int is_negative = text[0] == '-';
     uint64_t n = 0;
-    for (size_t i = 0; i < size; i++) n = n * 10 + (uint64_t)(digits[i] - '0');
-    if (n <= INT64_MAX) RM_ReplyWithLongLong(ctx, (long long)n);
-    else RM_ReplyWithStringBuffer(ctx, digits, size);
+    /* A distance of version 2 may have 65 bits, and 20 digits. */
+    for (size_t i = is_negative; i < size && size < 20; i++) n = n * 10 + (uint64_t)(text[i] - '0');
+    if (size < 20 && n <= INT64_MAX) RM_ReplyWithLongLong(ctx, is_negative ? -(long long)n : (long long)n);
+    else RM_ReplyWithStringBuffer(ctx, text, size);
 }
 
 /* The numbers of an answer, each behind a space. */
@@ -390,11 +400,11 @@ static int line_command(Ctx *ctx, String **words, int count) {
 }
 
 #define SAYS(X)                                                                                                                                 \
-    X(layer, READ | WRITE, "write deny-oom fast") X(add, READ | WRITE, "write deny-oom fast") X(seg, READ | WRITE, "write deny-oom fast")       \
-    X(drop, READ | WRITE, "write fast") X(count, READ, "readonly fast") X(sum, READ, "readonly fast") X(list, READ, "readonly")                 \
-    X(near, READ, "readonly fast") X(nearest, READ, "readonly fast") X(top, READ, "readonly fast") X(above, READ, "readonly")                   \
-    X(stab, READ, "readonly") X(stabcount, READ, "readonly fast") X(get, READ, "readonly fast") X(size, READ, "readonly fast")                  \
-    X(recent, READ, "readonly fast")
+    X(livemap, READ | WRITE, "write deny-oom fast") X(layer, READ | WRITE, "write deny-oom fast") X(add, READ | WRITE, "write deny-oom fast")   \
+    X(seg, READ | WRITE, "write deny-oom fast") X(move, READ | WRITE, "write deny-oom fast") X(drop, READ | WRITE, "write fast")                \
+    X(count, READ, "readonly fast") X(sum, READ, "readonly fast") X(list, READ, "readonly") X(near, READ, "readonly fast")                      \
+    X(nearest, READ, "readonly fast") X(top, READ, "readonly fast") X(above, READ, "readonly") X(stab, READ, "readonly")                        \
+    X(stabcount, READ, "readonly fast") X(get, READ, "readonly fast") X(size, READ, "readonly fast") X(recent, READ, "readonly fast")
 
 #define DEFINE(word, mode, flags) \
     static int word##_command(Ctx *ctx, String **words, int count) { return say(ctx, words, count, #word, mode); }

@@ -87,7 +87,7 @@ static int answer(int at_once) {
 static void try_points(void) {
     livemap *map = livemap_new();
     uint64_t n = 0, ids[4] = {0}, id = 0;
-    uint32_t y = 0, numbers[3] = {0};
+    int64_t y = 0, numbers[3] = {0};
     size_t count = 9;
     livemap_found found[4];
     CHECK(livemap_points(map, "cars", LIVEMAP_RANGE | LIVEMAP_NEAR | LIVEMAP_TOP) == LIVEMAP_OK);
@@ -105,8 +105,32 @@ static void try_points(void) {
     CHECK(livemap_above(map, "cars", 0, 400, 50, ids, 4, &count) == LIVEMAP_OK && count == 2 && ids[1] == UINT64_MAX);
     CHECK(livemap_get(map, "cars", 1, numbers) == LIVEMAP_OK && numbers[0] == 100 && numbers[1] == 50 && numbers[2] == 3);
     CHECK(livemap_recent(map, "cars", 1, ids, &count) == LIVEMAP_OK && count == 1 && ids[0] == UINT64_MAX);
+    CHECK(livemap_move_point(map, "cars", 1, 90, 91, 4) == LIVEMAP_OK && livemap_move_point(map, "cars", 2, 1, 1, 1) == LIVEMAP_UNKNOWN);
+    CHECK(livemap_recent(map, "cars", 1, ids, &count) == LIVEMAP_OK && count == 1 && ids[0] == 1);
+    CHECK(livemap_near(map, "cars", 90, 90, found) == LIVEMAP_OK && found->id == 1 && found->distance == 1);
     CHECK(livemap_remove(map, "cars", 1) == LIVEMAP_OK);
     CHECK(livemap_len(map, "cars", &n) == LIVEMAP_OK && n == 1);
+    livemap_free(map);
+}
+
+/* Coordinates below zero, up to the corners. */
+static void try_version_2(void) {
+    livemap *map = livemap_new();
+    uint64_t id = 0, ids[2] = {0};
+    int64_t y = 0, numbers[3] = {0};
+    size_t count = 9;
+    livemap_found found[1];
+    CHECK(livemap_choose_version(map, 3) == LIVEMAP_BAD_RANGE && livemap_choose_version(map, 2) == LIVEMAP_OK);
+    CHECK(livemap_points(map, "cars", LIVEMAP_RANGE | LIVEMAP_NEAR | LIVEMAP_TOP) == LIVEMAP_OK);
+    CHECK(livemap_choose_version(map, 1) == LIVEMAP_HAS_LAYERS);
+    CHECK(livemap_add_point(map, "cars", 1, INT32_MIN, INT32_MIN, 5) == LIVEMAP_OK);
+    CHECK(livemap_near(map, "cars", INT32_MAX, INT32_MAX, found) == LIVEMAP_OK && found->id == 1 && found->distance == UINT64_MAX);
+    CHECK(livemap_add_point(map, "cars", 2, (int64_t)INT32_MIN - 1, 0, 5) == LIVEMAP_BAD_RANGE);
+    CHECK(livemap_move_point(map, "cars", 1, -3, -4, 5) == LIVEMAP_OK);
+    CHECK(livemap_near(map, "cars", 0, 0, found) == LIVEMAP_OK && found->id == 1 && found->distance == 25);
+    CHECK(livemap_list(map, "cars", -3, -4, -1, -1, ids, 2, &count) == LIVEMAP_OK && count == 1 && ids[0] == 1);
+    CHECK(livemap_top(map, "cars", -9, 0, &id, &y) == LIVEMAP_OK && id == 1 && y == -4);
+    CHECK(livemap_get(map, "cars", 1, numbers) == LIVEMAP_OK && numbers[0] == -3 && numbers[1] == -4 && numbers[2] == 5);
     livemap_free(map);
 }
 
@@ -114,7 +138,7 @@ static void try_segments(void) {
     livemap *map = livemap_new();
     uint64_t n = 0, ids[2] = {0};
     size_t count = 9;
-    uint32_t numbers[3] = {0};
+    int64_t numbers[3] = {0};
     CHECK(livemap_segments(map, "roads") == LIVEMAP_OK);
     CHECK(livemap_add_segment(map, "roads", 4, 100, 400, 7) == LIVEMAP_OK);
     CHECK(livemap_stab(map, "roads", 400, ids, 2, &count) == LIVEMAP_OK && count == 1 && ids[0] == 4);
@@ -130,6 +154,7 @@ static void try_refusals(void) {
         {LIVEMAP_BAD_FIELDS, "size"}, {LIVEMAP_BAD_NAME, "size a.b"}, {LIVEMAP_BAD_NUMBER, "get a -1"}, {LIVEMAP_BAD_RANGE, "recent a 65"},
         {LIVEMAP_BAD_ORDER, "top a 2 1"}, {LIVEMAP_NO_LAYER, "size b"}, {LIVEMAP_WRONG_KIND, "stab a 1"}, {LIVEMAP_NO_INDEX, "near a 1 1"},
         {LIVEMAP_TAKEN, "layer a points near"}, {LIVEMAP_DUPLICATE, "add a 1 2 2 2"}, {LIVEMAP_UNKNOWN, "drop a 2"},
+        {LIVEMAP_HAS_LAYERS, "livemap 2"}, {LIVEMAP_UNKNOWN, "move a 2 2 2 2"},
     };
     livemap *map = livemap_new();
     CHECK(livemap_points(map, "a", LIVEMAP_RANGE) == LIVEMAP_OK && livemap_add_point(map, "a", 1, 1, 1, 1) == LIVEMAP_OK);
@@ -261,6 +286,7 @@ int main(int count, char **words) {
     if (count == 2 && !watched) return answer(!strcmp(words[1], "script"));
     try_all("points", try_points);
     try_all("segments", try_segments);
+    try_all("version 2", try_version_2);
     try_all("refusals", try_refusals);
     try_all("full", try_full);
     try_all("text", try_text);

@@ -49,6 +49,24 @@ class Library(unittest.TestCase):
         cars.drop(1)
         self.assertEqual((len(cars), 1 in cars, 2**64 - 1 in cars), (1, False, True))
 
+    def test_moves(self):
+        cars = self.map.points("cars", "near")
+        cars.add(1, 5, 5)
+        cars.add(2, 9, 9)
+        cars.move(1, 8, 8, 3)
+        self.assertEqual((cars.near(7, 7), cars.get(1), cars.recent()), ((1, 2), livemap.Point(8, 8, 3), [1, 2]))
+        self.assertRaises(livemap.UnknownId, cars.move, 3, 1, 1)
+
+    def test_version_2(self):
+        with livemap.Map(2) as town:
+            cars = town.points("cars", "near", "top")
+            cars.add(1, -2**31, -2**31)
+            self.assertEqual(cars.near(2**31 - 1, 2**31 - 1), (1, 36893488130239234050))
+            cars.move(1, -3, -4)
+            self.assertEqual((cars.top(-9, 0), cars.get(1)), ((1, -4), (-3, -4, 0)))
+            self.assertRaises(livemap.HasLayers, town._ask, "livemap 1")
+        self.assertRaises(livemap.BadLine, livemap.Map, 3)
+
     def test_segments(self):
         roads = self.map.segments("roads")
         roads.add(4, 100, 400, 7)
@@ -82,7 +100,7 @@ class Library(unittest.TestCase):
 
     def test_random_lines(self):
         for seed in range(4):
-            plain, lines = PlainMap(), list(random_lines(seed, 5000))
+            plain, lines = PlainMap(), list(random_lines(seed, 5000, -100 * (seed % 2)))
             wanted = [plain.answer(line) for line in lines]
             with self.subTest(seed=seed), livemap.Map() as at_once, livemap.Map() as by_line:
                 self.assertEqual(at_once.answer(lines), wanted)

@@ -5,11 +5,13 @@ import random
 
 class PlainMap:
     def __init__(self):
-        # Each layer by name: its kind, its indexes, and its live items in order of adds.
+        # Each layer by name: its kind, its indexes, and its live items in order of adds and moves.
         self.layers = {}
 
     def answer(self, line):
         word, name, *rest = line.split()
+        if word == "livemap":
+            return "no version" if self.layers else "ok"
         if word == "layer":
             return self.make(name, rest[0], rest[1:])
         if name not in self.layers:
@@ -18,6 +20,8 @@ class PlainMap:
         numbers = list(map(int, rest))
         if word in ("add", "seg"):
             return self.add(word, kind, items, *numbers)
+        if word == "move":
+            return self.move(kind, items, *numbers)
         if word in ("drop", "get"):
             return self.one(word, items, *numbers)
         if word == "size":
@@ -41,6 +45,15 @@ class PlainMap:
             return f"no duplicate {id}"
         if len(items) == 65536:
             return "no full"
+        items[id] = numbers
+        return "ok"
+
+    def move(self, kind, items, id, *numbers):
+        if kind != "points":
+            return "no kind"
+        if id not in items:
+            return f"no unknown {id}"
+        del items[id]
         items[id] = numbers
         return "ok"
 
@@ -103,19 +116,21 @@ def told(word, numbers):
     return " ".join([word, *(map(str, numbers) if numbers else ["none"])])
 
 
-def random_lines(seed, count, most=200):
-    """Lines about two layers of points and one of segments: updates and questions, some of them refused."""
+def random_lines(seed, count, least=0, most=200):
+    """Lines about two layers of points and one of segments: updates and questions, some of them refused. Below 0 they are of version 2."""
     draw = random.Random(seed)
-    yield from ["layer cars points range near top", "layer shops points near", "layer roads segments stab"]
+    yield from [f"livemap {1 if least >= 0 else 2}", "layer cars points range near top", "layer shops points near", "layer roads segments stab"]
     for _ in range(count):
         name = draw.choice(["cars", "cars", "cars", "shops", "roads", "roads", "none"])
         id = draw.randrange(300)
-        a, b = sorted(draw.choices(range(most), k=2))
-        c, d = sorted(draw.choices(range(most), k=2))
-        update = f"seg {name} {id} {a} {b} {c}" if (name == "roads") == (draw.random() < 0.9) else f"add {name} {id} {a} {c} {d}"
+        a, b = sorted(draw.choices(range(least, most), k=2))
+        c, d = sorted(draw.choices(range(least, most), k=2))
+        k, weight = draw.randrange(1, 65), draw.randrange(most)
+        update = f"seg {name} {id} {a} {b} {c}" if (name == "roads") == (draw.random() < 0.9) else f"add {name} {id} {a} {c} {weight}"
         yield draw.choice([
-            update, update, update, f"drop {name} {id}", f"count {name} {a} {c} {b} {d}", f"sum {name} {a} {c} {b} {d}",
-            f"list {name} {a} {c} {b} {d}", f"near {name} {a} {c}", f"nearest {name} {1 + a % 64} {b} {c}", f"top {name} {a} {b}",
+            update, update, update, f"move {name} {id} {b} {d} {weight}", f"drop {name} {id}",
+            f"count {name} {a} {c} {b} {d}", f"sum {name} {a} {c} {b} {d}",
+            f"list {name} {a} {c} {b} {d}", f"near {name} {a} {c}", f"nearest {name} {k} {b} {c}", f"top {name} {a} {b}",
             f"above {name} {a} {b} {c}", f"stab {name} {a}", f"stabcount {name} {b}", f"get {name} {id}", f"size {name}",
-            f"recent {name} {1 + a % 64}", f"layer {name} points near",
+            f"recent {name} {k}", f"layer {name} points near", f"livemap {1 + k % 2}",
         ])

@@ -121,12 +121,16 @@ class Redis(unittest.TestCase):
             ("TOP t cars 0 1", None), ("ABOVE t cars 0 400 60", [7]), ("GET t cars 1", [100, 50, 3]), ("SIZE t cars", 2),
             ("RECENT t cars 2", [7, 1]), ("LAYER t roads segments stab", "OK"), ("SEG t roads 4 100 400 0", "OK"), ("STAB t roads 380", [4]),
             ("STABCOUNT t roads 99", 0), ("DROP t cars 1", "OK"), ("ADD t cars 18446744073709551615 1 1 1", "OK"),
-            ("RECENT t cars 1", ["18446744073709551615"]),
+            ("RECENT t cars 1", ["18446744073709551615"]), ("MOVE t cars 7 100 90 3", "OK"), ("RECENT t cars 1", [7]),
+            ("LIVEMAP u 2", "OK"), ("LAYER u cars points near top", "OK"), ("ADD u cars 1 -2147483648 -2147483648 5", "OK"),
+            ("NEAR u cars 2147483647 2147483647", [1, "36893488130239234050"]), ("MOVE u cars 1 -3 -4 5", "OK"), ("TOP u cars -9 0", [1, -4]),
+            ("GET u cars 1", [-3, -4, 5]),
         ]:
             self.assertEqual(ask(*("LM." + words).split()), wanted, words)
         self.assertEqual([ask("LM.LINE", "t", line) for line in ("count cars 0 0 400 90", "# nothing", "drop cars 7")], ["count 2", None, "ok"])
         for words, wanted in [
             ("LM.ADD t cars 18446744073709551615 1 1 1", "ERR no duplicate 18446744073709551615"), ("LM.DROP t cars 1", "ERR no unknown 1"),
+            ("LM.LIVEMAP u 1", "ERR no version"), ("LM.MOVE t cars 1 1 1 1", "ERR no unknown 1"),
             ("LM.ADD other cars 1 1 1 1", "ERR no layer"), ("LM.STAB t cars 1", "ERR no kind"), ("LM.COUNT t cars 1", "ERR no fields"),
             ("LM.SIZE t " + "x" * 300, "ERR no line"), ("LM.SIZE text x", "WRONGTYPE the key holds no map"),
         ]:
@@ -151,12 +155,12 @@ class Redis(unittest.TestCase):
             self.assertEqual(ask.line("map", line), plain.answer(line))
 
     def fill(self, ask, plain, seed, count=3000):
-        for line in random_lines(seed, count):
+        for line in random_lines(seed, count, -100):
             self.assertEqual(ask.line("map", line), plain.answer(line))
 
     def compare(self, ask, plain, seed=99):
-        for line in random_lines(seed, 600):
-            if line.split()[0] not in ("layer", "add", "seg", "drop"):
+        for line in random_lines(seed, 600, -100):
+            if line.split()[0] not in ("livemap", "layer", "add", "seg", "move", "drop"):
                 self.assertEqual(ask.line("map", line), plain.answer(line))
 
     def test_dump(self):

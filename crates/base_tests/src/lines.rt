@@ -5,7 +5,7 @@ use std::alloc::{AllocError, Global};
 use std::test::Fail;
 
 /// Lines, each with the plain line of its command, nothing where it says nothing, or its first fault.
-const LINES: [(&[u8], Result<&str, LineFault>); 49] = [
+const LINES: [(&[u8], Result<&str, LineFault>); 54] = [
     (
         b"layer shops points top near range",
         Ok("layer shops points range near top"),
@@ -16,6 +16,7 @@ const LINES: [(&[u8], Result<&str, LineFault>); 49] = [
         Ok("add abcdefghijklmnop 18446744073709551615 2147483647 0 7"),
     ),
     (b"seg a 7 1 2 3", Ok("seg a 7 1 2 3")),
+    (b"move a 7 1 2 3", Ok("move a 7 1 2 3")),
     (b"\tdrop  a 007\r", Ok("drop a 7")),
     (b"count a 1 2 3 4", Ok("count a 1 2 3 4")),
     (b"sum a 1 2 3 4", Ok("sum a 1 2 3 4")),
@@ -32,6 +33,7 @@ const LINES: [(&[u8], Result<&str, LineFault>); 49] = [
     ),
     (b"\tsize a-_Z9\t\r", Ok("size a-_Z9")),
     (b"recent a 1", Ok("recent a 1")),
+    (b"livemap 2", Ok("livemap 2")),
     (b"", Ok("")),
     (b" ", Ok("")),
     (b" \t  ", Ok("")),
@@ -52,6 +54,9 @@ const LINES: [(&[u8], Result<&str, LineFault>); 49] = [
     (b"get a! +1", Err(LineFault::Name)),
     (b"get a +1", Err(LineFault::Number)),
     (b"get a -1", Err(LineFault::Number)),
+    (b"near a 1 -0", Err(LineFault::Number)),
+    (b"move a 1 2 3", Err(LineFault::Fields)),
+    (b"move a 1 2147483648 0 0", Err(LineFault::Range)),
     (
         b"add a 1 99999999999999999999999999 x 0",
         Err(LineFault::Number),
@@ -70,24 +75,38 @@ const LINES: [(&[u8], Result<&str, LineFault>); 49] = [
 ];
 
 /// Lines of version 2, in the same way.
-const SIGNED: [(&[u8], Result<&str, LineFault>); 14] = [
+const SIGNED: [(&[u8], Result<&str, LineFault>); 25] = [
     (b"livemap 02", Ok("livemap 2")),
-    (b"livemap 3", Err(LineFault::Range)),
+    (b"livemap", Err(LineFault::Fields)),
     (b"livemap a 1", Err(LineFault::Fields)),
+    (b"livemap -2", Err(LineFault::Number)),
+    (b"livemap 0", Err(LineFault::Range)),
+    (b"livemap 3", Err(LineFault::Range)),
     (
         b"move a 7 -2147483648 2147483647 9",
         Ok("move a 7 -2147483648 2147483647 9"),
     ),
     (b"add a 7 -0 -007 9", Ok("add a 7 0 -7 9")),
+    (b"seg a 7 -3 -2 -1", Ok("seg a 7 -3 -2 -1")),
     (b"count a -5 -6 -4 0", Ok("count a -5 -6 -4 0")),
     (b"stab a -1", Ok("stab a -1")),
     (b"count a -4 0 -5 1", Err(LineFault::Order)),
-    (b"add a 7 0 0 -1", Err(LineFault::Number)),
+    (b"seg a 7 0 -1 0", Err(LineFault::Order)),
+    (b"move a 7 0 0 -1", Err(LineFault::Number)),
+    (b"move a -7 0 0 1", Err(LineFault::Number)),
     (b"get a -1", Err(LineFault::Number)),
+    (b"nearest a -1 0 0", Err(LineFault::Number)),
     (b"near a - 0", Err(LineFault::Number)),
     (b"near a --1 0", Err(LineFault::Number)),
+    (b"near a +1 0", Err(LineFault::Number)),
+    (b"near a 1- 0", Err(LineFault::Number)),
     (b"near a -2147483649 0", Err(LineFault::Range)),
     (b"near a 2147483648 0", Err(LineFault::Range)),
+    (
+        b"near a 0 -99999999999999999999999999",
+        Err(LineFault::Range),
+    ),
+    (b"move a 7 0 0 2147483648", Err(LineFault::Range)),
 ];
 
 /// The plain line of a line's command, nothing where it says nothing, or its first fault.

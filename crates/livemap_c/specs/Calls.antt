@@ -4,7 +4,7 @@ use Rattle.query_laws.specs.StepLedger.{Counts, nothing_counted}
 use Rattle.map_io.specs.ProperPrefix.{IsProperPrefix}
 use Rattle.map_model.specs.Text.{lines}
 use Rattle.map_model.specs.Output.{Given, written_for}
-use Rattle.map_session.specs.Session.{new_session, ExecutesLine, done_of}
+use Rattle.map_session.specs.Session.{new_session, map_in, ExecutesLine, done_of}
 use Rattle.map_session.specs.Answering.{Moment, moment, Runs, IsStopped}
 use Rattle.livemap_c.specs.declared.livemap.Livemap.{Livemap}
 use Rattle.livemap_c.specs.declared.status.Status.{Status}
@@ -12,17 +12,18 @@ use Rattle.livemap_c.specs.declared.status.Status.TheVariants.{Answered, Refused
 use Rattle.livemap_c.specs.Statuses.{status_of_done, OnStatus}
 use Rattle.livemap_c.specs.Told.{told_of}
 
--- A map without layers, and no text.
-abbrev pub IsFresh : Livemap → Type 0
-IsFresh map = (map.session ≡ new_session false) × (map.text.bytes.items ≡ [])
+-- A map without layers, whose layers may have so many items, of version 1, and no text.
+abbrev pub IsFresh : ℕ → Livemap → Type 0
+IsFresh most map = (map.session ≡ new_session false most) × (map.text.bytes.items ≡ [])
 
 -- ---- a line
 
--- The text is the whole answer, with the status that it has, or a proper front of it, where there was no memory for the rest.
+-- The text is the whole answer in the version before the line, with the status that it has, or a proper front of it, where there was no memory for
+-- the rest.
 abbrev pub IsKept : Livemap → Livemap → Given → Status → Type 0
 IsKept before after given status =
-    ((status ≡ status_of_done (done_of given.told)) × (after.text.bytes.items ≡ written_for before.session.ledger given.told))
-    ⊎ ((status ≡ NoMemory) × IsProperPrefix (written_for before.session.ledger given.told) after.text.bytes.items)
+    ((status ≡ status_of_done (done_of given.told)) × (after.text.bytes.items ≡ written_for (map_in before.session).version before.session.ledger given.told))
+    ⊎ ((status ≡ NoMemory) × IsProperPrefix (written_for (map_in before.session).version before.session.ledger given.told) after.text.bytes.items)
 
 -- A line was executed as a session does it, its work counted from nothing, and the text of its answer kept.
 abbrev pub KeepsLine : Livemap → Livemap → List ℕ → Status → Type 0

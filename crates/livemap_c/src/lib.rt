@@ -13,6 +13,7 @@ ghost use Rattle.std.specs.Prelude.{◌≡◌};
 ghost use Rattle.std.specs.Borrow.{full_share, sem};
 ghost use Rattle.std.specs.Mem.{type_size};
 ghost use Rattle.std.specs.Ptr.{lies_at, room_at};
+ghost use Rattle.map_model.specs.State.{empty_map};
 ghost use Rattle.livemap_c.specs.contracts.livemap.Livemap.{the_row};
 ghost use Rattle.livemap_c.specs.declared.livemap.Livemap.{Livemap};
 ghost use Rattle.livemap_c.specs.Calls.{IsFresh, SaysLine, SaysScript, CopiesText};
@@ -32,13 +33,13 @@ pub extern "C" fn livemap_size() -> usize
     std::mem::size_of::<Livemap>()
 }
 
-/// Makes a map without layers where there is room for one. It takes no memory.
+/// Makes a map without layers where there is room for one. It takes no memory, and its layers may have 65,536 items each.
 #[unsafe(no_mangle)]
 pub unsafe extern "C" fn livemap_init(alloc: Global, at: *mut u8)
     requires* { sem 𝓛 (room_at the_row at) }
-    ensures* { ∃ₛ (λ (map : Livemap). sem 𝓛 (lies_at the_row full_share at map) ∗ ⌜ IsFresh map ⌝) }
+    ensures* { ∃ₛ (λ (map : Livemap). sem 𝓛 (lies_at the_row full_share at map) ∗ ⌜ IsFresh empty_map.most_items map ⌝) }
 {
-    std::ptr::write(at as *mut Livemap, Livemap::new(alloc));
+    std::ptr::write(at as *mut Livemap, Livemap::largest(alloc));
 }
 
 /// Frees what a map owns. Its own memory is the caller's.

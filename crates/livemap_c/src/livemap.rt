@@ -1,6 +1,7 @@
 //! A map with the text of its last answer.
-ghost use Rattle.std.specs.Prelude.{◌≡◌, ◌+◌, ◌<◌, ◌^◌, length, OnOk, OnErr};
+ghost use Rattle.std.specs.Prelude.{◌≡◌, ◌+◌, ◌<◌, ◌≤◌, ◌^◌, length, OnOk, OnErr};
 ghost use Rattle.query_laws.specs.StepLedger.{Counts};
+ghost use Rattle.map_model.specs.State.{empty_map};
 ghost use Rattle.map_model.specs.Text.{lines};
 ghost use Rattle.map_session.specs.Answering.{Runs, IsStopped};
 ghost use Rattle.livemap_c.specs.Calls.{IsFresh, KeepsLine, TakesLine, SaysLine, start_of, end_of, KeepsScript, TakesScript, SaysScript, CopiesText};
@@ -14,6 +15,9 @@ use query_laws::step_ledger::{SHARES, Steps, blank};
 use std::alloc::Global;
 use std::marker::Brand;
 use std::sync::ledger::{Blank, Ledger};
+
+/// As many items as a layer of a map that C makes may have.
+const MOST_ITEMS: usize = 65_536;
 
 /// How many lines wear a map out: 2^40, at 1,000 a second after 34 years.
 const MOST_LINES: u64 = 1_099_511_627_776;
@@ -29,18 +33,26 @@ pub struct Livemap {
 }
 
 impl Livemap {
-    /// A map without layers. It takes no memory; what it is told later takes its own from `alloc`.
-    pub fn new(alloc: Global) -> Livemap
-        ensures { IsFresh result }
+    /// A map without layers, each of which may have so many items. It takes no memory; what it is told later takes its own from `alloc`.
+    pub fn new(alloc: Global, most_items: usize) -> Livemap
+        requires { most_items ≤ 2 ^ 16 }
+        ensures { IsFresh most_items result }
     {
         let text = Text {
             bytes: Vec::new(alloc),
             faults: 0,
         };
         Livemap {
-            session: MapSession::new(alloc, false),
+            session: MapSession::new(alloc, false, most_items),
             text,
         }
+    }
+
+    /// A map without layers, each of which may have 65,536 items, as those of the program.
+    pub fn largest(alloc: Global) -> Livemap
+        ensures { IsFresh empty_map.most_items result }
+    {
+        Livemap::new(alloc, MOST_ITEMS)
     }
 
     /// Frees what the map owns.

@@ -4,7 +4,6 @@ use Rattle.std.specs.Io.KnownBytes.{Consumes, IsAtEnd}
 use Rattle.map_io.specs.Calls.{counted}
 use Rattle.map_io.specs.SinkTold.{SinkTold}
 use Rattle.map_session.specs.Answering.{Moment, moment}
-use Rattle.map_session.specs.Session.{new_session}
 use Rattle.map_session.proofs.Lines.{stopped_by_fault}
 use Rattle.map_session.proofs.SumsUp.{sums_up}
 use Rattle.program_words.specs.declared.job.Job.TheVariants.{Script, Made}
@@ -12,7 +11,7 @@ use Rattle.program_words.specs.declared.job.WordsFault.TheVariants as faults
 use Rattle.query_laws.specs.StepLedger.{Counts}
 use Rattle.program_run.specs.declared.ended.Status.{Status}
 use Rattle.program_run.specs.declared.ended.Status.TheVariants.{Clean, Refusals, Usage, ReadFault, WriteFault, TooLong, NoMemory}
-use Rattle.program_run.specs.Run.{script_limit, AnswersScript, AsksForScript, HasRun}
+use Rattle.program_run.specs.Run.{first_session, script_limit, AnswersScript, AsksForScript, HasRun}
 
 -- ---- where nothing fails
 
@@ -56,14 +55,14 @@ module _ (left : List ℕ) (rest' : Option (List ℕ)) (start now : Moment) wher
 module _ (words : List (List ℕ)) (left : List ℕ) (rest' : Option (List ℕ)) (told : SinkTold) (counts : Counts) (status : Status) (now : Moment) where
   pub complete_run : HasRun words (Some left) rest' told counts status now → length left ≤ script_limit → AsksForScript words → (status ≡ ReadFault → ⊥) → (status ≡ WriteFault → ⊥)
       → (status ≡ Clean) ⊎ ((status ≡ Refusals) ⊎ (status ≡ NoMemory))
-  complete_run (Ok (Script ledger), reads, r) short asks read write = complete_script left rest' (moment (new_session ledger) told counts) now status r short read write
+  complete_run (Ok (Script ledger), reads, r) short asks read write = complete_script left rest' (moment (first_session ledger) told counts) now status r short read write
   complete_run (Ok (Made seed size), reads, r) short asks read write = absurd (let none : ⊥ = cc (sym reads.1 ∙ asks.1.1) in none)
   complete_run (Err faults.Usage, reads, r) short asks read write = absurd (let none : ⊥ = cc (sym asks.1.0 ∙ reads) in none)
   complete_run (Err faults.NoMemory, reads, r) short asks read write = inr (inr r.0)
 
   pub limited_run : HasRun words (Some left) rest' told counts status now → script_limit < length left → AsksForScript words → (status ≡ ReadFault → ⊥) → (status ≡ WriteFault → ⊥)
       → (status ≡ TooLong) ⊎ (status ≡ NoMemory)
-  limited_run (Ok (Script ledger), reads, r) long asks read write = limited_script left rest' (moment (new_session ledger) told counts) now status r long read write
+  limited_run (Ok (Script ledger), reads, r) long asks read write = limited_script left rest' (moment (first_session ledger) told counts) now status r long read write
   limited_run (Ok (Made seed size), reads, r) long asks read write = absurd (let none : ⊥ = cc (sym reads.1 ∙ asks.1.1) in none)
   limited_run (Err faults.Usage, reads, r) long asks read write = absurd (let none : ⊥ = cc (sym asks.1.0 ∙ reads) in none)
   limited_run (Err faults.NoMemory, reads, r) long asks read write = inr r.0

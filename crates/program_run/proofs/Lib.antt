@@ -2,4 +2,5 @@ pub mod Endings
 pub mod Accepted
 pub mod Underway
 pub mod MadeCommands
+pub mod Versions
 pub mod Pieces

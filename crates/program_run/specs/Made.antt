@@ -17,7 +17,7 @@ live_in (Some layer) = live_count layer
 
 -- how many items the layer of made scripts has in a map
 abbrev pub live_made : State → ℕ
-live_made state = live_in (layer_named made state)
+live_made state = live_in (layer_named made state.layers)
 
 -- The script of a seed was executed, and P holds of the summary of its answers.
 pub record Summarizes (seed size : ℕ) (start now : Moment) (P : List ℕ → Type 0) : Type 0 where

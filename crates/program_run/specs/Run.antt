@@ -4,8 +4,9 @@ use Rattle.std.specs.Io.KnownBytes.{Consumes, IsAtEnd}
 use Rattle.query_laws.specs.StepLedger.{Counts}
 use Rattle.map_io.specs.Calls.{counted}
 use Rattle.map_io.specs.SinkTold.{SinkTold, CountsAtMost, Delivers, CutOff}
+use Rattle.map_model.specs.State.{empty_map}
 use Rattle.map_model.specs.Text.{lines, whole_lines}
-use Rattle.map_session.specs.Session.{new_session}
+use Rattle.map_session.specs.Session.{SessionState, new_session}
 use Rattle.map_session.specs.Answering.{Moment, moment, Runs, IsStoppedBehind, IsUnderway}
 use Rattle.program_words.specs.declared.job.Job.{Job}
 use Rattle.program_words.specs.declared.job.Job.TheVariants.{Script, Made}
@@ -23,6 +24,10 @@ script_limit = 67108864
 -- what is written where the words aren't accepted
 abbrev pub usage_line : List ℕ
 usage_line = codes "usage: livemap [--ledger] [--make SEED] [--size N]\n"
+
+-- a session of the program before any line: its layers may have as many items as those of the map that the definitions begin with
+abbrev pub first_session : Bool → SessionState
+first_session ledger = new_session ledger empty_map.most_items
 
 -- the exit status of the program
 abbrev pub code_of : Status → ℕ
@@ -104,13 +109,13 @@ AsksForScript words = (ledger : Bool) × AsksFor words (Script ledger)
 
 -- What a run did, by what its words ask for.
 abbrev pub RunsBy : Result Job WordsFault → Option (List ℕ) → Option (List ℕ) → SinkTold → Counts → Status → Moment → Type 0
-RunsBy (Ok (Script ledger)) rest rest' told counts status now = AnswersScript rest rest' (moment (new_session ledger) told counts) status now
+RunsBy (Ok (Script ledger)) rest rest' told counts status now = AnswersScript rest rest' (moment (first_session ledger) told counts) status now
 RunsBy (Ok (Made seed size)) rest rest' told counts status now =
-    Consumes rest rest' [] × AnswersMade seed size (moment (new_session false) told counts) status now
+    Consumes rest rest' [] × AnswersMade seed size (moment (first_session false) told counts) status now
 RunsBy (Err faults.Usage) rest rest' told counts status now =
-    IsIdle rest rest' (moment (new_session false) told counts) now × WritesUsage told now.told status
+    IsIdle rest rest' (moment (first_session false) told counts) now × WritesUsage told now.told status
 RunsBy (Err faults.NoMemory) rest rest' told counts status now =
-    (status ≡ NoMemory) × IsIdle rest rest' (moment (new_session false) told counts) now × Delivers told now.told [] 0
+    (status ≡ NoMemory) × IsIdle rest rest' (moment (first_session false) told counts) now × Delivers told now.told [] 0
 
 -- The words were read, and what was taken, answered and written is what they ask for.
 abbrev pub HasRun : List (List ℕ) → Option (List ℕ) → Option (List ℕ) → SinkTold → Counts → Status → Moment → Type 0

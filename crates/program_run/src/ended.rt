@@ -5,9 +5,9 @@ ghost use Rattle.map_io.specs.Calls.{counted};
 ghost use Rattle.map_session.specs.Answering.{moment};
 ghost use Rattle.program_run.specs.Run.{code_of, HasEnded, ReadsPieces, RunsBy, WritesUsage};
 
-use crate::MapSession;
 use crate::making::answer_made;
 use crate::reading::answer_script;
+use crate::{MOST_ITEMS, MapSession};
 use map_io::{Sink, Source, WriteFault, write_all};
 use program_words::{Job, WordsFault, read_words};
 use query_laws::step_ledger::Steps;
@@ -104,22 +104,22 @@ fn run_job<S: Source, K: Sink, L: Ledger>(
 {
     match job {
         Ok(Job::Script { ledger }) => {
-            let mut session = MapSession::new(alloc, ledger);
+            let mut session = MapSession::new(alloc, ledger, MOST_ITEMS);
             let status = answer_script(&mut session, source, sink, steps);
             Ended { status, session }
         }
         Ok(Job::Made { seed, size }) => {
-            let mut session = MapSession::new(alloc, false);
+            let mut session = MapSession::new(alloc, false, MOST_ITEMS);
             let status = answer_made(&mut session, seed, size, sink, steps);
             Ended { status, session }
         }
         Err(WordsFault::Usage) => {
-            let session = MapSession::new(alloc, false);
+            let session = MapSession::new(alloc, false, MOST_ITEMS);
             let status = refuse_words(sink);
             Ended { status, session }
         }
         Err(WordsFault::NoMemory) => {
-            let session = MapSession::new(alloc, false);
+            let session = MapSession::new(alloc, false, MOST_ITEMS);
             let status = Status::NoMemory;
             Ended { status, session }
         }

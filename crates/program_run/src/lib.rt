@@ -14,7 +14,6 @@ ghost use Rattle.query_laws.specs.StepLedger.{Counts};
 ghost use Rattle.map_model.specs.Output.{Told};
 ghost use Rattle.map_model.specs.Refusal.{NoMemory};
 ghost use Rattle.map_model.specs.Reply.{Refused, is_refusal};
-ghost use Rattle.map_model.specs.State.{most_items};
 ghost use Rattle.map_session.specs.Session.{SessionState, new_session, Obeys};
 ghost use Rattle.workload_gen.specs.Made.{made_script};
 
@@ -31,9 +30,12 @@ use map_session::Session;
 /// A session of the program, over all structures.
 pub type MapSession = Session<PointIndexes, SegmentIndexes>;
 
-/// Where no command of a made script is refused memory, none is refused.
+/// As many items as a layer of the program may have.
+pub const MOST_ITEMS: usize = 65_536;
+
+/// Where no command of a made script is refused memory, none is refused, a layer having room for its rounds.
 pub fn made_scripts_are_refused_memory_alone()
-    ensures { (seed size : ℕ) (before : Counts) (told : List Told) (new : SessionState) (after : Counts) → size ≤ most_items
-        → Obeys (new_session false) before (made_script seed size) told new after → All (λ (one : Told). one.reply ≢ Refused NoMemory) told
+    ensures { (most seed size : ℕ) (before : Counts) (told : List Told) (new : SessionState) (after : Counts) → size ≤ most
+        → Obeys (new_session false most) before (made_script seed size) told new after → All (λ (one : Told). one.reply ≢ Refused NoMemory) told
         → All (λ (one : Told). is_refusal one.reply ≡ false) told }
 {}

@@ -3,6 +3,7 @@ ghost use Rattle.std.specs.Prelude.{◌≡◌, ◌≢◌, ◌+◌, ◌<◌, ◌^
 ghost use Rattle.map_io.specs.Calls.{counted};
 ghost use Rattle.map_model.specs.Line.{IsCommand};
 ghost use Rattle.map_model.specs.Output.{Told};
+ghost use Rattle.map_model.specs.Version.{One};
 ghost use Rattle.map_session.specs.Session.{map_in, Executes, Obeys};
 ghost use Rattle.map_session.specs.Answering.{moment};
 ghost use Rattle.script_lang.specs.Command.{command_of};
@@ -25,7 +26,8 @@ pub fn answer_made<K: Sink, L: Ledger>(
     sink: &mut K,
     steps: &mut Steps<L>,
 ) -> Status
-    requires { session.old.lines ≡ 0 }
+    requires lines { session.old.lines ≡ 0 }
+    requires version { (map_in session.old).version ≡ One }
     ensures ended { AnswersMade seed size (moment session.old (K.told sink.old) steps.old) result (moment session.new (K.told sink.new) steps.new) }
     ensures failed { result ≡ Status.WriteFault → (K.told sink.new).faults ≡ counted (K.told sink.old).faults }
     ensures succeeded { result ≢ Status.WriteFault → (K.told sink.new).faults ≡ (K.told sink.old).faults }
@@ -46,7 +48,8 @@ fn execute_made<L: Ledger>(
     size: u32,
     steps: &mut Steps<L>,
 ) -> Summary
-    requires { session.old.lines ≡ 0 }
+    requires lines { session.old.lines ≡ 0 }
+    requires version { (map_in session.old).version ≡ One }
     ensures { (told : List Told) × Obeys session.old steps.old (made_script seed size) told session.new steps.new × (result ≡ summary_of told) }
 {
     let mut summary = Summary::new();
@@ -65,7 +68,7 @@ fn obey<L: Ledger>(
     steps: &mut Steps<L>,
 )
     requires few { session.old.lines < 2 ^ 32 }
-    requires lawful { IsCommand (command_of command.now) }
+    requires lawful { IsCommand (map_in session.old).version (command_of command.now) }
     requires same { summary.old.commands ≡ session.old.lines }
     ensures executed { (told : Told) × Executes session.old steps.old (Ok (Some (command_of command.now)))
         (record { told = Some told; state = map_in session.new }) session.new steps.new × (summary.new ≡ told_more summary.old told) }

@@ -5,7 +5,7 @@ use crate::over_memory::{Plan, WHOLE, failing_calls, run_words};
 use crate::town::{town, town_answered};
 use map_io::MemSink;
 use map_session::{OverPoints, OverSegments, Session};
-use program_run::{MapSession, Status};
+use program_run::{MOST_ITEMS, MapSession, Status};
 use query_laws::step_ledger::{SHARES, Steps, blank};
 use std::alloc::{AllocError, Global};
 use std::marker::Brand;
@@ -103,7 +103,7 @@ fn answers_around_a_fault<L: Ledger>(
     requires parts { blank.parts ≡ L.parts }
     requires shares { blank.parts ≡ SHARES }
 {
-    let mut session = MapSession::new(alloc, false);
+    let mut session = MapSession::new(alloc, false, MOST_ITEMS);
     let mut steps = Steps::<L>::new(blank);
     let made = answer_of(alloc, &mut session, b"layer a points range", 1, &mut steps)?;
     let size = answer_of(alloc, &mut session, b"size a", 0, &mut steps)?;

@@ -1,4 +1,5 @@
 //! The first commands of made scripts, by another program that was written from the definition.
+use map_shapes::Version;
 use std::alloc::Global;
 use std::test::Fail;
 use workload_gen::Workload;
@@ -26,7 +27,7 @@ const SCRIPTS: [(u64, u32, &str); 3] = [
 fn made_lines(alloc: Global, seed: u64, rounds: u32) -> Result<Vec<u8>, Fail> {
     let mut script = Vec::new(alloc);
     for command in Workload::new(seed, rounds) {
-        script.extend_from_slice(&command.line(alloc)?)?;
+        script.extend_from_slice(&command.line(Version::One, alloc)?)?;
         script.push(b'\n')?;
     }
     Ok(script)

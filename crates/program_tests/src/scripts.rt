@@ -11,16 +11,16 @@ const CORNERS: &[u8] =
 
 const CORNERS_ANSWERED: &str = "ok\nok\nok\ncount 2\nsum 4294967294\n";
 
-/// An identifier twice, one that isn't there, and three updates.
+/// An identifier twice, one that isn't there, and five updates.
 const IDENTIFIERS: &[u8] =
-    b"layer a points range\nadd a 7 1 1 1\nadd a 7 2 2 2\ndrop a 8\nget a 7\nget a 8\nsize a\n";
+    b"layer a points range\nadd a 7 1 1 1\nadd a 7 2 2 2\ndrop a 8\nmove a 8 1 1 1\nmove a 7 2 3 4\nget a 7\nget a 8\nsize a\n";
 
 const LEDGER: &[&str] = &["--ledger"];
 
 /// Words, a script, its answers, in which `A..B` stands for a number from A to B, and whether a line is refused.
 type Row = (&'static [&'static str], &'static [u8], &'static str, bool);
 
-const ROWS: [Row; 25] = [
+const ROWS: [Row; 33] = [
     (&[], b"", "", false),
     (
         &[],
@@ -32,7 +32,7 @@ const ROWS: [Row; 25] = [
     (
         &[],
         IDENTIFIERS,
-        "ok\nok\nno duplicate 7\nno unknown 8\nget 1 1 1\nno unknown 8\nsize 1\n",
+        "ok\nok\nno duplicate 7\nno unknown 8\nno unknown 8\nok\nget 2 3 4\nno unknown 8\nsize 1\n",
         true,
     ),
     // An item is dropped and added again while the part that it is in is a source.
@@ -161,6 +161,58 @@ const ROWS: [Row; 25] = [
         "ok\nok turns 3..8/480 marks 0/60\nget 1 1 1\nsize 1\nrecent 1\n",
         false,
     ),
+    // Version 2: the corners, and what is a number of it.
+    (
+        &[],
+        b"livemap 2\nlayer a points range near top\nadd a 1 -2147483648 -2147483648 5\nnear a 2147483647 2147483647\ncount a -2147483648 -2147483648 -1 -1\nget a 1\ntop a -2147483648 0\nadd a 2 -0 -5 1\nget a 2\nadd a 3 0 0 -1\nadd a 3 -2147483649 0 0\nlivemap 1\n",
+        "ok\nok\nok\nnear 1 36893488130239234050\ncount 1\nget -2147483648 -2147483648 5\ntop 1 -2147483648\nok\nget 0 -5 1\nno number\nno range\nno version\n",
+        true,
+    ),
+    (
+        &[],
+        b"livemap 02\nlayer a points range near top\nadd a 1 - 0 0\nadd a 1 --1 0 0\nadd a 1 +1 0 0\nadd a -1 0 0 0\nadd a 1 2147483648 0 0\nadd a 1 0 -99999999999999999999 0\nadd a 1 -99999999999999999999 x 0\nadd a 1 0 0 2147483648\ncount a 5 0 -5 0\ntop a -5 -0006\nnearest a -1 0 0\nnear a 0 1-\nadd a 1 -000000000000000000007 -8 2147483647\nget a 1\n",
+        "ok\nok\nno number\nno number\nno number\nno number\nno range\nno range\nno number\nno range\nno order\nno order\nno number\nno number\nok\nget -7 -8 2147483647\n",
+        true,
+    ),
+    (
+        &[],
+        b"livemap 2\nlayer a points range near top\nlayer s segments stab\nadd a 1 -3 -4 6\nadd a 2 3 4 7\nadd a 3 -3 9 8\nsum a -9 -9 -1 -1\nlist a -3 -4 3 4\nnear a -1 -1\nnearest a 2 -3 -4\nabove a -3 -1 -4\ntop a -9 9\nmove a 3 -5 -6 0\ntop a -9 -1\nget a 3\nseg s 1 -5 -1 -9\nseg s 2 -1 3 0\nseg s 3 3 -3 0\nstab s -1\nstab s -6\nstabcount s 0\nget s 1\n",
+        "ok\nok\nok\nok\nok\nok\nsum 6\nlist 1 2\nnear 1 13\nnearest 1 0 2 100\nabove 1 3\ntop 3 9\nok\ntop 1 -4\nget -5 -6 0\nok\nok\nno order\nstab 1 2\nstab none\nstabcount 1\nget -5 -1 -9\n",
+        true,
+    ),
+    // One that was dropped stands at the highest place that there is.
+    (
+        &[],
+        b"livemap 2\nlayer a points range\nadd a 1 5 2147483647 1\nadd a 2 6 2147483647 1\ndrop a 2\ncount a 0 0 9 2147483647\nsum a 0 0 9 2147483647\nlist a 0 0 9 2147483647\n",
+        "ok\nok\nok\nok\nok\ncount 1\nsum 1\nlist 1\n",
+        false,
+    ),
+    // A version is chosen again while no layer stands, and stays when one does.
+    (
+        &[],
+        b"livemap\nlivemap x\nlivemap 3\nlivemap 0\nlivemap -1\nlivemap 1 1\nlivemap 2\nlivemap 1\nlayer a points range\nadd a 1 -1 0 0\nlivemap 2\nadd a 1 -1 0 0\nlivemap 1\nadd a 1 1 0 0\nget a 1\n",
+        "no fields\nno number\nno range\nno range\nno number\nno fields\nok\nok\nok\nno number\nno version\nno number\nno version\nok\nget 1 0 0\n",
+        true,
+    ),
+    // A move: the point has left its old place, and is the newest.
+    (
+        &[],
+        b"layer a points range near top\nlayer s segments stab\nadd a 1 1 1 1\nadd a 2 2 2 2\nadd a 3 3 3 3\nmove a 1 7 7 9\nrecent a 3\ncount a 0 0 6 6\nlist a 5 5 7 7\nsum a 0 0 9 9\nnear a 1 1\nnearest a 3 7 7\ntop a 0 6\ntop a 0 9\nabove a 0 9 3\nget a 1\nsize a\nmove a 1 7 7 9\nmove a 3 0 0 0\nrecent a 64\ndrop a 1\nmove a 1 0 0 0\nlist a 0 0 9 9\nseg s 4 0 9 0\nmove s 4 0 0 0\nmove s 5 0 0 0\nmove b 4 0 0 0\nmove a 1 2 3\nmove a 1 x 0 0\nmove a 1 0 -1 0\nmove a 1 0 2147483648 0\nmove a! 1 0 0 0\n",
+        "ok\nok\nok\nok\nok\nok\nrecent 1 3 2\ncount 2\nlist 1\nsum 14\nnear 2 2\nnearest 1 0 3 32 2 50\ntop 3 3\ntop 1 7\nabove 1 3\nget 7 7 9\nsize 3\nok\nok\nrecent 3 1 2\nok\nno unknown 1\nlist 2 3\nok\nno kind\nno kind\nno layer\nno fields\nno number\nno number\nno range\nno name\n",
+        true,
+    ),
+    (
+        LEDGER,
+        b"layer a points range\nadd a 1 1 1 1\nadd a 2 2 2 2\nmove a 1 5 5 9\nrecent a 2\nget a 1\nmove a 3 0 0 0\ncount a 0 0 9 9\n",
+        "ok\nok turns 3..8/480 marks 0/60\nok turns 3..28/480 marks 0/60\nok turns 3..8/560 marks 2..3/66\nrecent 1 2\nget 5 5 9\nno unknown 3\ncount 2 parts 2/12 touches 2..800\n",
+        true,
+    ),
+    (
+        LEDGER,
+        b"livemap 2\nlayer a points range near top\nadd a 1 -1 -1 1\nadd a 2 -2 -2 2\nmove a 1 -5 -5 9\nnear a -5 -5\ntop a -9 9\nget a 1\nlivemap 2\n",
+        "ok\nok\nok turns 9..24/1440 marks 0/180\nok turns 9..84/1440 marks 0/180\nok turns 9..24/1680 marks 6..9/198\nnear 1 0 parts 2/12 touches 2..240\ntop 2 -2 parts 2/12 touches 2..160\nget -5 -5 9\nno version\n",
+        true,
+    ),
 ];
 
 /// How many bytes a source gives, and a sink takes, at once.
@@ -190,7 +242,7 @@ fn scripts_are_answered(rt: HostRuntime) -> Result<(), Fail> {
         assert!(rt; is_answered(rt.alloc(), row)?, "{:?}", row.1);
     }
     let ran = run_words(rt.alloc(), &[], IDENTIFIERS, WHOLE, WHOLE, 512)?;
-    assert_eq!(rt; ran.updates, 3);
+    assert_eq!(rt; ran.updates, 5);
     Ok(())
 }
 

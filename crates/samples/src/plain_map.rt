@@ -19,7 +19,7 @@ const CLASSES: [u32; 4] = [1, 2, 10, 64];
 /// Items have so many stamps, each of which comes again and again.
 const STAMPS: u32 = 256;
 
-/// Lines of a script and their answers, each with its line feed.
+/// Lines of a script of version 1 and their answers, each with its line feed.
 #[derive(Drop)]
 pub struct Exchange {
     pub text: String,

@@ -41,7 +41,7 @@ pub fn drawn_question(
     }
 }
 
-/// Ends a line with the numbers of its question, each behind a space.
+/// Ends a line of version 1 with the numbers of its question, each behind a space.
 pub fn write_question(question: &AnyQuestion, line: &mut String) -> Result<(), AllocError> {
     match question {
         AnyQuestion::Points(question) => write_point_question(question, line),
@@ -66,22 +66,27 @@ fn write_point_question(question: &PointQuestion, line: &mut String) -> Result<(
 }
 
 /// An answer as numbers: a count, a sum, or identifiers, each before its distance or height where that is told too.
-pub fn numbers(alloc: Global, answer: AnyAnswer) -> Result<Vec<u64>, AllocError> {
+pub fn numbers(alloc: Global, answer: AnyAnswer) -> Result<Vec<u128>, AllocError> {
     match answer {
         AnyAnswer::Counted(n) | AnyAnswer::Summed(n) | AnyAnswer::StabCounted(n) => {
-            Vec::from_slice(alloc, &[n])
+            Vec::from_slice(alloc, &[u128::from(n)])
         }
         AnyAnswer::Listed(ids) | AnyAnswer::ListedAbove(ids) | AnyAnswer::Stabbed(ids) => {
-            Ok(ids.into_vec())
+            let ids = ids.into_vec();
+            ids.iter().map(|id| u128::from(*id)).collect(alloc)
         }
         AnyAnswer::NearestOne(found) => pairs(alloc, found.as_slice()),
         AnyAnswer::NearestOnes(found) => pairs(alloc, found.as_slice()),
-        AnyAnswer::Highest(Some(peak)) => Vec::from_slice(alloc, &[peak.id, u64::from(peak.y)]),
+        AnyAnswer::Highest(Some(peak)) => {
+            Vec::from_slice(alloc, &[u128::from(peak.id), u128::from(peak.y)])
+        }
         AnyAnswer::Highest(None) => Ok(Vec::new(alloc)),
     }
 }
 
-fn pairs(alloc: Global, found: &[Found]) -> Result<Vec<u64>, AllocError> {
-    let pairs = found.iter().flat_map(|found| [found.id, found.dist]);
+fn pairs(alloc: Global, found: &[Found]) -> Result<Vec<u128>, AllocError> {
+    let pairs = found
+        .iter()
+        .flat_map(|found| [u128::from(found.id), found.dist]);
     pairs.collect(alloc)
 }

@@ -12,7 +12,7 @@ pub trait Seeded: Shaped {
     fn drawn(generator: &mut Generator, spread: Spread, stamp: u64) -> Self;
 
     /// The numbers of an answer over some items (`numbers`). To questions about other items there are none.
-    fn scan(alloc: Global, question: &AnyQuestion, items: &[Self]) -> Result<Vec<u64>, AllocError>;
+    fn scan(alloc: Global, question: &AnyQuestion, items: &[Self]) -> Result<Vec<u128>, AllocError>;
 }
 
 impl Seeded for Point {
@@ -22,34 +22,38 @@ impl Seeded for Point {
         Point { id, x, y, w, stamp }
     }
 
-    fn scan(alloc: Global, question: &AnyQuestion, items: &[Self]) -> Result<Vec<u64>, AllocError> {
+    fn scan(
+        alloc: Global,
+        question: &AnyQuestion,
+        items: &[Self],
+    ) -> Result<Vec<u128>, AllocError> {
         let AnyQuestion::Points(question) = question else {
             return Ok(Vec::new(alloc));
         };
         match question {
             PointQuestion::CountIn(q) => {
                 let inside = items.iter().filter(|point| point.is_inside(&q.0));
-                Vec::from_slice(alloc, &[inside.count() as u64])
+                Vec::from_slice(alloc, &[inside.count() as u128])
             }
             PointQuestion::SumIn(q) => {
                 let inside = items.iter().filter(|point| point.is_inside(&q.0));
-                let sum = inside.fold(0u64, |sum, point| sum.saturating_add(u64::from(point.w)));
+                let sum = inside.fold(0u128, |sum, point| sum.saturating_add(u128::from(point.w)));
                 Vec::from_slice(alloc, &[sum])
             }
             PointQuestion::ListIn(q) => {
                 let inside = items.iter().filter(|point| point.is_inside(&q.0));
-                Ok(sorted(inside.map(|point| point.id).collect(alloc)?))
+                Ok(sorted(inside.map(|point| u128::from(point.id)).collect(alloc)?))
             }
             PointQuestion::Above(q) => {
                 let above = items.iter().filter(|point| q.has(point));
-                Ok(sorted(above.map(|point| point.id).collect(alloc)?))
+                Ok(sorted(above.map(|point| u128::from(point.id)).collect(alloc)?))
             }
             PointQuestion::Top(q) => {
                 let within = items.iter().filter(|point| q.has(point));
                 let highest = within.min_by_key(|point| (Reverse(point.y), point.id));
                 let pairs = highest
                     .iter()
-                    .flat_map(|point| [point.id, u64::from(point.y)]);
+                    .flat_map(|point| [u128::from(point.id), u128::from(point.y)]);
                 pairs.collect(alloc)
             }
             PointQuestion::Near(Near { x, y }) => {
@@ -78,26 +82,30 @@ impl Seeded for Segment {
         }
     }
 
-    fn scan(alloc: Global, question: &AnyQuestion, items: &[Self]) -> Result<Vec<u64>, AllocError> {
+    fn scan(
+        alloc: Global,
+        question: &AnyQuestion,
+        items: &[Self],
+    ) -> Result<Vec<u128>, AllocError> {
         let AnyQuestion::Segments(question) = question else {
             return Ok(Vec::new(alloc));
         };
         match question {
             SegmentQuestion::Stab(q) => {
                 let over = items.iter().filter(|segment| q.has(segment));
-                Ok(sorted(over.map(|segment| segment.id).collect(alloc)?))
+                Ok(sorted(over.map(|segment| u128::from(segment.id)).collect(alloc)?))
             }
             SegmentQuestion::StabCount(q) => {
                 let over = items.iter().filter(|segment| q.has(segment));
-                Vec::from_slice(alloc, &[over.count() as u64])
+                Vec::from_slice(alloc, &[over.count() as u128])
             }
         }
     }
 }
 
 /// The nearest points, by one list of the nearest so far.
-fn nearest(alloc: Global, question: &NearK, points: &[Point]) -> Result<Vec<u64>, AllocError> {
-    let mut found: Vec<(u64, u64)> = Vec::with_capacity(alloc, question.k)?;
+fn nearest(alloc: Global, question: &NearK, points: &[Point]) -> Result<Vec<u128>, AllocError> {
+    let mut found: Vec<(u128, u64)> = Vec::with_capacity(alloc, question.k)?;
     for point in points {
         let Found { dist, id } = question.found(point);
         let place = found.partition_point(|kept| *kept < (dist, id));
@@ -108,12 +116,12 @@ fn nearest(alloc: Global, question: &NearK, points: &[Point]) -> Result<Vec<u64>
     }
     found
         .iter()
-        .flat_map(|(dist, id)| [*id, *dist])
+        .flat_map(|(dist, id)| [u128::from(*id), *dist])
         .collect(alloc)
 }
 
 /// In ascending order.
-fn sorted(mut numbers: Vec<u64>) -> Vec<u64> {
+fn sorted(mut numbers: Vec<u128>) -> Vec<u128> {
     numbers.sort_unstable();
     numbers
 }

@@ -18,5 +18,8 @@ pub use session::{check_examples, check_made_script, tell_script_difference};
 pub use trial::{Layer, Plan, tell_differences, try_layer};
 pub use tried::Kind;
 
+/// As many items as a layer of a session may have.
+const MOST_ITEMS: usize = 65_536;
+
 /// A session over all structures.
 type MapSession = Session<PointIndexes, SegmentIndexes>;

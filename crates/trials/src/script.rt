@@ -1,8 +1,8 @@
 //! Times of a script's commands.
 ghost use Rattle.map_io.specs.SinkTold.{told_by_faults};
 
-use crate::MapSession;
 use crate::bench::Bench;
+use crate::{MOST_ITEMS, MapSession};
 use map_io::{Failed, Sink};
 use map_session::LineStart;
 use samples::{Costs, Failure, Outcome};
@@ -13,7 +13,7 @@ use std::sync::ledger::Ledger;
 
 /// What lines are told of by: the command words in alphabetical order, and all updates together.
 const WORDS: &str =
-    "above add count drop get layer list near nearest recent seg size stab stabcount sum top update";
+    "above add count drop get layer list livemap move near nearest recent seg size stab stabcount sum top update";
 
 /// The most bytes that a file is asked for at once, as the program asks its input.
 const PIECE: usize = 4_096;
@@ -47,7 +47,7 @@ pub fn measure_script<L: Ledger>(bench: &mut Bench<L>, path: &str) -> Outcome {
     let alloc = bench.alloc;
     let words = WORDS.split_ascii_whitespace();
     let mut run = ScriptRun {
-        session: MapSession::new(alloc, false),
+        session: MapSession::new(alloc, false, MOST_ITEMS),
         begun: LineStart::new(),
         table: words.map(|word| (word, Costs::new(alloc))).collect(alloc)?,
     };
@@ -96,7 +96,7 @@ impl ScriptRun {
         let begun = bench.begin()?;
         self.session.line(line, &mut NullSink, &mut bench.steps)?;
         if let Some((first, _)) = split_word(line) {
-            let is_update = matches!(first, b"add" | b"seg" | b"drop");
+            let is_update = matches!(first, b"add" | b"seg" | b"move" | b"drop");
             for (word, costs) in &mut self.table {
                 if word.as_bytes() == first || (is_update && *word == "update") {
                     bench.take_in(begun, costs)?;

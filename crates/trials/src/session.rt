@@ -1,9 +1,9 @@
 //! Sessions beside plain lists, and beside the answers that are expected of examples, at once and in pieces.
 ghost use Rattle.std.specs.Prelude.{◌<◌};
 
-use crate::MapSession;
 use crate::bench::Bench;
 use crate::trial::is_difference;
+use crate::{MOST_ITEMS, MapSession};
 use map_io::{MemSink, Sink};
 use map_session::{LineStart, OverPoints, OverSegments, Session, answer_begun, answer_piece};
 use query_laws::NoMemory;
@@ -31,7 +31,7 @@ pub fn check_made_script<L: Ledger>(
     seed: u64,
     lines: u32,
 ) -> Outcome {
-    let mut session = MapSession::new(bench.alloc, false);
+    let mut session = MapSession::new(bench.alloc, false, MOST_ITEMS);
     let mut generator = Generator::new(seed);
     let made = PlainMap::made(bench.alloc)?;
     check_answers(&mut session, &made, WHOLE, bench)?;
@@ -76,10 +76,10 @@ pub fn check_examples<L: Ledger>(bench: &mut Bench<L>, folder: &str) -> Outcome 
 /// it.
 fn check_pieces<L: Ledger>(said: &Exchange, bench: &mut Bench<L>) -> Outcome {
     for length in 1..=LONGEST {
-        let mut session = MapSession::new(bench.alloc, false);
+        let mut session = MapSession::new(bench.alloc, false, MOST_ITEMS);
         check_answers(&mut session, said, length, bench)?;
     }
-    let mut session = MapSession::new(bench.alloc, false);
+    let mut session = MapSession::new(bench.alloc, false, MOST_ITEMS);
     check_answers(&mut session, said, WHOLE, bench)
 }
 

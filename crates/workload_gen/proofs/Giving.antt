@@ -2,6 +2,7 @@
 use Rattle.std.proofs.Common.{◌≡◌, ◌∙◌, ◌+◌, ◌<◌, zero, suc, ap, ap₂, sym, subst, refl, ℕ, Bool, true, List, [], ◌∷◌, length, Some, arith}
 use Rattle.map_model.specs.Command.{Command}
 use Rattle.map_model.specs.Line as lines
+use Rattle.map_model.specs.Version.{One}
 use Rattle.script_lang.specs.declared.command.Command as script
 use Rattle.script_lang.specs.Command.{command_of}
 use Rattle.workload_gen.specs.Made.{Between, round, rounds_from, made_script, to_come, GivesCommand}
@@ -9,7 +10,7 @@ use Rattle.workload_gen.specs.Made.{Between, round, rounds_from, made_script, to
 -- the next round's command is given
 pub gives_round : (is_begun : Bool) (rounds left : ℕ) (b after : Between) (given : script.Command) (before : List Command)
     → is_begun ≡ true → rounds ≡ suc left → to_come is_begun rounds b ≡ before
-    → command_of given ≡ (round b).command → lines.IsCommand (command_of given) → after ≡ (round b).after
+    → command_of given ≡ (round b).command → lines.IsCommand One (command_of given) → after ≡ (round b).after
     → GivesCommand before (Some given) (to_come is_begun left after)
 gives_round is_begun rounds left b after given before begun is view command lawful stands =
     let list : (round b).command ∷ rounds_from left (round b).after ≡ before =

@@ -4,6 +4,7 @@ use Rattle.map_model.specs.Shape as shapes
 use Rattle.map_model.specs.Answer as questions
 use Rattle.map_model.specs.Command.{Command, MakeLayer, Add, Drop, Ask}
 use Rattle.map_model.specs.Line as lines
+use Rattle.map_model.specs.Version.{One}
 use Rattle.map_questions.specs.Any.{point_question_of}
 use Rattle.map_questions.specs.declared.any_question.PointQuestion.{PointQuestion}
 use Rattle.script_lang.specs.declared.command.Command as script
@@ -142,12 +143,12 @@ abbrev pub to_come : (is_begun : Bool) → (rounds : ℕ) → Between → List C
 to_come false rounds b = layer ∷ rounds_from rounds b
 to_come true rounds b = rounds_from rounds b
 
--- The first command to come is given, which a line can say, and the others are to come after it; none where there is none.
+-- The first command to come is given, which a line of version 1 can say, and the others are to come after it; none where there is none.
 abbrev pub GivesCommand : List Command → Option script.Command → List Command → Type 0
 GivesCommand [] None after = after ≡ []
 GivesCommand [] (Some given) after = ⊥
 GivesCommand (command ∷ commands) None after = ⊥
-GivesCommand (command ∷ commands) (Some given) after = (command_of given ≡ command) × lines.IsCommand (command_of given) × (after ≡ commands)
+GivesCommand (command ∷ commands) (Some given) after = (command_of given ≡ command) × lines.IsCommand One (command_of given) × (after ≡ commands)
 
 -- ---- a question to the layer
 
@@ -155,4 +156,4 @@ abbrev pub asks : PointQuestion → Command
 asks question = Ask made (point_question_of question)
 
 abbrev pub IsQuestion : PointQuestion → Type 0
-IsQuestion question = lines.IsQuestion (point_question_of question)
+IsQuestion question = lines.IsQuestion One (point_question_of question)

@@ -1,6 +1,7 @@
 //! The rounds of a made script.
 ghost use Rattle.std.specs.Prelude.{◌≡◌, ◌<◌, ◌≤◌, ◌+◌, ◌^◌};
 ghost use Rattle.map_model.specs.Line.{IsCommand};
+ghost use Rattle.map_model.specs.Version.{One};
 ghost use Rattle.script_lang.specs.Command.{command_of};
 ghost use Rattle.workload_gen.specs.Made as made;
 
@@ -68,7 +69,7 @@ impl Maker {
     /// The command before all rounds.
     pub(crate) fn layer(&self) -> Command
         ensures command { command_of result ≡ made.layer }
-        ensures lawful { IsCommand (command_of result) }
+        ensures lawful { IsCommand One (command_of result) }
     {
         Command::Layer {
             name: self.name,
@@ -87,7 +88,7 @@ impl Maker {
         requires { self.old.next < 2 ^ 32 }
         ensures command { command_of result ≡ (made.round self.old).command }
         ensures after { self.new ≡ (made.round self.old).after }
-        ensures lawful { IsCommand (command_of result) }
+        ensures lawful { IsCommand One (command_of result) }
     {
         let number = self.generator.draw() % KINDS;
         match number {
@@ -111,7 +112,7 @@ impl Maker {
         requires { self.old.next < 2 ^ 32 }
         ensures command { command_of result ≡ (made.add_round self.old).command }
         ensures after { self.new ≡ (made.add_round self.old).after }
-        ensures lawful { IsCommand (command_of result) }
+        ensures lawful { IsCommand One (command_of result) }
     {
         let id = self.next;
         let x = self.coordinate();
@@ -132,7 +133,7 @@ impl Maker {
         requires small { self.old.next < 2 ^ 32 }
         ensures command { command_of result ≡ (made.drop_first self.old).command }
         ensures after { self.new ≡ (made.drop_first self.old).after }
-        ensures lawful { IsCommand (command_of result) }
+        ensures lawful { IsCommand One (command_of result) }
     {
         let id = self.first;
         self.first += 1;
@@ -147,7 +148,7 @@ impl Maker {
         requires small { self.old.next < 2 ^ 32 }
         ensures command { command_of result ≡ (made.drop_last self.old).command }
         ensures after { self.new ≡ (made.drop_last self.old).after }
-        ensures lawful { IsCommand (command_of result) }
+        ensures lawful { IsCommand One (command_of result) }
     {
         self.next -= 1;
         Command::Drop {
@@ -159,7 +160,7 @@ impl Maker {
     fn count(&mut self) -> Command
         ensures command { command_of result ≡ (made.count_round self.old).command }
         ensures after { self.new ≡ (made.count_round self.old).after }
-        ensures lawful { IsCommand (command_of result) }
+        ensures lawful { IsCommand One (command_of result) }
     {
         let x1 = self.coordinate();
         let y1 = self.coordinate();
@@ -171,7 +172,7 @@ impl Maker {
     fn near(&mut self) -> Command
         ensures command { command_of result ≡ (made.near_round self.old).command }
         ensures after { self.new ≡ (made.near_round self.old).after }
-        ensures lawful { IsCommand (command_of result) }
+        ensures lawful { IsCommand One (command_of result) }
     {
         let x = self.coordinate();
         let y = self.coordinate();
@@ -181,7 +182,7 @@ impl Maker {
     fn top(&mut self) -> Command
         ensures command { command_of result ≡ (made.top_round self.old).command }
         ensures after { self.new ≡ (made.top_round self.old).after }
-        ensures lawful { IsCommand (command_of result) }
+        ensures lawful { IsCommand One (command_of result) }
     {
         let x1 = self.coordinate();
         let x2 = x1 + SPAN;
@@ -192,7 +193,7 @@ impl Maker {
     fn ask(&self, question: PointQuestion) -> Command
         requires { made.IsQuestion question }
         ensures command { command_of result ≡ made.asks question }
-        ensures lawful { IsCommand (command_of result) }
+        ensures lawful { IsCommand One (command_of result) }
     {
         Command::Ask {
             name: self.name,

@@ -1,4 +1,4 @@
--- `livemap_init` writes the map that `Livemap::new` makes.
+-- `livemap_init` writes the map that `Livemap::largest` makes.
 use Rattle.std.proofs.Common.{[], ◌∷◌, refl}
 use Rattle.std.proofs.raw_atomic.Walks.{proved}
 use mathlib.Core.List
@@ -30,6 +30,7 @@ use denote.Triple.Table.{framed}
 use denote.Triple.Walked.{Stays, walk_of, says, stay_dropped, Goes-dropped, ends_at}
 use Rattle.std.specs.contracts.alloc.Global as heap
 use Rattle.std.proofs.alloc.Global.TheLaws as heap_laws
+use Rattle.map_model.specs.State.{empty_map}
 use Rattle.livemap_c.specs.Calls.{IsFresh}
 use Rattle.livemap_c.specs.declared.livemap.Livemap.{Livemap}
 use Rattle.livemap_c.specs.contracts.livemap.Livemap.{the_row as R}
@@ -38,8 +39,8 @@ use Rattle.livemap_c.proofs.livemap.Livemap.TheLaws as laws
 use Rattle.livemap_c.specs.contracts.livemap_init as f
 use Rattle.livemap_c.proofs.livemap_init.Statement.{statement}
 use Rattle.livemap_c.proofs.livemap_init.Code as code
-use Rattle.livemap_c.specs.contracts.livemap.Livemap.new as g
-use Rattle.livemap_c.proofs.livemap.Livemap.new.Met.{met}
+use Rattle.livemap_c.specs.contracts.livemap.Livemap.largest as g
+use Rattle.livemap_c.proofs.livemap.Livemap.largest.Met.{met}
 
 abbrev stayed : Stays f.ended.signature.params f.ended.kept
 stayed = (stay_dropped _ yes, (stay_dropped _ yes, tt))
@@ -63,10 +64,10 @@ livemap_init_spec 𝓤 𝓛 𝓜 𝓡 wired =
     let G = triple_of 𝓛 g.signature (g.spec 𝓛 𝓜.mem 𝓡.returns) in
     let z : G.Ghost = ((κs, qs, tt, (m, tt), (vs, tt)), tt) in
     nothing ! $ move ! (1 ∷ 0 ∷ []) $ fjoin ! $ nothing ! $ join ! $ nothing ! $ move ! (1 ∷ 0 ∷ []) $ join ! $ use1 𝓛 (raw (G.pre z)) (id⊢ 𝓤 _) $
-    calls_at ! (framed 𝓤 𝓛.H 𝓜 (tables 𝓤 𝓛.H 𝓜 𝓡 𝓡.env)) G (met 𝓤 𝓛 𝓜 𝓡 (code.calls-livemap_c::livemap::Livemap::new 𝓡.env wired)) z
+    calls_at ! (framed 𝓤 𝓛.H 𝓜 (tables 𝓤 𝓛.H 𝓜 𝓡 𝓡.env)) G (met 𝓤 𝓛 𝓜 𝓡 (code.calls-livemap_c::livemap::Livemap::largest 𝓡.env wired)) z
     (and_then ! (get ! refl) (no_more !)) (λ v.
     use1 𝓛 (later (some (λ (r : Livemap). (‵ ftrue ⊛ ‵ (R.own_val r (v ∷ []))) ⊛
-    some (λ (ws : Unit {0} × Unit {0}). ‵ (lasts g.ended z.0.0 z.0.3 ws) ⊛ raw (fact 𝓤 (IsFresh r)))))) (id⊢ 𝓤 _) $
+    some (λ (ws : Unit {0} × Unit {0}). ‵ (lasts g.ended z.0.0 z.0.3 ws) ⊛ raw (fact 𝓤 (IsFresh empty_map.most_items r)))))) (id⊢ 𝓤 _) $
     await ! tt $ pick ! (λ r. split ! $ split ! $ drop ! $ peeks ! R _ (shows 𝓛 R) r (v ∷ []) (λ is.
     let typed = ((row_lawful 𝓛 T.the_type laws.the_loose).typed r _ is).0 in
     lands_as ! refl refl typed $
@@ -78,4 +79,4 @@ livemap_init_spec 𝓤 𝓛 𝓜 𝓡 wired =
     use2 𝓛 (‵ (part_at R full_share r b o)) (part_in 𝓛 R refl full_share r b o v) $
     suffices ! _ (ends_at 𝓛 f.ended stayed c (y (block_ptr b o)) vunit tt (tt, (tt, tt)) (tt, (tt, tt))) $
     feq_i ! _ (vunit ∷ []) _ refl $ nothing ! $ nothing ! $ join ! $ nothing ! $ join ! $ nothing ! $ group ! 3 $ frame ! $
-    show ! (λ (w : Livemap). sep 𝓤 (sem 𝓛 (lies_at R full_share (block_ptr b o) w)) (fact 𝓤 (IsFresh w))) r $ says ! fresh $ done !))))))))
+    show ! (λ (w : Livemap). sep 𝓤 (sem 𝓛 (lies_at R full_share (block_ptr b o) w)) (fact 𝓤 (IsFresh empty_map.most_items w))) r $ says ! fresh $ done !))))))))

@@ -6,5 +6,5 @@ use Rattle.program_run.proofs.Accepted.{accepted_are_answered}
 use Rattle.program_run.proofs.made_scripts_are_refused_memory_alone.Goals as goal
 
 pub returns : goal.returns
-returns c = λ seed size before told new after few obeys found.
-    accepted_are_answered (new_session false) before (made_script seed size) told new after obeys (script_accepted seed size few) found
+returns c = λ most seed size before told new after few obeys found.
+    accepted_are_answered (new_session false most) before (made_script seed size) told new after obeys (script_accepted most seed size few) found

@@ -5,12 +5,15 @@ use Rattle.script_lang.specs.Command.{command_of}
 use Rattle.workload_gen.specs.Summary.{Summary, told_more}
 use Rattle.workload_gen.proofs.Giving.{script_length}
 use Rattle.program_run.proofs.MadeCommands.{given_first, none_to_come}
+use Rattle.program_run.proofs.Versions.{ChooseNone, made_chooses_none, version_stays}
 use Rattle.program_run.proofs.making.execute_made.Goals as goal
 
 pub loop-command-init : goal.loop-command-init
 loop-command-init g c = record {
-  lines = omega (arith, c.requires, ap length c.new-workload.ensures, script_length c.args.seed c.args.size);
-  commands = ap (λ (s : Summary). s.commands) c.new-summary.ensures ∙ sym c.requires;
+  lines = omega (arith, c.requires.lines, ap length c.new-workload.ensures, script_length c.args.seed c.args.size);
+  version = c.requires.version;
+  choose_none = subst ChooseNone (sym c.new-workload.ensures) (made_chooses_none c.args.seed c.args.size);
+  commands = ap (λ (s : Summary). s.commands) c.new-summary.ensures ∙ sym c.requires.lines;
   onward = λ told end after obeys. (
     told,
     subst (λ (coming : List Command). Obeys c.args.session.now c.args.steps.now coming told end after) c.new-workload.ensures obeys,
@@ -24,7 +27,10 @@ loop-command-preserved g c =
     let command = c.in-Some.command in
     let coming : c.loop-command.workload ≡ command_of command ∷ c.next.new.self = given_first c.loop-command.workload command c.next.new.self (search rules) in
     let done = c.obey.ensures.executed in
+    let chosen : ChooseNone (command_of command ∷ c.next.new.self) = subst ChooseNone coming was.choose_none in
     record {
+      version = version_stays _ _ (command_of command) _ _ _ done.1 chosen.0 ∙ was.version;
+      choose_none = chosen.1;
       lines = omega (arith, was.lines, c.obey.ensures.lines, ap length coming);
       commands = omega (arith, ap (λ (s : Summary). s.commands) done.2, was.commands, c.obey.ensures.lines);
       onward = λ told end after obeys.
