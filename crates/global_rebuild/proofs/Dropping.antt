@@ -1,6 +1,7 @@
 -- An index from which an item is dropped, beside the chain from which it is to be unlinked.
-use Rattle.std.proofs.Common.{◌≡◌, ◌≢◌, ℕ, ◌+◌, ◌-◌, ◌*◌, ◌^◌, ◌<◌, ◌≤◌, ◌==◌, ◌∙◌, true, false, if◌then◌else◌, not, List, [], ◌∷◌, Option, Some, None, Contains, map, sym, ap, subst, arith}
+use Rattle.std.proofs.Common.{◌≡◌, ◌≢◌, ℕ, ◌+◌, ◌-◌, ◌*◌, ◌^◌, ◌<◌, ◌≤◌, ◌==◌, ◌∙◌, true, false, if◌then◌else◌, not, nat_lt, List, [], ◌∷◌, Option, Some, None, Contains, map, sym, ap, subst, arith}
 use Rattle.std.specs.Option.{option_map}
+use Rattle.std.proofs.lemmas.Bool.Decides.{nat_tests}
 use Rattle.std.proofs.lemmas.List.{length-map}
 use Rattle.std.proofs.lemmas.List.Elements.{All-nil}
 use Rattle.query_laws.specs.Permuted.{Permuted, nothing, composed}
@@ -22,6 +23,10 @@ use Rattle.global_rebuild.proofs.Walking.{item_of, All-part}
 use Rattle.global_rebuild.proofs.Forgetting.{items_without, length-without_handle, IsShadowOf-deleted, IsShadowOf-moved, IsShadowOf-after, one_fewer, walked_live}
 use Rattle.global_rebuild.proofs.Weights.{IsSoundOf, as_many, shadow_light}
 use Rattle.global_rebuild.proofs.Owning.{owns-main, owns-fresh, owns-shadow, owns-moved}
+
+-- more is dead than half of what is live, and eight
+pub is_over : (weight live : ℕ) → 3 * live + 16 < 2 * weight → nat_lt (live + 16) (2 * (weight - live)) ≡ true
+is_over weight live more = let dead : live + 16 < 2 * (weight - live) = omega (arith, more) in grind (arith, nat_tests, dead)
 
 module _ {Item : Type 0} (handle : ℕ) (item : Item) (es : List (Entry Item)) (is : item_at handle es ≡ Some item) where
   abbrev entry : Entry Item

@@ -1,25 +1,28 @@
 -- An index in which an item is moved: another one is put under its handle, at the end of the chain.
-use Rattle.std.proofs.Common.{◌≡◌, ◌≢◌, ℕ, ◌+◌, ◌-◌, ◌*◌, ◌^◌, ◌<◌, ◌≤◌, ◌∙◌, true, false, List, [], ◌∷◌, ◌++◌, Option, Some, None, inl, inr, length, map, refl, sym, ap, subst, arith}
+use Rattle.std.proofs.Common.{◌≡◌, ◌≢◌, ℕ, ◌+◌, ◌-◌, ◌*◌, ◌^◌, ◌<◌, ◌≤◌, ◌∙◌, true, false, if◌then◌else◌, List, [], ◌∷◌, ◌++◌, Option, Some, None, inl, inr, map, refl, sym, ap, subst, arith}
+use Rattle.std.specs.Option.{option_map}
 use Rattle.std.proofs.lemmas.Bool.{cases_eq}
 use Rattle.std.proofs.lemmas.List.{append-nil, length-append}
 use Rattle.std.proofs.lemmas.List.Elements.{All-nil}
 use Rattle.query_laws.specs.Permuted.{Permuted, nothing}
+use Rattle.query_laws.specs.StepLedger.{Counts}
 use Rattle.query_laws.proofs.Permutations.{Permuted-length}
-use Rattle.builder_trait.specs.Parts.{Contents}
+use Rattle.builder_trait.specs.Parts.{Contents, without}
 use Rattle.id_chain.specs.Chain.{Entry, HandlesDiffer, is_linked, item_at, before, after, first_or, first_handle, IsCursor, before_cursor, without_handle}
 use Rattle.id_chain.proofs.Cursors.{unlinked-without, linked-append, before-append, others-append}
 use Rattle.id_chain.proofs.Entries.{HandlesDiffer-append, before-split, item_at-split, unlinked_more}
 use Rattle.id_chain.proofs.Stamps.{StampsRise-append}
 use Rattle.log_levels.specs.Levels.{live_items, all_items, weight_of}
+use Rattle.log_levels.specs.Cost.{IsWithin}
 use Rattle.log_levels.specs.Trades.{Trades, Ticks}
 use Rattle.log_method.specs.Stack.{Stacked, Inserts, Deletes}
-use Rattle.part_store.specs.Store.{Stored}
-use Rattle.global_rebuild.specs.Index.{Shadow, Indexed, OwnsMemory, IsShadowOf, IsIndexOf, IsIndex, IsPrepared, IsInTime, IsQuiet, live_in, stamp_at, renewed}
+use Rattle.part_store.specs.Store.{Stored, KeepsBoth}
+use Rattle.global_rebuild.specs.Index.{Shadow, Indexed, OwnsMemory, IsShadowOf, IsInTime, IsQuiet, live_in, stamp_at, unwalked, renewed}
 use Rattle.global_rebuild.proofs.Walking.{item_of, All-part, Permuted-appended, below-appended, stamp_at-item, item_at-below}
 use Rattle.global_rebuild.proofs.Forgetting.{length-without_handle, IsShadowOf-deleted, IsShadowOf-moved, IsShadowOf-after, one_fewer}
 use Rattle.global_rebuild.proofs.Appending.{IsShadowOf-appended}
-use Rattle.global_rebuild.proofs.Dropping.{IsDropped, HandlesDiffer-without, rise_without, h, p, others_left, one_dropped, owned, own, ahead}
-use Rattle.global_rebuild.proofs.Weights.{IsSoundOf, ended_all}
+use Rattle.global_rebuild.proofs.Dropping.{IsDropped, HandlesDiffer-without, rise_without, h, p, others_left, one_dropped, owned, own, ahead, same}
+use Rattle.global_rebuild.proofs.Weights.{IsSoundOf, as_many, ended_all}
 use Rattle.global_rebuild.proofs.Owning.{owns-main, owns-fresh, owns-shadow, owns-moved}
 
 module _ {Item : Type 0} (handle : ℕ) (es : List (Entry Item)) (item : Item) where
@@ -31,28 +34,25 @@ module _ {Item : Type 0} (handle : ℕ) (es : List (Entry Item)) (item : Item) w
         front = HandlesDiffer-without handle gone es is differ;
         back = (refl, tt);
         front_only = λ k there. elim (cases_eq handle k) [
-          | inl same ↦ let unlinked = subst (λ j. is_linked j (without_handle handle es) ≡ false) same none in absurd cc
+          | inl same ↦ let unlinked : is_linked k (without_handle handle es) ≡ false = subst (λ j. is_linked j (without_handle handle es) ≡ false) same none in absurd (cc)
           | inr apart ↦ unlinked_more k e [] apart refl
         ];
         back_only = λ k there. elim (cases_eq handle k) [
           | inl same ↦ subst (λ j. is_linked j (without_handle handle es) ≡ false) same none
-          | inr apart ↦ let unlinked = unlinked_more k e [] apart refl in absurd cc
+          | inr apart ↦ let unlinked : is_linked k (e ∷ []) ≡ false = unlinked_more k e [] apart refl in absurd (cc)
         ];
       })
 
   -- the first of the others, or else the renewed one
-  pub first_of : (cursor : Option ℕ) (c : ℕ) → cursor ≡ Some c → IsCursor cursor (without_handle handle es) → before_cursor cursor (without_handle handle es) ≡ []
+  pub first_of : (c : ℕ) → IsCursor (Some c) (without_handle handle es) → before_cursor (Some c) (without_handle handle es) ≡ []
       → IsCursor (Some c) (renewed handle item es) × (before_cursor (Some c) (renewed handle item es) ≡ [])
-  first_of cursor c is linked first =
+  first_of c linked first =
       let e : Entry Item = record { handle = handle; item = item } in
-      let there = subst (λ o. IsCursor o (without_handle handle es)) is linked in
-      let none : before c (without_handle handle es) ≡ [] = subst (λ o. before_cursor o (without_handle handle es) ≡ []) is first in
-      ((others-append c (without_handle handle es) e there).0, before-append c (without_handle handle es) e there ∙ none)
+      ((others-append c (without_handle handle es) e linked).0, before-append c (without_handle handle es) e linked ∙ first)
 
   pub first_itself : without_handle handle es ≡ [] → IsCursor (Some handle) (renewed handle item es) × (before_cursor (Some handle) (renewed handle item es) ≡ [])
   first_itself none =
-      let e : Entry Item = record { handle = handle; item = item } in
-      (
+      let e : Entry Item = record { handle = handle; item = item } in (
         linked-append (without_handle handle es) e,
         ap (λ l. before handle (l ++ e ∷ [])) none ∙ before-split handle item [] [] refl,
       )
@@ -62,11 +62,13 @@ module _ {Item : Type 0} (handle : ℕ) (es : List (Entry Item)) (item : Item) w
       let none = unlinked-without handle es differ in
       (before-split handle item (without_handle handle es) [] none, item_at-split handle item (without_handle handle es) [] none)
 
--- the cursor after a renewed entry at which it was
-pub next_is : {Item : Type 0} (after : List (Entry Item)) (handle : ℕ) (next : Option ℕ) → next ≡ first_handle after
-    → ((n : ℕ) → next ≡ Some n → Some n ≡ first_or after (Some handle)) × (next ≡ None → Some handle ≡ first_or after (Some handle))
-next_is [] handle next is = ((λ n at. let wrong : None ≡ Some n = sym is ∙ at in absurd cc), (λ none. refl))
-next_is (e ∷ es) handle next is = ((λ n at. sym at ∙ is), (λ none. let wrong : None ≡ Some e.handle = sym none ∙ is in absurd cc))
+-- what is in memory stays through two ticks
+pub keeps_then : {a b c : Stored} → KeepsBoth a b → KeepsBoth b c → KeepsBoth a c
+keeps_then h k = record { builders = λ n. k.builders n ∙ h.builders n; tables = λ n. k.tables n ∙ h.tables n }
+
+-- turns are counted up
+pub turns_rise : {turns marks touches : ℕ} {old new : Counts} → IsWithin turns marks touches old new → old.turns ≤ new.turns
+turns_rise h = omega (arith, h.spent.turns_spent)
 
 -- a prepared index of a chain with an item, what is seen of it, and its main stack without the item, and then with the one that is put in its place
 pub record IsMoved {P Item : Type 0} (contents : P → Contents Item) (stamp : Item → ℕ) (i now : Indexed P Item) (es : List (Entry Item)) (handle : ℕ)
@@ -82,6 +84,9 @@ module _ {P Item : Type 0} {contents : P → Contents Item} {stamp : Item → �
 
   pub as_live : live_in contents main ≡ live_in contents i.main
   as_live = omega (arith, one_dropped m.dropped, Permuted-length m.inserts.live)
+
+  pub few_then : 3 * live_in contents main + 16 < 2 ^ 64
+  few_then = omega (arith, as_live, as_many contents stamp i es (h m.dropped), (h m.dropped).few)
 
   pub heavier : weight_of main.levels ≡ weight_of i.main.levels + 1
   heavier = omega (arith, m.dropped.deletes.weight, m.inserts.weight)
@@ -147,7 +152,7 @@ module _ {P Item : Type 0} {contents : P → Contents Item} {stamp : Item → �
       where
         at : (cursor : Option ℕ) → r.cursor ≡ cursor → (c : ℕ) × (r.cursor ≡ Some c)
         at None ended =
-            let all = ended_all contents stamp i es (h m.dropped) r (own m.dropped r there) ended in absurd (omega (arith, all, (p m.dropped).shadow r there))
+            let all = ended_all contents stamp i es (h m.dropped) r (own m.dropped r there) ended in absurd (omega (arith, all, ((p m.dropped).shadow r there).1))
         at (Some c) is = (c, is)
 
     -- it is dropped from the shadow too, which gets the other one later
@@ -197,15 +202,35 @@ module _ {P Item : Type 0} {contents : P → Contents Item} {stamp : Item → �
         }
 
     -- the cursor was at it, and goes on to the next one, or else to the one in its place
-    pub moved_at : r.cursor ≡ Some handle → IsSoundThen store (Some (record r { cursor = first_or (after handle es) (Some handle) }))
-    moved_at at =
-        goes_on store (record r { cursor = first_or (after handle es) (Some handle) })
-        (owns-moved owned_then r there (first_or (after handle es) (Some handle))) (in_time_at (first_or (after handle es) (Some handle)))
-        (cases (after handle es) refl)
+    pub moved_at : r.cursor ≡ Some handle → (r' : Shadow P Item) → r'.stack ≡ r.stack → r'.cursor ≡ first_or (after handle es) (Some handle)
+        → IsSoundThen store (Some r')
+    moved_at at r' same goes =
+        let cursor = first_or (after handle es) (Some handle) in
+        let moved : IsSoundThen store (Some (record r { cursor = cursor })) =
+        goes_on store (record r { cursor = cursor }) (owns-moved owned_then r there cursor) (in_time_at cursor) (cases (after handle es) refl) in
+        subst (λ s. IsSoundThen store (Some (record { stack = s; cursor = r'.cursor }))) (sym same)
+        (subst (λ k. IsSoundThen store (Some (record { stack = r.stack; cursor = k }))) (sym goes) moved)
       where
         cases : (l : List (Entry Item)) → after handle es ≡ l
-            → IsShadowOf contents stamp (record r { cursor = first_or (after handle es) (Some handle) }) (renewed handle item es) (stamp item + 1)
-        cases [] last = rw last (at_last at last)
-        cases (x ∷ rest) next = rw next (IsShadowOf-appended contents stamp (record r { cursor = Some x.handle }) (without_handle handle es) e x.handle refl
+            → IsShadowOf contents stamp (record r { cursor = first_or l (Some handle) }) (renewed handle item es) (stamp item + 1)
+        cases [] last = at_last at last
+        cases (x ∷ rest) next = IsShadowOf-appended contents stamp (record r { cursor = Some x.handle }) (without_handle handle es) e x.handle refl
             (subst (λ l. IsShadowOf contents stamp (record r { cursor = first_handle l }) (without_handle handle es) (stamp item)) next
-            (IsShadowOf-moved contents stamp r es (stamp item) handle gone (h m.dropped).rise (own m.dropped r there) m.dropped.is (h m.dropped).differ at)))
+            (IsShadowOf-moved contents stamp r es (stamp item) handle gone (h m.dropped).rise (own m.dropped r there) m.dropped.is (h m.dropped).differ at))
+
+    -- one more is left after it where it was handed over, or else as many
+    module _ (old : Shadow P Item) (was : now.shadow ≡ Some old) where
+      pub more_left : (stack : Stacked P Item) → is_linked handle (before_cursor r.cursor es) ≡ true
+          → Permuted (live_items contents stack.levels) (without stamp (stamp gone) (live_items contents r.stack.levels))
+          → Some (live_in contents main - live_in contents stack)
+          ≡ option_map (λ w. if is_linked handle (before_cursor old.cursor es) then w + 1 else w) (unwalked contents now)
+      more_left stack walked live =
+          let few = (ahead m.dropped r there).few in
+          let one = one_fewer contents stamp r es (stamp item) handle gone (h m.dropped).rise (own m.dropped r there) m.dropped.is (live_items contents stack.levels) walked live in
+          rw (was, ← same m.dropped r there old was, walked) (ap Some (omega (arith, one, few, as_live, ap (λ j. live_in contents j.main) m.dropped.view)))
+
+      pub as_many_left : is_linked handle (before_cursor r.cursor es) ≡ false
+          → Some (live_in contents main - live_in contents r.stack)
+          ≡ option_map (λ w. if is_linked handle (before_cursor old.cursor es) then w + 1 else w) (unwalked contents now)
+      as_many_left later =
+          rw (was, ← same m.dropped r there old was, later) (ap Some (omega (arith, as_live, ap (λ j. live_in contents j.main) m.dropped.view)))

@@ -4,6 +4,7 @@ ghost use Rattle.std.specs.Option.{option_map};
 ghost use Rattle.query_laws.specs.StepLedger.{Consults};
 ghost use Rattle.query_laws.specs.declared.item.Order.TheVariants.{First};
 ghost use Rattle.id_chain.specs.Chain.{Entry, HandlesDiffer, is_linked, item_at, after, first_or, IsCursor, before_cursor, without_handle};
+ghost use Rattle.log_levels.specs.Slots.{Slots};
 ghost use Rattle.log_levels.specs.Levels.{live_items, all_items, waiting_of, weight_of, parts_of, touches_of};
 ghost use Rattle.part_store.specs.Shelves.{one_if, kept_at, lent_at};
 ghost use Rattle.part_store.specs.Store.{kept_in, HasRooms, StocksUpTo};
@@ -42,7 +43,7 @@ const BUILDERS: usize = 10;
 /// lent by one store: what the one stack gives back the other lends.
 ///
 /// An update is a [`prepare`](Index::prepare), which may be refused memory, and then a commit, which can't fail: an insert after the item was
-/// appended to the chain, a delete before it is unlinked.
+/// appended to the chain, a delete before it is unlinked, a move before it is renewed.
 #[derive(Drop)]
 pub struct Index<B: Builder> {
     alloc: Global,
@@ -150,8 +151,8 @@ impl<B: Builder> Index<B> {
         ensures cost { (g : ℕ) → 2 * live_in B.Part.Part.contents self.old.main + 10 < 2 ^ (g + 1)
             → IsWithin (quotas B.SLOPE B.BASE 0 g) (2 * g) (B.Part.Part.mark_touches g) steps.old steps.new }
     {
-        let item = chain.item(handle);
-        self.main.insert(item, &mut self.store, steps);
+        let last = chain.item(handle);
+        self.main.insert(last, &mut self.store, steps);
     }
 
     /// Lets go of a linked item, which the caller unlinks next: a delete from the main stack, and one from the shadow where it was handed
@@ -217,6 +218,9 @@ impl<B: Builder> Index<B> {
         ensures chain { IsIndexOf B.Part.Part.contents B.Item.stamp self.new (renewed handle item chain.now.entries) (B.Item.stamp item + 1) }
         ensures weights { (weight_of self.new.main.levels ≡ weight_of self.old.main.levels + 1) × (shadow_weight self.new ≡ shadow_weight self.old) }
         ensures held { HoldsAsMuch self.old self.new }
+
+        // Two ticks, one after the other.
+        ensures ticks { (between : List (Slots B.Part B.Item)) × TakeTicks self.old.main.levels between × TakeTicks between self.new.main.levels }
         ensures some_turns { steps.old.turns + 3 ≤ steps.new.turns }
 
         // A mark for each part that is asked, and for each item that waited and waits no longer.
@@ -241,8 +245,8 @@ impl<B: Builder> Index<B> {
             }
             return;
         };
-        let was_handed_over = shadow.has_walked_by(chain, handle);
-        if was_handed_over {
+        let is_in_shadow = shadow.has_walked_by(chain, handle);
+        if is_in_shadow {
             shadow.delete(&gone, &mut self.store, steps);
         } else if shadow.cursor() == Some(handle) {
             shadow.go_to(next_renewed(chain, handle));

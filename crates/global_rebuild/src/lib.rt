@@ -26,16 +26,19 @@
 //! | an item is added | + 1 | 0 | + 1 |
 //! | one that was handed over is dropped | - 4 | - 4 | - 3 |
 //! | another one is dropped | - 3 | 0 | - 3 |
+//! | one that was handed over is moved | - 3 | - 4 | - 2 |
+//! | another one is moved | - 2 | 0 | - 2 |
 //!
 //! - A preparation hands four items over: both inequalities of a rebuild then hold with 4 to spare (`IsPrepared`), and the update takes 4 at
 //!   most. Where fewer are left, the rebuild ends. After a refused preparation both hold still, however often it is refused.
-//! - A rebuild starts where a drop breaks the inequality of a quiet index. It is then broken by 3 at most, and with `w = n` and `D' = 0` those of
-//!   a rebuild hold: 19 is 16 and 3.
+//! - A rebuild starts where a drop or a move breaks the inequality of a quiet index. It is then broken by 3 at most, and with `w = n` and `D' = 0`
+//!   those of a rebuild hold: 19 is 16 and 3.
 //! - Once all are handed over (`w = 0`) the shadow becomes the main stack, and `3D' <= n` is more than a quiet index wants.
 //!
 //! So D is at most `n + 9`, and the main stack weighs at most `2n + 9`, the shadow at most `4n / 3`: n alone bounds the work of an update.
 //! For each g with `2n + 10` below `2^(g+1)`, n being the live items before, preparation and commit together take at most
-//! `6 * (q(0) + .. + q(g))` turns, q being the quota of a level, and `18 * g + 6` marks. A question is put to at most `3 * (g + 1)` parts.
+//! `6 * (q(0) + .. + q(g))` turns, q being the quota of a level, and `18 * g + 6` marks, a move one quota of each level and `2 * g` marks more. A
+//! question is put to at most `3 * (g + 1)` parts.
 //!
 //! A caller keeps the chain, and one relation to it, with a number that it counts itself, above every stamp in the index: `IsIndexOf`.
 //!

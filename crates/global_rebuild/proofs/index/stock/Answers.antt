@@ -1,6 +1,5 @@
 use Rattle.std.proofs.Common.{ℕ, refl, arith}
 use Rattle.log_levels.specs.Trades.{wanted_at}
-use Rattle.log_method.specs.Preparing.{HasRoomsBelow}
 use Rattle.log_method.proofs.Taking.{HasTaken-refl, HasTaken-then, HasTaken-stock, HasRoomsBelow-none, HasRoomsBelow-more}
 use Rattle.global_rebuild.specs.Index.{in_both}
 use Rattle.global_rebuild.proofs.Stocking.{below_all}

@@ -48,7 +48,7 @@ relocate-requires-clause-of g c =
     let same : c.chain-2.result.now.entries ≡ l.directory.entries = search rules in
     let adds : g.X.Item.Item.stamp c.stamped-moved.result ≡ l.directory.adds = search rules in
     rw (adds, same) (subst (λ es. g.X.Indexes.are_of c.prepare.new.self es l.directory.adds) first
-        (c.prepare.ensures.of l.directory.adds (subst (λ es. g.X.Indexes.are_of l.indexes es l.directory.adds) (sym first) c.self.invariant.1)))
+    (c.prepare.ensures.of l.directory.adds (subst (λ es. g.X.Indexes.are_of l.indexes es l.directory.adds) (sym first) c.self.invariant.1)))
 
 pub renew-requires-clause-present : goal.renew-requires-clause-present
 renew-requires-clause-present g c =
