@@ -114,8 +114,7 @@ impl<P: OverPoints, S: OverSegments> Layers<P, S> {
         if self.layers.len() >= MOST_LAYERS {
             return Err(CreateFault::NoRoom);
         }
-        self.layers
-            .push(Layer::new(self.alloc, *name, self.most_items, kind, indexes));
+        self.layers.push(Layer::new(self.alloc, *name, self.most_items, kind, indexes));
         Ok(())
     }
 
