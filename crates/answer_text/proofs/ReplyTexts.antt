@@ -7,7 +7,7 @@ use Rattle.map_model.specs.Shape as model
 use Rattle.map_model.specs.Reply.{spaced, spaced_coordinate, numbers_or_none, shape_text, found_numbers, answer_text, reply_text, reply_line}
 use Rattle.map_model.specs.Refusal.{refusal_text}
 use Rattle.std.proofs.lemmas.List.Concat.{flat_map-append}
-use Rattle.map_shapes.specs.declared.found.Found as shapes
+use Rattle.map_model.specs.Found as shapes
 use Rattle.std.proofs.lemmas.Bool.Decides.{nat_tests}
 use Rattle.map_shapes.specs.Found.{found_of}
 use Rattle.map_shapes.specs.Shape.{model_shape}

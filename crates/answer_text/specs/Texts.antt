@@ -5,7 +5,7 @@ use Rattle.map_model.specs.Version.{Version}
 use Rattle.map_model.specs.Shape as model
 use Rattle.map_model.specs.Reply.{spaced, spaced_coordinate}
 use Rattle.map_model.specs.Cost.{cost_text}
-use Rattle.map_shapes.specs.declared.found.Found as shapes
+use Rattle.map_model.specs.Found as shapes
 use Rattle.map_shapes.specs.Shape.{model_shape}
 use Rattle.map_questions.specs.declared.any_answer.AnyAnswer.{AnyAnswer}
 use Rattle.map_questions.specs.declared.any_answer.AnyAnswer.TheVariants as answers

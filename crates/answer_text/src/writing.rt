@@ -77,7 +77,7 @@ fn put_answer_numbers<K: Sink>(
         AnyAnswer::Counted(n) | AnyAnswer::Summed(n) | AnyAnswer::StabCounted(n) => {
             put_ids(piece, &[*n], sink)
         }
-        AnyAnswer::NearestOne(Some(found)) => put_found(piece, *found, sink),
+        AnyAnswer::NearestOne(Some(found)) => put_found(piece, found, sink),
         AnyAnswer::NearestOnes(found) => put_pairs(piece, found.as_slice(), sink),
         AnyAnswer::Highest(Some(peak)) => {
             let height = place(version, peak.y);
@@ -136,12 +136,12 @@ fn put_numbers<K: Sink>(
 }
 
 /// An identifier with its distance.
-fn put_found<K: Sink>(piece: &mut Piece, found: Found, sink: &mut K) -> Result<(), WriteFault>
+fn put_found<K: Sink>(piece: &mut Piece, found: &Found, sink: &mut K) -> Result<(), WriteFault>
     requires { length piece.old.items < 64 }
-    ensures gathered { OnOk result (Gathers (K.told sink.old) (K.told sink.new) piece.old.items piece.new.items (found_text found)) }
-    ensures cut_off { OnErr result (CutOffInPieces (K.told sink.old) (K.told sink.new) (piece.old.items ++ found_text found)) }
+    ensures gathered { OnOk result (Gathers (K.told sink.old) (K.told sink.new) piece.old.items piece.new.items (found_text found.now)) }
+    ensures cut_off { OnErr result (CutOffInPieces (K.told sink.old) (K.told sink.new) (piece.old.items ++ found_text found.now)) }
 {
-    let numbers = [Number::Plain(found.id), Number::Wide(found.dist)];
+    let numbers = [Number::Plain(found.id()), Number::Wide(found.dist())];
     put_numbers(piece, &numbers, sink)
 }
 
@@ -152,7 +152,7 @@ fn put_pairs<K: Sink>(piece: &mut Piece, found: &[Found], sink: &mut K) -> Resul
     ensures cut_off { OnErr result (CutOffInPieces (K.told sink.old) (K.told sink.new) (piece.old.items ++ flat_map found_text found.now)) }
 {
     for point in found {
-        put_found(piece, *point, sink)?;
+        put_found(piece, point, sink)?;
     }
     Ok(())
 }

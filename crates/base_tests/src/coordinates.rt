@@ -38,7 +38,7 @@ fn corners_are_far_apart(rt: HostRuntime) -> Result<(), Fail> {
         stamp: 0,
     };
     let across = 18_446_744_065_119_617_025;
-    assert_eq!(rt; corner.squared_distance(0, 0), across);
-    assert_eq!(rt; corner.squared_distance(0, u32::MAX), 2 * across);
+    assert_eq!(rt; corner.found_from(0, 0).dist(), across);
+    assert_eq!(rt; corner.found_from(0, u32::MAX).dist(), 2 * across);
     Ok(())
 }

@@ -21,14 +21,13 @@ fn lists_hold_what_is_put_in(rt: HostRuntime) -> Result<(), Fail> {
         (2, false, u64::MAX)
     );
 
-    let near = Found { dist: 1, id: 4 };
     let mut found = FoundList::new();
-    found.push(Found { dist: 9, id: 1 });
-    found.insert(0, near);
+    found.push(Found::new(1, 3, 0));
+    found.insert(0, Found::new(4, 0, 1));
     found.truncate(1);
     assert_eq!(rt;
-        (found.len(), found.is_empty(), found.get(0)),
-        (1, false, near)
+        (found.len(), found.is_empty(), found.get(0).id()),
+        (1, false, 4)
     );
     Ok(())
 }

@@ -75,15 +75,9 @@ fn list_of(alloc: Global, sevens: usize) -> Result<Reply, AllocError> {
 
 /// Answers with distances or heights, each with its line of version 2.
 fn told() -> [(Reply, &'static str); 3] {
-    let farthest = Found {
-        dist: 36_893_488_130_239_234_050,
-        id: 3,
-    };
+    let farthest = Found::new(3, u32::MAX, u32::MAX);
     let mut found = FoundList::new();
-    found.push(Found {
-        dist: 18_446_744_073_709_551_616,
-        id: u64::MAX,
-    });
+    found.push(Found::new(u64::MAX, 4_294_967_295, 92_682));
     found.push(farthest);
     let highest = Peak {
         y: 2_147_483_647,
@@ -96,7 +90,7 @@ fn told() -> [(Reply, &'static str); 3] {
         ),
         (
             answered(AnyAnswer::NearestOnes(found)),
-            "nearest 18446744073709551615 18446744073709551616 3 36893488130239234050\n",
+            "nearest 18446744073709551615 18446744073709570149 3 36893488130239234050\n",
         ),
         (answered(AnyAnswer::Highest(Some(highest))), "top 0 -1\n"),
     ]

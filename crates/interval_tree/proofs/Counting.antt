@@ -36,7 +36,7 @@ counted (false ∷ flags) (x ∷ xs) (suc k) e =
 
 -- some segment
 no_segment : Segment
-no_segment = record { id = 0; lo = 0; hi = 0; y = 0; stamp = 0; ordered = omega arith; hi_in_range = omega arith; y_in_range = omega arith }
+no_segment = record { id = 0; lo = 0; hi = 0; y = 0; stamp = 0; ordered = omega arith }
 
 module _ (x : ℕ) (part : Contents Segment) (valid : IsPart before part) where
   -- the live ones that have begun

@@ -13,7 +13,7 @@ use Rattle.query_laws.proofs.Permutations.{Permuted-append_right}
 use Rattle.row_blocks.proofs.Lists.{at_slot}
 use Rattle.builder_trait.specs.Parts.{Contents}
 use Rattle.map_shapes.specs.declared.point.Point.{Point}
-use Rattle.map_shapes.specs.declared.found.Found.{Found}
+use Rattle.map_model.specs.Found.{Found}
 use Rattle.map_shapes.specs.Found.{nearer_le}
 use Rattle.map_questions.specs.declared.near.Near.{Near}
 use Rattle.map_questions.specs.FirstFew.{IsFirstFew}

@@ -10,9 +10,8 @@ use Rattle.query_laws.proofs.Permutations.{Permuted-append_right, Permuted-appen
 use Rattle.map_model.specs.Shape.{squared_distance}
 use Rattle.map_model.specs.State.{Item}
 use Rattle.map_model.specs.Found as model
-use Rattle.map_model.specs.Found.{insert_by, sorted_by, found_le}
+use Rattle.map_model.specs.Found.{insert_by, sorted_by, found_le, Found}
 use Rattle.map_shapes.specs.declared.point.Point.{Point}
-use Rattle.map_shapes.specs.declared.found.Found.{Found}
 use Rattle.map_shapes.specs.Found.{nearer_le, found_from}
 use Rattle.map_shapes.specs.Point.{item_of}
 use Rattle.map_questions.specs.FirstFew.{IsTotalOrder, IsFirstFew, first_few, first_few_of_both, first, first_of_both}

@@ -4,7 +4,7 @@ use Rattle.std.specs.List.{flat_map, range_with_len}
 use Rattle.std.specs.Option.{option_to_list}
 use Rattle.builder_trait.specs.Parts.{Contents}
 use Rattle.map_shapes.specs.declared.point.Point.{Point}
-use Rattle.map_shapes.specs.declared.found.Found.{Found}
+use Rattle.map_model.specs.Found.{Found}
 use Rattle.map_shapes.specs.Found.{nearer_le}
 use Rattle.map_questions.specs.declared.near.Near.{Near}
 use Rattle.map_questions.specs.FirstFew.{first_few}

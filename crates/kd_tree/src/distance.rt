@@ -45,10 +45,10 @@ fn coarse_far(across: u64, up: u64) -> u64
 
 /// Whether a square is below all that a coarse one stands for.
 #[inline]
-pub(crate) fn is_below(square: u64, made: u64) -> bool
+pub(crate) fn is_below(square: u128, made: u64) -> bool
     ensures { result ≡ nat_lt square (least made) }
 {
-    square < made || (EXACT < made && u128::from(square) < least(made))
+    square < u128::from(made) || (EXACT < made && square < least(made))
 }
 
 /// The least square that a coarse one stands for.

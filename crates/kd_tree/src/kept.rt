@@ -1,6 +1,6 @@
 //! What keeps the nearest points so far: the tallies of both questions.
 ghost use Rattle.std.specs.Prelude.{◌≡◌, ℕ, ◌-◌, ◌≤◌, List, [], ◌∷◌, slice_get};
-ghost use Rattle.map_shapes.specs.declared.found.Found.{Found};
+ghost use Rattle.map_model.specs.Found.{Found};
 ghost use Rattle.map_shapes.specs.Found.{nearer_le};
 ghost use Rattle.map_questions.specs.FirstFew.{IsFirstFew, first_few_of_both};
 

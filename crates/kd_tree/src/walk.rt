@@ -4,7 +4,7 @@ ghost use Rattle.std.specs.List.{flat_map};
 ghost use Rattle.query_laws.specs.StepLedger.{Spends};
 ghost use Rattle.query_laws.specs.Permuted.{Permuted};
 ghost use Rattle.builder_trait.specs.Parts.{live_of};
-ghost use Rattle.map_shapes.specs.declared.found.Found.{Found};
+ghost use Rattle.map_model.specs.Found.{Found};
 ghost use Rattle.map_shapes.specs.declared.point.Point.{Point};
 ghost use Rattle.map_shapes.specs.Found.{nearer_le};
 ghost use Rattle.map_questions.specs.FirstFew.{IsFirstFew, first_few};
@@ -54,7 +54,7 @@ fn is_farther<T: KeepsNearest>(dist: u64, tally: &T) -> bool
 {
     tally
         .farthest()
-        .is_some_and(|worst| is_below(worst.dist, dist))
+        .is_some_and(|worst| is_below(worst.dist(), dist))
 }
 
 /// Whether a block has no live points, or none that is near enough.

@@ -9,8 +9,7 @@ use Rattle.std.proofs.lemmas.List.{take-map}
 use Rattle.query_laws.specs.Decomposable.{IsDecomposable}
 use Rattle.query_laws.specs.Sums.{capped_add, FitsU64, IsDecomposable-capped_sum}
 use Rattle.map_model.specs.Shape.{is_between, is_above, is_stabbed, squared_distance, height_of}
-use Rattle.map_model.specs.Found.{insert_by, sorted_by}
-use Rattle.map_shapes.specs.declared.found.Found.{Found}
+use Rattle.map_model.specs.Found.{insert_by, sorted_by, Found}
 use Rattle.map_shapes.specs.declared.peak.Peak.{Peak}
 use Rattle.map_shapes.specs.Found.{found_from, peak_from, nearer_le, higher_le}
 use Rattle.map_shapes.specs.Point.{item_of}

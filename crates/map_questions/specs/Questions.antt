@@ -5,7 +5,7 @@ use Rattle.map_model.specs.Shape.{is_above, is_stabbed, squared_distance}
 use Rattle.map_model.specs.Answer.{ids_with, by_distance, by_height}
 use Rattle.map_shapes.specs.declared.point.Point.{Point}
 use Rattle.map_shapes.specs.declared.segment.Segment.{Segment}
-use Rattle.map_shapes.specs.declared.found.Found.{Found}
+use Rattle.map_model.specs.Found.{Found}
 use Rattle.map_shapes.specs.declared.peak.Peak.{Peak}
 use Rattle.map_shapes.specs.Found.{found_from, peak_from}
 use Rattle.map_shapes.specs.Point.{shape_of, item_of}

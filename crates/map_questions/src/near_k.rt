@@ -26,10 +26,7 @@ impl NearK {
     pub fn found(&self, point: &Point) -> Found
         ensures { result ≡ found_at self.now.x self.now.y point.now }
     {
-        Found {
-            dist: point.squared_distance(self.x, self.y),
-            id: point.id,
-        }
+        point.found_from(self.x, self.y)
     }
 }
 

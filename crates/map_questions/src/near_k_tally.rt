@@ -1,6 +1,6 @@
 //! The tally of a question for the nearest points.
 ghost use Rattle.std.specs.Prelude.{◌≡◌, ◌-◌, ◌<◌, ◌≤◌, [], ◌∷◌, IsTrue, false, IfSome, MatchOption, slice_get, length, not, take_while};
-ghost use Rattle.map_model.specs.Found.{insert_by};
+ghost use Rattle.map_model.specs.Found.{insert_by, sorted_by};
 ghost use Rattle.map_shapes.specs.Found.{nearer_le};
 ghost use Rattle.map_questions.specs.FirstFew.{IsFirstFew, first_few_of_both};
 
@@ -70,23 +70,22 @@ impl NearKTally {
     }
 }
 
-/// Puts a point before the first that doesn't come before it.
+/// Puts a point into a list that is in order, before the first that doesn't come before it.
 fn insert_in_order(list: &mut FoundList, found: Found)
-    requires { length list.old < 64 }
+    requires room { length list.old < 64 }
+    requires sorted { sorted_by nearer_le list.old ≡ list.old }
     ensures { list.new ≡ insert_by nearer_le found list.old }
 {
     let place = count_before(list, &found);
     list.insert(place, found);
 }
 
-/// How many at the front come before a point.
+/// How many of a list that is in order come before a point.
 fn count_before(list: &FoundList, found: &Found) -> usize
+    requires { sorted_by nearer_le list.now ≡ list.now }
     ensures { result ≡ length (take_while (λ kept. not (nearer_le found.now kept)) list.now) }
 {
-    list.as_slice()
-        .iter()
-        .take_while(|kept| kept.before(found))
-        .count()
+    list.as_slice().partition_point(|kept| kept.before(found))
 }
 
 impl Tally for NearKTally {

@@ -15,7 +15,7 @@ pub struct NearTally {
 
 impl Model for NearTally {
     ghost use Rattle.std.specs.Prelude.{Option};
-    ghost use Rattle.map_shapes.specs.declared.found.Found.{Found};
+    ghost use Rattle.map_model.specs.Found.{Found};
 
     ghost Value = { Option Found };
 

@@ -1,19 +1,19 @@
--- Found points as the definitions have them, and back; and their orders.
+-- Found and high points as the definitions have them, and back; and their orders.
 use Rattle.std.specs.Prelude.{Bool}
 use Rattle.map_model.specs.Found as model
-use Rattle.map_shapes.specs.declared.found.Found.{Found}
+use Rattle.map_model.specs.Found.{Found}
 use Rattle.map_shapes.specs.declared.peak.Peak.{Peak}
 
--- a found point as the definitions have it
-abbrev pub found_of : Found → model.Found
+-- a found point, which contracts see as the definitions have it
+abbrev pub found_of : Found → Found
 found_of f = record { dist = f.dist; id = f.id }
 
 -- a high point as the definitions have it
 abbrev pub peak_of : Peak → model.Peak
 peak_of p = record { y = p.y; id = p.id }
 
--- the way back: a found point of the definitions
-abbrev pub found_from : model.Found → Found
+-- the way back
+abbrev pub found_from : Found → Found
 found_from f = record { dist = f.dist; id = f.id }
 
 -- the way back: a high point of the definitions

@@ -10,6 +10,7 @@ pub mod Kind
 pub mod IndexSet
 pub mod Segment
 pub mod Shape
+pub mod FoundParts
 pub mod Found
 pub mod Cost
 pub mod Version

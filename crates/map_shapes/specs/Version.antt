@@ -1,5 +1,5 @@
 -- A version of a script as the definitions have it, and its coordinates as whole numbers.
-use Rattle.std.specs.Prelude.{ℕ, ◌+◌, ◌-◌, suc, ℤ, pos, negsuc, ◌-ℤ◌, Option, Some, None, nat_le, if◌then◌else◌}
+use Rattle.std.specs.Prelude.{ℕ, ◌-◌, suc, ℤ, pos, negsuc, ◌-ℤ◌, Option, Some, None, nat_le, if◌then◌else◌}
 use Rattle.map_model.specs.Version as model
 use Rattle.map_model.specs.Version.{kept, greatest_coordinate}
 use Rattle.map_shapes.specs.declared.version.Version.{Version}

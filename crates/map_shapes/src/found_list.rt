@@ -13,7 +13,7 @@ pub struct FoundList {
 
 impl Model for FoundList {
     ghost use Rattle.std.specs.Prelude.{List};
-    ghost use Rattle.map_shapes.specs.declared.found.Found.{Found};
+    ghost use Rattle.map_model.specs.Found.{Found};
 
     ghost Value = { List Found };
 

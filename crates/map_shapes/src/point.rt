@@ -1,7 +1,7 @@
 // A point with a weight.
 ghost use Rattle.std.specs.Prelude.{◌<◌, ◌^◌};
 
-use crate::Rect;
+use crate::{Found, Rect};
 
 /// A point of a layer. Coordinates are as they are kept ([`Version`](crate::Version)), and a weight is at most 2,147,483,647;
 /// `stamp` is the number of adds that its layer accepted before it.
@@ -28,12 +28,10 @@ impl Point {
         rect.x1 <= self.x && self.x <= rect.x2 && rect.y1 <= self.y && self.y <= rect.y2
     }
 
-    /// The square of its distance from a place.
-    pub fn squared_distance(&self, x: u32, y: u32) -> u128
-        ensures { result ≡ squared_distance x y (shape_of self.now) }
+    /// What a search for points near a place finds of it.
+    pub fn found_from(&self, x: u32, y: u32) -> Found
+        ensures { result ≡ record { dist = squared_distance x y (shape_of self.now); id = self.now.id } }
     {
-        let across = u64::from(self.x.abs_diff(x));
-        let up = u64::from(self.y.abs_diff(y));
-        u128::from(across * across) + u128::from(up * up)
+        Found::new(self.id, self.x.abs_diff(x), self.y.abs_diff(y))
     }
 }

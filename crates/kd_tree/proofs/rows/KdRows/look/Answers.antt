@@ -2,7 +2,7 @@ use Rattle.std.proofs.Common.{◌≡◌, ◌+◌, ◌≤◌, List, [], ◌∷◌
 use Rattle.std.proofs.lemmas.List.Elements.{All-map}
 use Rattle.std.proofs.lemmas.Option.{slice_get-get_or}
 use Rattle.map_shapes.specs.declared.point.Point.{Point}
-use Rattle.map_shapes.specs.declared.found.Found.{Found}
+use Rattle.map_model.specs.Found.{Found}
 use Rattle.map_shapes.specs.Found.{nearer_le}
 use Rattle.map_questions.specs.FirstFew.{first_few}
 use Rattle.map_questions.specs.Questions.{found_at}

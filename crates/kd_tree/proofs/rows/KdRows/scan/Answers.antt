@@ -4,7 +4,7 @@ use Rattle.std.proofs.lemmas.List.{map-append}
 use Rattle.std.proofs.lemmas.Option.{get_or_from_slice_get}
 use Rattle.query_laws.proofs.Counting.{Spends-nothing, Spends-then, Spends-within}
 use Rattle.map_shapes.specs.declared.point.Point.{Point}
-use Rattle.map_shapes.specs.declared.found.Found.{Found}
+use Rattle.map_model.specs.Found.{Found}
 use Rattle.map_shapes.specs.Found.{nearer_le}
 use Rattle.map_questions.specs.FirstFew.{IsFirstFew}
 use Rattle.map_questions.specs.Questions.{found_at}

@@ -1,10 +1,10 @@
 use Rattle.std.proofs.Common.{◌≡◌, ◌-◌, ◌≤◌, Bool, true, not, List, [], ◌∷◌, take, slice_get, sym, ap, ◌∙◌, subst}
 use Rattle.std.specs.Prelude.{IsTrue, MatchOption}
-use Rattle.map_model.specs.Found.{insert_by}
-use Rattle.map_shapes.specs.declared.found.Found.{Found}
+use Rattle.map_model.specs.Found.{insert_by, sorted_by, Found}
 use Rattle.map_shapes.specs.Found.{nearer_le}
 use Rattle.map_questions.specs.declared.near_k_tally.NearKTally.TheInside.{Inside}
 use Rattle.map_questions.specs.FirstFew.{IsFirstFew, first_few_of_both}
+use Rattle.map_questions.specs.FirstFewLaws.{sorted_by-take}
 use Rattle.map_questions.specs.NearestSoFar.{NearestSoFar}
 use Rattle.map_questions.specs.QuestionLaws.{IsTotalOrder-nearer_le}
 use Rattle.map_questions.proofs.Offers.{HasRoomFor, HasRoomFor-take, IsFirstFew-insert_by, first_few-worse}
@@ -36,6 +36,13 @@ few_kept : (old : Inside) (x : Found) (front new : List Found) → front ≡ tak
 few_kept old x front new is ready grows =
     subst (IsFirstFew nearer_le old.k) (sym (grows ∙ ap (insert_by nearer_le x) is))
     (IsFirstFew-insert_by IsTotalOrder-nearer_le old.k old.found x (take (old.k - 1) old.found) ready)
+
+-- the front is in order too
+pub insert_in_order-requires-clause-sorted : goal.insert_in_order-requires-clause-sorted
+insert_in_order-requires-clause-sorted c =
+    let old = c.self.inside in
+    subst (λ (front : List Found). sorted_by nearer_le front ≡ front) (sym c.truncate.ensures)
+    (sorted_by-take IsTotalOrder-nearer_le (old.k - 1) old.found c.self.invariant.2.sorted)
 
 pub invariant_of-self : goal.invariant_of-self
 invariant_of-self c =
