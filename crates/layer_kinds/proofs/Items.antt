@@ -118,7 +118,7 @@ module _ {I : Type 0} (id_of : I → ℕ) (item_of : I → Item) (same : (x : I)
       ∙ ap (λ n. without_item n (items_of item_of es)) (same_identifier stamped alike ∙ is ∙ sym (same item)) in (
         live_by ∙ there,
         ap (items_of item_of) renewed
-        ∙ map-append (λ e. item_of e.item) (without id_of (id_of stamped) es) (record { handle = handle; item = stamped } ∷ [])
-        ∙ ap (λ items. items ++ item_of stamped ∷ []) rest
-        ∙ ap (λ i. without_item (item_of item).id (items_of item_of es) ++ i ∷ []) alike,
+            ∙ map-append (λ e. item_of e.item) (without id_of (id_of stamped) es) (record { handle = handle; item = stamped } ∷ [])
+            ∙ ap (λ items. items ++ item_of stamped ∷ []) rest
+            ∙ ap (λ i. without_item (item_of item).id (items_of item_of es) ++ i ∷ []) alike,
       )

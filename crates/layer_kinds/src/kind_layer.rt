@@ -210,7 +210,8 @@ impl<X: Indexes> KindLayer<X> {
         };
         self.indexes.prepare(self.directory.chain(), steps)?;
         let moved = item.stamped(self.directory.adds());
-        self.indexes.relocate(self.directory.chain(), handle, moved, steps);
+        self.indexes
+            .relocate(self.directory.chain(), handle, moved, steps);
         self.directory.renew(handle, moved);
         Ok(spent(bounds.move_turns, bounds.move_marks, steps))
     }
