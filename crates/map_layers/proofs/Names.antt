@@ -1,25 +1,36 @@
 -- Layers by their names.
-use Rattle.std.proofs.Common.{◌≡◌, ℕ, zero, suc, ◌+◌, ◌<◌, ◌≤◌, ◌∙◌, Bool, true, false, List, [], ◌∷◌, ◌++◌, Option, Some, None, Result, Ok, Err, length, map, bytes_eq, get_or, set, refl, sym, ap, subst, arith}
-use Rattle.std.specs.List.{list_any, position_from, refill}
+use Rattle.std.proofs.Common.{◌≡◌, ℕ, zero, suc, ◌+◌, ◌<◌, ◌≤◌, ◌∙◌, Bool, true, false, if◌then◌else◌, List, [], ◌∷◌, ◌++◌, Option, Some, None, Result, Ok, Err, length, map, bytes_eq, get_or, set, refl, sym, ap, subst, arith}
+use Rattle.std.specs.List.{list_any, position_from, refill, All}
 use Rattle.std.specs.Option.{is_some, option_map}
 use Rattle.std.proofs.lemmas.Grind.{common_steps}
-use Rattle.std.proofs.lemmas.List.{length-set}
+use Rattle.std.proofs.lemmas.List.{length-set, length-map, get_or-map}
 use Rattle.std.proofs.Math.Seq.{map-set_same}
 use Rattle.std.proofs.lemmas.List.Folds.{list_any-append}
 use Rattle.std.proofs.lemmas.List.Sums.{sum_by-set}
 use Rattle.std.proofs.lemmas.Slice.Eq.{bytes_eq-Decides}
 use Rattle.log_levels.proofs.Held.{written}
-use Rattle.map_model.specs.State.{Item, layer_named, changed, with_items}
-use Rattle.map_model.specs.Machine.{is_taken}
+use Rattle.map_model.specs.State.{Item, Layer, State, layer_named, changed}
+use Rattle.map_model.specs.Version.{Version}
 use Rattle.layer_kinds.specs.Memory.{Memory}
 use Rattle.layer_kinds.specs.declared.faults.UpdateFault.TheVariants as of_kind
 use Rattle.layer_kinds.proofs.Keeping as keeping
 use Rattle.map_layers.specs.declared.faults.UpdateFault.{UpdateFault}
 use Rattle.map_layers.specs.declared.faults.UpdateFault.TheVariants.{NoLayer, WrongKind, Duplicate, Unknown, Full, NoMemory}
 use Rattle.map_layers.specs.Memory.{KeepsMemory, KeepsMemoryWhere, KeepsMemoryIn}
-use Rattle.map_layers.specs.Layer.{LayerState, name_in, adds_in, items_in, layer_of}
-use Rattle.map_layers.specs.Layers.{has_name, named, place_named, names_of, adds_of, AllDiffer}
+use Rattle.map_layers.specs.Layer.{LayerState, name_in, limit_in, adds_in, items_in, layer_of}
+use Rattle.map_layers.specs.Layers.{has_name, named, place_named, names_of, limits_of, adds_of, map_with, AllDiffer}
 use Rattle.map_layers.proofs.Answering.{IsRenewed}
+
+-- a map of these layers
+abbrev pub state_of : Version → ℕ → List Layer → State
+state_of version most layers = record { version = version; most_items = most; layers = layers }
+
+pub state_of-same : {v w : Version} {m n : ℕ} {ls ks : List Layer} → v ≡ w → m ≡ n → ls ≡ ks → state_of v m ls ≡ state_of w n ks
+state_of-same same_version same_most same_layers = λ i. record { version = same_version i; most_items = same_most i; layers = same_layers i }
+
+-- the layers with a change of the items of that of a name
+abbrev with_change : List ℕ → (List Item → List Item) → List Layer → List Layer
+with_change name change layers = map (λ layer. if bytes_eq layer.name name then changed change layer else layer) layers
 
 -- the layer of a name is that of the definitions
 layer_named-named : (name : List ℕ) (ls : List LayerState) → layer_named name (map layer_of ls) ≡ option_map layer_of (named name ls)
@@ -45,7 +56,7 @@ is_among-named name [] = refl
 is_among-named name (l ∷ ls) = grind (arith, common_steps, is_among-named name ls)
 
 -- no layer of the name is there
-unnamed : (name : List ℕ) (f : List Item → List Item) (ls : List LayerState) → named name ls ≡ None → with_items name f (map layer_of ls) ≡ map layer_of ls
+unnamed : (name : List ℕ) (f : List Item → List Item) (ls : List LayerState) → named name ls ≡ None → with_change name f (map layer_of ls) ≡ map layer_of ls
 unnamed name f [] none = refl
 unnamed name f (l ∷ ls) none = grind (arith, common_steps, unnamed name f ls)
 
@@ -62,9 +73,8 @@ AllDiffer-push (n ∷ ns) name differ new =
     list_any-append (λ other. bytes_eq other n) ns (name ∷ []) ∙ grind (arith, common_steps, differ.0, swapped n name other) in
     (more, AllDiffer-push ns name differ.1 rest)
 
-pub is_taken-named : (name : List ℕ) (ls : List LayerState) → is_taken name (map layer_of ls) ≡ is_some (named name ls)
-is_taken-named name [] = refl
-is_taken-named name (l ∷ ls) = grind (arith, common_steps, is_taken-named name ls)
+pub is_taken-named : (name : List ℕ) (ls : List LayerState) → is_some (layer_named name (map layer_of ls)) ≡ is_some (named name ls)
+is_taken-named name ls = ap is_some (layer_named-named name ls) ∙ is_some-seen layer_of (named name ls) refl
 
 -- a slice of all layers was written
 refilled : (items written_to : List LayerState) (k : ℕ) (l' : LayerState) → written_to ≡ items → refill (length items) items (set written_to k l') ≡ set written_to k l'
@@ -91,7 +101,7 @@ none-after name l ls differ has =
 
 module _ (name : List ℕ) (change : List Item → List Item) (d l' : LayerState) where
   renewed : (i k : ℕ) (ls : List LayerState) → position_from (has_name name) i ls ≡ Some (i + k) → AllDiffer (names_of ls)
-      → layer_of l' ≡ changed change (layer_of (get_or ls k d)) → map layer_of (set ls k l') ≡ with_items name change (map layer_of ls)
+      → layer_of l' ≡ changed change (layer_of (get_or ls k d)) → map layer_of (set ls k l') ≡ with_change name change (map layer_of ls)
   renewed i k [] found differ is = absurd cc
   renewed i zero (l ∷ ls) found differ is =
       let has : bytes_eq (name_in l) name ≡ true = grind (arith, common_steps, place_from name (i + 1) i ls) in
@@ -101,6 +111,11 @@ module _ (name : List ℕ) (change : List Item → List Item) (d l' : LayerState
       let other : bytes_eq (name_in l) name ≡ false = grind (arith, common_steps) in
       let after = renewed (i + 1) k ls (grind (arith, common_steps)) differ.1 is in
       grind (arith, common_steps)
+
+-- how many items a layer may have, where all may have as many
+limit-of : (most k : ℕ) (ls : List LayerState) (d : LayerState) → All (λ n. n ≡ most) (limits_of ls) → k < length ls → limit_in (get_or ls k d) ≡ most
+limit-of most k ls d limits within =
+    sym (get_or-map limit_in ls k d most within) ∙ limits k most (subst (λ n. k < n) (sym (length-map ls limit_in)) within)
 
 -- what memory the layers keep
 
@@ -152,6 +167,14 @@ module _ (name : List ℕ) (k : ℕ) (items ls : List LayerState) (d l' : LayerS
   pub AllDiffer-at : AllDiffer (names_of items) → AllDiffer (names_of ls')
   AllDiffer-at differ = subst AllDiffer (sym (ap names_of is_set ∙ map-set_same name_in ls k l' d same_name ∙ ap names_of written_to)) differ
 
+  -- each may have as many items as before
+  pub limits-at : limit_in l' ≡ limit_in l → limits_of ls' ≡ limits_of items
+  limits-at same_limit = ap limits_of is_set ∙ map-set_same limit_in ls k l' d same_limit ∙ ap limits_of written_to
+
+  -- it may have as many as all
+  pub limit-at : (most : ℕ) → All (λ n. n ≡ most) (limits_of items) → limit_in l ≡ most
+  limit-at most limits = limit-of most k ls d (subst (λ xs. All (λ n. n ≡ most) (limits_of xs)) (sym written_to) limits) within
+
   -- as many adds more as it has
   pub adds-at : adds_of ls' + adds_in l ≡ adds_of items + adds_in l'
   adds-at = ap (λ xs. adds_of xs + adds_in l) is_set ∙ sum_by-set adds_in ls k l' d within ∙ ap (λ xs. adds_of xs + adds_in l') written_to
@@ -159,16 +182,18 @@ module _ (name : List ℕ) (k : ℕ) (items ls : List LayerState) (d l' : LayerS
   pub found-at : layer_named name (map layer_of items) ≡ Some (layer_of l)
   found-at = layer_named-Some name items (subst (λ xs. named name xs ≡ Some l) written_to (named-place name 0 k ls d place))
 
-  pub IsRenewed-at : AllDiffer (names_of items) → IsRenewed name (map layer_of items) (map layer_of ls') (layer_of l) (items_in l')
-  IsRenewed-at differ = record {
+  pub IsRenewed-at : AllDiffer (names_of items) → (version : Version) (most : ℕ)
+      → IsRenewed name (map_with version most items) (map_with version most ls') (layer_of l) (items_in l')
+  IsRenewed-at differ version most = record {
     found = found-at;
     same = λ same_items.
         let same : layer_of l' ≡ layer_of l = kept ∙ ap (λ xs. record (layer_of l) { items = xs }) same_items in
-        ap (map layer_of) is_set ∙ map-set_same layer_of ls k l' d same ∙ ap (map layer_of) written_to;
+        ap (state_of version most) (ap (map layer_of) is_set ∙ map-set_same layer_of ls k l' d same ∙ ap (map layer_of) written_to);
     changed = λ change new_items.
         let is : layer_of l' ≡ changed change (layer_of l) = kept ∙ ap (λ xs. record (layer_of l) { items = xs }) new_items in
-        ap (map layer_of) is_set ∙ renewed name change d l' 0 k ls place (subst (λ xs. AllDiffer (names_of xs)) (sym written_to) differ) is
-        ∙ ap (λ xs. with_items name change (map layer_of xs)) written_to;
+        ap (state_of version most)
+        (ap (map layer_of) is_set ∙ renewed name change d l' 0 k ls place (subst (λ xs. AllDiffer (names_of xs)) (sym written_to) differ) is
+        ∙ ap (λ xs. with_change name change (map layer_of xs)) written_to);
   }
 
   pub KeepsMemoryIn-at : {T : Type 0} (result : Result T UpdateFault) → KeepsMemory result l.memory l'.memory → KeepsMemoryIn name result items ls'

@@ -92,7 +92,7 @@ impl<P: OverPoints, S: OverSegments> Layers<P, S> {
         ensures updates { self.new.updates ≡ self.old.updates }
         ensures kept { self.new.layers ≡ self.old.layers }
     {
-        if self.layers.len() > 0 {
+        if !self.layers.is_empty() {
             return Err(HasLayers);
         }
         self.version = version;
@@ -114,8 +114,7 @@ impl<P: OverPoints, S: OverSegments> Layers<P, S> {
         if self.layers.len() >= MOST_LAYERS {
             return Err(CreateFault::NoRoom);
         }
-        self.layers
-            .push(Layer::new(self.alloc, *name, self.most_items, kind, indexes));
+        self.layers.push(Layer::new(self.alloc, *name, self.most_items, kind, indexes));
         Ok(())
     }
 

@@ -2,8 +2,9 @@
 //! answer.
 //!
 //! Each call that stands for a command makes one step of the machine of the definitions, or is refused memory that the command may lack,
-//! and the map stays (`IsAnswered`). The layers lie in place, eight of them, so `create` takes no memory. They are generic in their indexes,
-//! and seen without them (`LayerState`): a proof above never opens an index.
+//! and the map stays (`IsAnswered`). The layers lie in place, eight of them, so neither `create` nor `choose_version` takes memory. They are
+//! generic in their indexes, and seen without them (`LayerState`): a proof above never opens an index. All may have as many items as the map
+//! says.
 //!
 //! A question begins one lap, and counts no turn and no mark in it. Over P parts, of a layer of n items and h its greatest level, with k
 //! identifiers in the answer:

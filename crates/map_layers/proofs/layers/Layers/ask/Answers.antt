@@ -26,11 +26,11 @@ returns-in-Some-clause-cost g c =
     let ls = c.args.self.now.layers in
     let l = c.in-Some.layer.now in
     let found : named name ls ≡ Some l = search rules in
-    let here : layer_named name (map_of c.args.self.now) ≡ Some (layer_of l) = layer_named-Some name ls found in
+    let here : layer_named name (map_of c.args.self.now).layers ≡ Some (layer_of l) = layer_named-Some name ls found in
     IfOk-weaker c.ask.result _ _
-    (λ given asking. subst (λ s. IsAskingIn (layer_named name (map_of c.args.self.now)) (λ level n. most_for level given.1.parts n given.0.answer) given.1 s c.ask.new.steps)
+    (λ given asking. subst (λ s. IsAskingIn (layer_named name (map_of c.args.self.now).layers) (λ level n. most_for level given.1.parts n given.0.answer) given.1 s c.ask.new.steps)
     c.start_lap.ensures
-    (IsAskingIn-of (layer_named name (map_of c.args.self.now)) (layer_of l) here (λ level n. most_for level given.1.parts n given.0.answer) given.1 asking c.ask.ensures.reads))
+    (IsAskingIn-of (layer_named name (map_of c.args.self.now).layers) (layer_of l) here (λ level n. most_for level given.1.parts n given.0.answer) given.1 asking c.ask.ensures.reads))
     c.ask.ensures.cost
 
 pub returns-in-Some-clause-touches : goal.returns-in-Some-clause-touches
@@ -39,9 +39,9 @@ returns-in-Some-clause-touches g c =
     let ls = c.args.self.now.layers in
     let l = c.in-Some.layer.now in
     let found : named name ls ≡ Some l = search rules in
-    let here : layer_named name (map_of c.args.self.now) ≡ Some (layer_of l) = layer_named-Some name ls found in
+    let here : layer_named name (map_of c.args.self.now).layers ≡ Some (layer_of l) = layer_named-Some name ls found in
     let question = question_of c.args.question.now in
-    subst (λ s. IsTouchingIn (layer_named name (map_of c.args.self.now)) (touches_for question) c.ask.result s c.ask.new.steps) c.start_lap.ensures
+    subst (λ s. IsTouchingIn (layer_named name (map_of c.args.self.now).layers) (touches_for question) c.ask.result s c.ask.new.steps) c.start_lap.ensures
     (subst (λ o. IsTouchingIn o (touches_for question) c.ask.result c.start_lap.new.self c.ask.new.steps) (sym here) c.ask.ensures.touches)
 
 pub returns-in-None-clause-answered : goal.returns-in-None-clause-answered
