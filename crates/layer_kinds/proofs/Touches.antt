@@ -1,5 +1,5 @@
 -- What a question touches over the parts of an index.
-use Rattle.std.proofs.Common.{◌≡◌, ℕ, suc, ◌+◌, ◌-◌, ◌*◌, ◌^◌, ◌<◌, ◌≤◌, ◌∙◌, Bool, List, [], ◌∷◌, ◌++◌, Option, Some, None, Result, Ok, Err, true, false, length, map, filter, All, ⊎_elim, refl, ap, arith, pow_mono}
+use Rattle.std.proofs.Common.{◌≡◌, ℕ, suc, ◌+◌, ◌*◌, ◌^◌, ◌<◌, ◌≤◌, ◌∙◌, Bool, List, [], ◌∷◌, ◌++◌, Option, Some, None, Result, Ok, Err, true, false, length, map, filter, All, ⊎_elim, refl, ap, arith, pow_mono}
 use Rattle.std.specs.Prelude.{sum_by, IfSome}
 use Rattle.std.specs.List.{flat_map}
 use Rattle.std.specs.Option.{is_some}

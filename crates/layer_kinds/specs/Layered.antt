@@ -8,7 +8,7 @@ use Rattle.layer_kinds.specs.declared.faults.AskFault.TheVariants as ask
 use Rattle.layer_kinds.specs.declared.faults.UpdateFault.{UpdateFault}
 use Rattle.layer_kinds.specs.declared.faults.UpdateFault.TheVariants.{Duplicate, Unknown, Full, NoMemory}
 
--- a layer: its name, how many items it may have, its entries in order of add, how many adds and moves there ever were, and the indexes over the entries
+-- a layer: its name, how many items it may have, its entries in order of add or move, how many of these there ever were, and its indexes
 pub record Layered (X I : Type 0) : Type 0 where
   pub name : List ℕ
   pub most_items : ℕ
@@ -29,7 +29,8 @@ IsAdd most old item new (Err (Unknown id)) = ⊥
 IsAdd most old item new (Err Full) = (is_live item.id old ≡ false) × (most ≤ length old) × (new ≡ old)
 IsAdd most old item new (Err NoMemory) = (is_live item.id old ≡ false) × (length old < most) × (new ≡ old)
 
--- An item whose identifier isn't live is refused, and any other goes to the end, where the one of that identifier goes, but for want of memory.
+-- An item whose identifier isn't live is refused; for any other the item that has its identifier goes out, and it comes last, but for want of
+-- memory.
 abbrev pub IsMove : {T : Type 0} → List Item → Item → List Item → Result T UpdateFault → Type 0
 IsMove old item new (Ok done) = (is_live item.id old ≡ true) × (new ≡ with_item item (without_item item.id old))
 IsMove old item new (Err (Duplicate id)) = ⊥

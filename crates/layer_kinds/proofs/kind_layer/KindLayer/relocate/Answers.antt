@@ -1,12 +1,11 @@
 use Rattle.std.proofs.Common.{rules, ◌≡◌, ◌+◌, ◌*◌, ◌^◌, ◌≤◌, ◌<◌, ◌∙◌, true, false, [], ◌∷◌, ◌++◌, Some, None, Err, length, ap, sym, subst, refl, arith}
 use Rattle.std.specs.Option.{is_some}
 use Rattle.std.proofs.lemmas.List.{length-append}
-use Rattle.id_chain.specs.Chain.{HandlesDiffer, without_handle}
+use Rattle.id_chain.specs.Chain.{HandlesDiffer}
 use Rattle.id_directory.specs.Directory.{handle_of, without, IdsDiffer}
 use Rattle.id_directory.proofs.Identifiers.{same_by_handle}
 use Rattle.global_rebuild.specs.Index.{renewed}
 use Rattle.map_model.specs.Cost.{Moves, greatest_level}
-use Rattle.map_shapes.specs.declared.spent.Spent.{Spent}
 use Rattle.layer_kinds.specs.declared.faults.UpdateFault.TheVariants as faults
 use Rattle.layer_kinds.specs.Shares.{count_of, IsShared, move_turns, move_marks}
 use Rattle.layer_kinds.specs.Costs.{IsCost, IsInBounds}
