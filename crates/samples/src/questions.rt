@@ -87,6 +87,6 @@ pub fn numbers(alloc: Global, answer: AnyAnswer) -> Result<Vec<u128>, AllocError
 fn pairs(alloc: Global, found: &[Found]) -> Result<Vec<u128>, AllocError> {
     let pairs = found
         .iter()
-        .flat_map(|found| [u128::from(found.id), found.dist]);
+        .flat_map(|found| [u128::from(found.id()), found.dist()]);
     pairs.collect(alloc)
 }

@@ -133,7 +133,7 @@ fn id_in(answer: &AnyAnswer) -> u64
     ensures { result ≡ summaries.id_in (answer_of answer.now) }
 {
     match answer {
-        AnyAnswer::NearestOne(Some(found)) => found.id,
+        AnyAnswer::NearestOne(Some(found)) => found.id(),
         AnyAnswer::Highest(Some(peak)) => peak.id,
         _ => 0,
     }
