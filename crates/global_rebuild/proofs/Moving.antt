@@ -17,11 +17,11 @@ use Rattle.log_levels.specs.Cost.{IsWithin}
 use Rattle.log_levels.specs.Trades.{Trades, Ticks}
 use Rattle.log_method.specs.Stack.{Stacked, Inserts, Deletes}
 use Rattle.part_store.specs.Store.{Stored, KeepsBoth}
-use Rattle.global_rebuild.specs.Index.{Shadow, Indexed, OwnsMemory, IsShadowOf, IsInTime, IsQuiet, live_in, stamp_at, unwalked, renewed}
+use Rattle.global_rebuild.specs.Index.{Shadow, Indexed, OwnsMemory, IsShadowOf, IsIndex, IsInTime, IsQuiet, live_in, stamp_at, unwalked, renewed}
 use Rattle.global_rebuild.proofs.Walking.{item_of, All-part, Permuted-appended, below-appended, stamp_at-item, item_at-below}
 use Rattle.global_rebuild.proofs.Forgetting.{length-without_handle, IsShadowOf-deleted, IsShadowOf-moved, IsShadowOf-after, one_fewer}
 use Rattle.global_rebuild.proofs.Appending.{IsShadowOf-appended}
-use Rattle.global_rebuild.proofs.Dropping.{IsDropped, HandlesDiffer-without, rise_without, h, p, others_left, one_dropped, owned, own, ahead, same}
+use Rattle.global_rebuild.proofs.Dropping.{IsDropped, in_order, HandlesDiffer-without, rise_without, h, p, others_left, one_dropped, owned, own, ahead, same}
 use Rattle.global_rebuild.proofs.Weights.{IsSoundOf, as_many, ended_all}
 use Rattle.global_rebuild.proofs.Owning.{owns-main, owns-fresh, owns-shadow, owns-moved}
 
@@ -200,6 +200,10 @@ module _ {P Item : Type 0} {contents : P → Contents Item} {stamp : Item → �
               (subst (λ c. Permuted (live_items contents r.stack.levels) (map item_of (before_cursor c es))) at mine.live);
           below = λ k d within. let low = mine.below k d within in omega (arith, low, was, now, less);
         }
+
+    -- wherever the walk goes on, the index is in order
+    pub in_order_at : (r' : Shadow P Item) → r'.stack ≡ r.stack → IsIndex contents (record i { store = store; main = main; shadow = Some r' })
+    in_order_at = in_order contents (record i { store = store; main = main }) r (owns-moved owned_then r there) in_time_at m.dropped.valid.left
 
     -- the cursor was at it, and goes on to the next one, or else to the one in its place
     pub moved_at : r.cursor ≡ Some handle → (r' : Shadow P Item) → r'.stack ≡ r.stack → r'.cursor ≡ first_or (after handle es) (Some handle)

@@ -1,4 +1,4 @@
-use Rattle.std.proofs.Common.{rules, ◌≡◌, ℕ, ◌+◌, ◌*◌, ◌^◌, ◌<◌, ◌≤◌, ◌∙◌, true, false, List, Some, None, ap, subst, arith}
+use Rattle.std.proofs.Common.{rules, ◌≡◌, ℕ, ◌+◌, ◌*◌, ◌^◌, ◌<◌, ◌≤◌, ◌∙◌, true, false, List, Some, None, refl, ap, subst, arith}
 use Rattle.id_chain.specs.Chain.{is_linked, before_cursor}
 use Rattle.part_store.specs.Store.{KeepsBoth}
 use Rattle.log_levels.specs.Slots.{Slots}
@@ -12,7 +12,7 @@ use Rattle.global_rebuild.proofs.Stocking.{stocked_less, main_ticks, main_ticks_
 use Rattle.global_rebuild.proofs.Walking.{All-part}
 use Rattle.global_rebuild.proofs.Weights.{main_few, main_light}
 use Rattle.global_rebuild.proofs.Dropping.{is_over, IsDropped, walked_light, walked_few_enough, walked_item, one_delete}
-use Rattle.global_rebuild.proofs.Moving.{IsMoved, keeps_then, turns_rise, few_then, heavier, moved_quiet, moved_starts, moved_without, moved_at, moved_after, more_left, as_many_left}
+use Rattle.global_rebuild.proofs.Moving.{IsMoved, keeps_then, turns_rise, few_then, heavier, moved_quiet, moved_starts, moved_without, in_order_at, moved_at, moved_after, more_left, as_many_left}
 use Rattle.global_rebuild.proofs.index.Index.commit_move.Given.{Over}
 use Rattle.global_rebuild.proofs.index.Index.commit_move.Goals.{After-insert}
 use Rattle.global_rebuild.proofs.index.Index.commit_move.Goals as goal
@@ -127,7 +127,7 @@ returns-then-is_in_shadow-clause-chain g c =
 pub invariant_of-self-then-eq : goal.invariant_of-self-then-eq
 invariant_of-self-then-eq g c =
     let m = moved g (goal.at.invariant_of-self-then-eq g c).After-insert in
-    (moved_at m c.in-Some.shadow c.in-Some.is (search rules) c.go_to.new.self (ap (λ s. s.stack) c.go_to.ensures) (ap (λ s. s.cursor) c.go_to.ensures ∙ cc)).0
+    in_order_at m c.in-Some.shadow c.in-Some.is c.go_to.new.self (ap (λ s. s.stack) c.go_to.ensures)
 
 pub returns-then-eq-clause-chain : goal.returns-then-eq-clause-chain
 returns-then-eq-clause-chain g c =
@@ -136,7 +136,7 @@ returns-then-eq-clause-chain g c =
 
 pub invariant_of-self-else-eq : goal.invariant_of-self-else-eq
 invariant_of-self-else-eq g c =
-    (moved_after (moved g (goal.at.invariant_of-self-else-eq g c).After-insert) c.in-Some.shadow c.in-Some.is (search rules) (search rules)).0
+    in_order_at (moved g (goal.at.invariant_of-self-else-eq g c).After-insert) c.in-Some.shadow c.in-Some.is c.in-Some.shadow refl
 
 pub returns-else-eq-clause-chain : goal.returns-else-eq-clause-chain
 returns-else-eq-clause-chain g c =
