@@ -6,7 +6,7 @@ use map_io::{Sink, WriteFault};
 use map_layers::{Layers, OverPoints, OverSegments};
 use map_shapes::Version;
 use query_laws::step_ledger::Steps;
-use script_lang::{Command, parse};
+use script_lang::{Command, LineFault, parse};
 use std::alloc::Global;
 use std::marker::Model;
 use std::sync::ledger::Ledger;
@@ -52,7 +52,7 @@ impl<P: OverPoints, S: OverSegments> Session<P, S> {
     ghost use Rattle.map_model.specs.Reply.{is_refusal};
     ghost use Rattle.map_model.specs.Output.{Given, AnswersTo, written_for};
     ghost use Rattle.map_shapes.specs.Version.{version_of};
-    ghost use Rattle.script_lang.specs.Command.{command_of};
+    ghost use Rattle.script_lang.specs.Command.{command_of, parsed};
     ghost use Rattle.answer_text.specs.Reply.{reply_of, cost_of};
     ghost use Rattle.answer_text.specs.Pieces.{DeliversLines, CutOffInPieces};
     ghost use Rattle.map_session.specs.Work.{work_said, is_update_said, lap_said, IsCounted, TellsEveryPart};
@@ -160,13 +160,20 @@ impl<P: OverPoints, S: OverSegments> Session<P, S> {
         }
     }
 
+    /// What a line says in the version of the session.
+    fn read(&self, line: &[u8]) -> Result<Option<Command>, LineFault>
+        ensures { parsed result ≡ parse (map_in self.now).version line.now }
+    {
+        parse(line, self.version())
+    }
+
     /// Executes a line, and gives its reply: `None` where the line says nothing.
     fn answer<L: Ledger>(&mut self, line: &[u8], steps: &mut Steps<L>) -> Option<Reply>
         requires { self.old.lines < 2 ^ 40 }
         ensures executed { ExecutesLine self.old steps.old line.now (given_by result (map_in self.new)) self.new steps.new }
         ensures silent { (result ≡ None) ↔ (parse (map_in self.old).version line.now ≡ Ok None) }
     {
-        match parse(line, self.version()) {
+        match self.read(line) {
             Ok(Some(command)) => Some(self.command(&command, steps)),
             Ok(None) => {
                 self.lines += 1;

@@ -23,8 +23,8 @@ returns-in_err-write_reply-clause-fault g c =
     rw p.1 (
       given,
       c.in-Some.ensures.executed,
-      subst (λ (v : Version). CutOffInPieces (g.K.Sink.told c.args.sink.now) (g.K.Sink.told c.write_reply.new.sink) (written_for v c.args.self.now.ledger given.told)) c.version.ensures
-          (subst (λ (b : Bool). CutOffInPieces (g.K.Sink.told c.args.sink.now) (g.K.Sink.told c.write_reply.new.sink) (written_for (version_of c.version.result) b given.told)) same
+      subst (λ (v : Version). CutOffInPieces (g.K.Sink.told c.args.sink.now) (g.K.Sink.told c.write_reply.new.sink) (written_for v c.args.self.now.ledger given.told)) c.version-version.ensures
+          (subst (λ (b : Bool). CutOffInPieces (g.K.Sink.told c.args.sink.now) (g.K.Sink.told c.write_reply.new.sink) (written_for (version_of c.version-version.result) b given.told)) same
           c.in_err-write_reply.ensures.cut_off),
     )
 
@@ -35,8 +35,8 @@ returns-then-refused-clause-done g c =
       given,
       c.in-Some.ensures.executed,
       ap (λ b. if b then Refused else Answered) c.if-refused.ensures,
-      subst (λ (v : Version). DeliversLines (g.K.Sink.told c.args.sink.now) (g.K.Sink.told c.write_reply.new.sink) (written_for v c.args.self.now.ledger given.told) 1) c.version.ensures
-          (subst (λ (b : Bool). DeliversLines (g.K.Sink.told c.args.sink.now) (g.K.Sink.told c.write_reply.new.sink) (written_for (version_of c.version.result) b given.told) 1) same
+      subst (λ (v : Version). DeliversLines (g.K.Sink.told c.args.sink.now) (g.K.Sink.told c.write_reply.new.sink) (written_for v c.args.self.now.ledger given.told) 1) c.version-version.ensures
+          (subst (λ (b : Bool). DeliversLines (g.K.Sink.told c.args.sink.now) (g.K.Sink.told c.write_reply.new.sink) (written_for (version_of c.version-version.result) b given.told) 1) same
           c.in_ok-write_reply.ensures.delivered),
     )
 
@@ -47,7 +47,7 @@ returns-clause-done g c =
       given,
       c.in-Some.ensures.executed,
       ap (λ b. if b then Refused else Answered) c.if-refused.ensures,
-      subst (λ (v : Version). DeliversLines (g.K.Sink.told c.args.sink.now) (g.K.Sink.told c.write_reply.new.sink) (written_for v c.args.self.now.ledger given.told) 1) c.version.ensures
-          (subst (λ (b : Bool). DeliversLines (g.K.Sink.told c.args.sink.now) (g.K.Sink.told c.write_reply.new.sink) (written_for (version_of c.version.result) b given.told) 1) same
+      subst (λ (v : Version). DeliversLines (g.K.Sink.told c.args.sink.now) (g.K.Sink.told c.write_reply.new.sink) (written_for v c.args.self.now.ledger given.told) 1) c.version-version.ensures
+          (subst (λ (b : Bool). DeliversLines (g.K.Sink.told c.args.sink.now) (g.K.Sink.told c.write_reply.new.sink) (written_for (version_of c.version-version.result) b given.told) 1) same
           c.in_ok-write_reply.ensures.delivered),
     )
