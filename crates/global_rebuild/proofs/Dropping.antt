@@ -1,5 +1,5 @@
 -- An index from which an item is dropped, beside the chain from which it is to be unlinked.
-use Rattle.std.proofs.Common.{◌≡◌, ◌≢◌, ℕ, ◌+◌, ◌-◌, ◌*◌, ◌^◌, ◌<◌, ◌≤◌, ◌==◌, ◌∙◌, true, false, if◌then◌else◌, not, nat_lt, List, [], ◌∷◌, Option, Some, None, Contains, map, sym, ap, subst, arith}
+use Rattle.std.proofs.Common.{◌≡◌, ◌≢◌, ℕ, ◌+◌, ◌-◌, ◌*◌, ◌^◌, ◌<◌, ◌≤◌, ◌==◌, ◌∙◌, true, false, if◌then◌else◌, not, nat_lt, List, [], ◌∷◌, Option, Some, None, All, Contains, map, sym, ap, subst, arith}
 use Rattle.std.specs.Option.{option_map}
 use Rattle.std.proofs.lemmas.Bool.Decides.{nat_tests}
 use Rattle.std.proofs.lemmas.List.{length-map}
@@ -14,6 +14,7 @@ use Rattle.id_chain.proofs.Entries.{Apart-parts, Apart-without, HandlesDiffer-ap
 use Rattle.id_chain.proofs.Stamps.{StampsRise-without}
 use Rattle.log_levels.specs.Levels.{live_items, all_items, weight_of}
 use Rattle.log_levels.specs.Trades.{Trades, Ticks}
+use Rattle.log_method.specs.Retired.{used_of}
 use Rattle.log_method.specs.Stack.{Stacked, Deletes}
 use Rattle.part_store.specs.Store.{Stored}
 use Rattle.log_levels.specs.Cost.{IsWithin}
@@ -42,6 +43,20 @@ module _ {Item : Type 0} (handle : ℕ) (item : Item) (es : List (Entry Item)) (
   rise_without stamp stamps rise =
       StampsRise-without stamp 0 (before handle es) entry (after handle es) stamps
       (subst (λ l. StampsRise stamp 0 l stamps) (split_at handle item es is) rise)
+
+-- an index is in order wherever the cursor of its shadow is
+module _ {P Item : Type 0} (contents : P → Contents Item) (i : Indexed P Item) (r : Shadow P Item)
+    (owns : (cursor : Option ℕ) → OwnsMemory (record i { shadow = Some (record r { cursor = cursor }) }))
+    (in_time : (cursor : Option ℕ) → IsInTime contents 0 i.main (record r { cursor = cursor })) (left : All (λ s. 0 < used_of s.levels) i.retired) where
+  pub in_order : (r' : Shadow P Item) → r'.stack ≡ r.stack → IsIndex contents (record i { shadow = Some r' })
+  in_order r' same =
+      let now : Shadow P Item = record r { cursor = r'.cursor } in
+      subst (λ s. IsIndex contents (record i { shadow = Some (record { stack = s; cursor = r'.cursor }) })) (sym same) (record {
+        quiet = λ none. absurd cc;
+        in_time = λ x is. let one : now ≡ x = cc in subst (IsInTime contents 0 i.main) one (in_time r'.cursor);
+        left = left;
+        memory = owns r'.cursor;
+      })
 
 -- a prepared index of a chain with an item, what is seen of it, and its main stack without the item, with the store after that tick
 pub record IsDropped {P Item : Type 0} (contents : P → Contents Item) (stamp : Item → ℕ) (i now : Indexed P Item) (es : List (Entry Item)) (stamps handle : ℕ)
@@ -167,6 +182,10 @@ module _ {P Item : Type 0} {contents : P → Contents Item} {stamp : Item → �
           main_light = omega (arith, ahead.main_light, some, one_dropped, f.deletes.weight);
           shadow_light = omega (arith, ahead.shadow_light, some, one_dropped);
         }
+
+    -- wherever the walk goes on, the index is in order
+    pub in_order_at : (r' : Shadow P Item) → r'.stack ≡ r.stack → IsIndex contents (record i { store = store; main = main; shadow = Some r' })
+    in_order_at = in_order contents (record i { store = store; main = main }) r (owns-moved owned r there) in_time_at f.valid.left
 
     -- the cursor was at it, and goes on
     pub goes_on_moved : r.cursor ≡ Some handle → IsSoundWith store (Some (record r { cursor = first_handle (after handle es) }))

@@ -21,7 +21,7 @@ use Rattle.global_rebuild.specs.Index.{Shadow, Indexed, OwnsMemory, IsShadowOf, 
 use Rattle.global_rebuild.proofs.Walking.{item_of, All-part, Permuted-appended, below-appended, stamp_at-item, item_at-below}
 use Rattle.global_rebuild.proofs.Forgetting.{length-without_handle, IsShadowOf-deleted, IsShadowOf-moved, IsShadowOf-after, one_fewer}
 use Rattle.global_rebuild.proofs.Appending.{IsShadowOf-appended}
-use Rattle.global_rebuild.proofs.Dropping.{IsDropped, HandlesDiffer-without, rise_without, h, p, others_left, one_dropped, owned, own, ahead, same}
+use Rattle.global_rebuild.proofs.Dropping.{IsDropped, in_order, HandlesDiffer-without, rise_without, h, p, others_left, one_dropped, owned, own, ahead, same}
 use Rattle.global_rebuild.proofs.Weights.{IsSoundOf, as_many, ended_all}
 use Rattle.global_rebuild.proofs.Owning.{owns-main, owns-fresh, owns-shadow, owns-moved}
 
@@ -203,14 +203,7 @@ module _ {P Item : Type 0} {contents : P → Contents Item} {stamp : Item → �
 
     -- wherever the walk goes on, the index is in order
     pub in_order_at : (r' : Shadow P Item) → r'.stack ≡ r.stack → IsIndex contents (record i { store = store; main = main; shadow = Some r' })
-    in_order_at r' same =
-        let now : Shadow P Item = record r { cursor = r'.cursor } in
-        subst (λ s. IsIndex contents (record i { store = store; main = main; shadow = Some (record { stack = s; cursor = r'.cursor }) })) (sym same) (record {
-          quiet = λ none. absurd cc;
-          in_time = λ x is. let one : now ≡ x = cc in subst (IsInTime contents 0 main) one (in_time_at r'.cursor);
-          left = m.dropped.valid.left;
-          memory = owns-moved owned_then r there r'.cursor;
-        })
+    in_order_at = in_order contents (record i { store = store; main = main }) r (owns-moved owned_then r there) in_time_at m.dropped.valid.left
 
     -- the cursor was at it, and goes on to the next one, or else to the one in its place
     pub moved_at : r.cursor ≡ Some handle → (r' : Shadow P Item) → r'.stack ≡ r.stack → r'.cursor ≡ first_or (after handle es) (Some handle)

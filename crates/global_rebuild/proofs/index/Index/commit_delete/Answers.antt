@@ -1,4 +1,4 @@
-use Rattle.std.proofs.Common.{rules, ◌≡◌, ℕ, ◌+◌, ◌*◌, ◌^◌, ◌<◌, true, false, Some, None, ap, subst, arith}
+use Rattle.std.proofs.Common.{rules, ◌≡◌, ℕ, ◌+◌, ◌*◌, ◌^◌, ◌<◌, true, false, Some, None, refl, ap, subst, arith}
 use Rattle.id_chain.specs.Chain.{is_linked, before_cursor}
 use Rattle.part_store.specs.Store.{KeepsBoth}
 use Rattle.log_levels.specs.Levels.{weight_of}
@@ -7,7 +7,7 @@ use Rattle.global_rebuild.specs.Index.{IsIndexOf, live_in, is_heavy}
 use Rattle.global_rebuild.proofs.Forgetting.{live_item}
 use Rattle.global_rebuild.proofs.Stocking.{stocked_less, main_ticks, shadow_ticks}
 use Rattle.global_rebuild.proofs.Weights.{main_few, main_light}
-use Rattle.global_rebuild.proofs.Dropping.{is_over, IsDropped, few_left, walked_light, walked_few_enough, walked_item, starts, stays_quiet, goes_on_without, goes_on_moved, goes_on_after, left_without, left_after, one_delete, at_most_two, both_deletes}
+use Rattle.global_rebuild.proofs.Dropping.{is_over, IsDropped, few_left, walked_light, walked_few_enough, walked_item, starts, stays_quiet, in_order_at, goes_on_without, goes_on_moved, goes_on_after, left_without, left_after, one_delete, at_most_two, both_deletes}
 use Rattle.global_rebuild.proofs.index.Index.commit_delete.Given.{Over}
 use Rattle.global_rebuild.proofs.index.Index.commit_delete.Goals.{After-delete}
 use Rattle.global_rebuild.proofs.index.Index.commit_delete.Goals as goal
@@ -98,7 +98,7 @@ returns-then-was_handed_over-clause-chain g c stamps h =
 pub invariant_of-self-then-eq : goal.invariant_of-self-then-eq
 invariant_of-self-then-eq g c =
     let f = some_dropped g (goal.at.invariant_of-self-then-eq g c).After-delete in
-    rw (c.go_to.ensures, c.next.ensures.neighbour) (goes_on_moved f c.in-Some.shadow c.in-Some.is (search rules)).0
+    in_order_at f c.in-Some.shadow c.in-Some.is c.go_to.new.self (ap (λ s. s.stack) c.go_to.ensures)
 
 pub returns-then-eq-clause-chain : goal.returns-then-eq-clause-chain
 returns-then-eq-clause-chain g c stamps h =
@@ -107,7 +107,7 @@ returns-then-eq-clause-chain g c stamps h =
 
 pub invariant_of-self-else-eq : goal.invariant_of-self-else-eq
 invariant_of-self-else-eq g c =
-    (goes_on_after (some_dropped g (goal.at.invariant_of-self-else-eq g c).After-delete) c.in-Some.shadow c.in-Some.is (search rules) (search rules)).0
+    in_order_at (some_dropped g (goal.at.invariant_of-self-else-eq g c).After-delete) c.in-Some.shadow c.in-Some.is c.in-Some.shadow refl
 
 pub returns-else-eq-clause-chain : goal.returns-else-eq-clause-chain
 returns-else-eq-clause-chain g c stamps h =

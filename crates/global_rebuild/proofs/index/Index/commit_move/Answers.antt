@@ -1,4 +1,4 @@
-use Rattle.std.proofs.Common.{rules, ◌≡◌, ℕ, ◌+◌, ◌*◌, ◌^◌, ◌<◌, ◌≤◌, ◌∙◌, true, false, List, Some, None, ap, subst, arith}
+use Rattle.std.proofs.Common.{rules, ◌≡◌, ℕ, ◌+◌, ◌*◌, ◌^◌, ◌<◌, ◌≤◌, ◌∙◌, true, false, List, Some, None, refl, ap, subst, arith}
 use Rattle.id_chain.specs.Chain.{is_linked, before_cursor}
 use Rattle.part_store.specs.Store.{KeepsBoth}
 use Rattle.log_levels.specs.Slots.{Slots}
@@ -136,7 +136,7 @@ returns-then-eq-clause-chain g c =
 
 pub invariant_of-self-else-eq : goal.invariant_of-self-else-eq
 invariant_of-self-else-eq g c =
-    (moved_after (moved g (goal.at.invariant_of-self-else-eq g c).After-insert) c.in-Some.shadow c.in-Some.is (search rules) (search rules)).0
+    in_order_at (moved g (goal.at.invariant_of-self-else-eq g c).After-insert) c.in-Some.shadow c.in-Some.is c.in-Some.shadow refl
 
 pub returns-else-eq-clause-chain : goal.returns-else-eq-clause-chain
 returns-else-eq-clause-chain g c =
