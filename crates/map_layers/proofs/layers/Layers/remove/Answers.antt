@@ -1,4 +1,4 @@
-use Rattle.std.proofs.Common.{subst}
+use Rattle.std.proofs.Common.{rules, subst}
 use Rattle.map_model.specs.Command as commands
 use Rattle.map_shapes.specs.Version.{version_of}
 use Rattle.map_layers.specs.Layers.{map_of, map_with}
@@ -9,5 +9,7 @@ pub returns-clause-answered : goal.returns-clause-answered
 returns-clause-answered g c =
     let version = version_of c.self.inside.version in
     let most = c.self.inside.most_items in
-    subst (λ s. IsAnswered (map_of s) (commands.Drop c.args.name.now c.args.id) (map_with version most c.remove_in.new.layers.items) (updated c.remove_in.result)) c.self.view_is
-    (c.remove_in.ensures.answered version most)
+    let here : IsAnswered (map_of c.args.self.now) (commands.Drop c.args.name.now c.args.id) (map_with version most c.remove_in.new.layers.items) (updated c.remove_in.result) =
+        subst (λ s. IsAnswered (map_of s) (commands.Drop c.args.name.now c.args.id) (map_with version most c.remove_in.new.layers.items) (updated c.remove_in.result)) c.self.view_is
+        (c.remove_in.ensures.answered version most) in
+    search rules
