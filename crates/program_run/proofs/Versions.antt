@@ -1,14 +1,17 @@
 -- A made script chooses no version.
-use Rattle.std.proofs.Common.{◌≡◌, ◌==◌, ◌∙◌, ◌&&◌, ◌%◌, zero, suc, tt, refl, ap, inl, inr, ℕ, ⊤, Bool, true, false, List, [], ◌∷◌, Option, Some, None, Ok, if◌then◌else◌}
+use Rattle.std.proofs.Common.{◌≡◌, ◌==◌, ◌∙◌, ◌&&◌, ◌%◌, zero, suc, refl, ap, inl, inr, ℕ, Bool, true, false, List, [], ◌∷◌, length, Option, Some, None, Ok, if◌then◌else◌}
+use Rattle.std.specs.Prelude.{⊤, nat_le, not}
+use Rattle.std.proofs.lemmas.Bool.{true≢false}
 use Rattle.query_laws.specs.StepLedger.{Counts}
+use Rattle.map_model.specs.Answer.{Question, index_of, kind_asked}
 use Rattle.map_model.specs.Command.{Command, Livemap, MakeLayer, Add, Move, Drop, Ask, Get, Size, Recent}
 use Rattle.map_model.specs.Index.{IndexSet, has}
-use Rattle.map_model.specs.Answer.{Question, index_of, kind_asked}
-use Rattle.map_model.specs.Machine.{Outcome, refused, replied, step, is_same_kind, is_taken, make_layer, add_to, move_in, drop_from, ask_of, got, get_from, size_of, recent_of}
-use Rattle.map_model.specs.Output.{Told, Given}
-use Rattle.map_model.specs.Shape.{Kind, Shape, Point}
-use Rattle.map_model.specs.State.{Layer, State, is_live, layer_named, shape_of}
-use Rattle.map_model.specs.Version.{Version, One}
+use Rattle.map_model.specs.Machine.{Outcome, refused, step, is_same_kind, is_taken, make_layer, add_to, move_in, drop_from, ask_of, got, get_from, size_of, recent_of}
+use Rattle.map_model.specs.Output.{Given}
+use Rattle.map_model.specs.Refusal.{Refusal, Taken, NoRoom, NoLayer, Index, Duplicate, Unknown, Full}
+use Rattle.map_model.specs.Refusal as refusals
+use Rattle.map_model.specs.Shape.{Kind, Shape, Point, kind_of}
+use Rattle.map_model.specs.State.{Layer, State, most_layers, live_count, is_live, layer_named, shape_of}
 use Rattle.map_session.specs.Session.{SessionState, map_in, Executes}
 use Rattle.workload_gen.specs.Made.{Between, Round, drawn, has_live, add_round, drop_first, drop_last, count_round, near_round, top_round, upper_half, round, round_by, rounds_from, before_all, made_script}
 
@@ -52,50 +55,68 @@ made_chooses_none seed size = (refl, rounds_choose_none size (before_all seed))
 
 -- ---- a command that chooses none
 
-module _ (state : State) where
-  -- the outcome has the version of the map before
-  abbrev Stays : Outcome → Type 0
-  Stays o = o.state.version ≡ state.version
+-- the outcome has the version of the map before
+record Stays (state : State) (o : Outcome) : Type 0 where
+  version : o.state.version ≡ state.version
 
-  either : (b : Bool) (x y : Outcome) → Stays x → Stays y → Stays (if b then x else y)
+module _ (state : State) where
+  same : (o : Outcome) → o.state.version ≡ state.version → Stays state o
+  same o is = record { version = is }
+
+  either : (b : Bool) (x y : Outcome) → Stays state x → Stays state y → Stays state (if b then x else y)
   either true x y h k = h
   either false x y h k = k
 
-  got_stays : (id : ℕ) (shape : Option Shape) → Stays (got state id shape)
-  got_stays id None = refl
-  got_stays id (Some shape) = refl
+  refusal : (cause : Refusal) → Stays state (refused state cause)
+  refusal cause = record { version = refl }
 
-  add_stays : (name : List ℕ) (id : ℕ) (shape : Shape) (layer : Option Layer) → Stays (add_to state name id shape layer)
-  add_stays name id shape None = refl
-  add_stays name id shape (Some layer) = either _ _ _ refl (either _ _ _ refl (either _ _ _ refl refl))
+  make_stays : (name : List ℕ) (kind : Kind) (indexes : IndexSet) → Stays state (make_layer state name kind indexes)
+  make_stays name kind indexes =
+      either (is_taken name state) (refused state Taken) _ (refusal Taken)
+      (either (nat_le most_layers (length state.layers)) (refused state NoRoom) _ (refusal NoRoom) (same _ refl))
 
-  move_stays : (name : List ℕ) (id : ℕ) (shape : Shape) (layer : Option Layer) → Stays (move_in state name id shape layer)
-  move_stays name id shape None = refl
-  move_stays name id shape (Some layer) = either _ _ _ refl (either _ _ _ refl refl)
+  add_stays : (name : List ℕ) (id : ℕ) (shape : Shape) (layer : Option Layer) → Stays state (add_to state name id shape layer)
+  add_stays name id shape None = refusal NoLayer
+  add_stays name id shape (Some layer) =
+      either (not (is_same_kind layer.kind (kind_of shape))) (refused state refusals.Kind) _ (refusal refusals.Kind)
+      (either (is_live id layer.items) (refused state (Duplicate id)) _ (refusal (Duplicate id))
+      (either (nat_le state.most_items (live_count layer)) (refused state Full) _ (refusal Full) (same _ refl)))
 
-  drop_stays : (name : List ℕ) (id : ℕ) (layer : Option Layer) → Stays (drop_from state name id layer)
-  drop_stays name id None = refl
-  drop_stays name id (Some layer) = either _ _ _ refl refl
+  move_stays : (name : List ℕ) (id : ℕ) (shape : Shape) (layer : Option Layer) → Stays state (move_in state name id shape layer)
+  move_stays name id shape None = refusal NoLayer
+  move_stays name id shape (Some layer) =
+      either (not (is_same_kind layer.kind (kind_of shape))) (refused state refusals.Kind) _ (refusal refusals.Kind)
+      (either (is_live id layer.items) _ (refused state (Unknown id)) (same _ refl) (refusal (Unknown id)))
 
-  ask_stays : (question : Question) (layer : Option Layer) → Stays (ask_of state question layer)
-  ask_stays question None = refl
-  ask_stays question (Some layer) = either _ _ _ refl (either _ _ _ refl refl)
+  drop_stays : (name : List ℕ) (id : ℕ) (layer : Option Layer) → Stays state (drop_from state name id layer)
+  drop_stays name id None = refusal NoLayer
+  drop_stays name id (Some layer) = either (is_live id layer.items) _ (refused state (Unknown id)) (same _ refl) (refusal (Unknown id))
 
-  get_stays : (id : ℕ) (layer : Option Layer) → Stays (get_from state id layer)
-  get_stays id None = refl
+  ask_stays : (question : Question) (layer : Option Layer) → Stays state (ask_of state question layer)
+  ask_stays question None = refusal NoLayer
+  ask_stays question (Some layer) =
+      either (not (is_same_kind layer.kind (kind_asked question))) (refused state refusals.Kind) _ (refusal refusals.Kind)
+      (either (not (has layer.indexes (index_of question))) (refused state Index) _ (refusal Index) (same _ refl))
+
+  got_stays : (id : ℕ) (shape : Option Shape) → Stays state (got state id shape)
+  got_stays id None = refusal (Unknown id)
+  got_stays id (Some shape) = same _ refl
+
+  get_stays : (id : ℕ) (layer : Option Layer) → Stays state (get_from state id layer)
+  get_stays id None = refusal NoLayer
   get_stays id (Some layer) = got_stays id (shape_of id layer.items)
 
-  size_stays : (layer : Option Layer) → Stays (size_of state layer)
-  size_stays None = refl
-  size_stays (Some layer) = refl
+  size_stays : (layer : Option Layer) → Stays state (size_of state layer)
+  size_stays None = refusal NoLayer
+  size_stays (Some layer) = same _ refl
 
-  recent_stays : (k : ℕ) (layer : Option Layer) → Stays (recent_of state k layer)
-  recent_stays k None = refl
-  recent_stays k (Some layer) = refl
+  recent_stays : (k : ℕ) (layer : Option Layer) → Stays state (recent_of state k layer)
+  recent_stays k None = refusal NoLayer
+  recent_stays k (Some layer) = same _ refl
 
-  step_stays : (command : Command) → chooses command ≡ false → Stays (step state command)
-  step_stays (Livemap version) none = absurd (let no : ⊥ = cc none in no)
-  step_stays (MakeLayer name kind indexes) none = either _ _ _ refl (either _ _ _ refl refl)
+  step_stays : (command : Command) → chooses command ≡ false → Stays state (step state command)
+  step_stays (Livemap version) none = absurd (true≢false none)
+  step_stays (MakeLayer name kind indexes) none = make_stays name kind indexes
   step_stays (Add name id shape) none = add_stays name id shape (layer_named name state.layers)
   step_stays (Move name id x y w) none = move_stays name id (Point x y w) (layer_named name state.layers)
   step_stays (Drop name id) none = drop_stays name id (layer_named name state.layers)
@@ -109,6 +130,6 @@ pub version_stays : (old : SessionState) (before : Counts) (command : Command) (
     → Executes old before (Ok (Some command)) given new after → chooses command ≡ false → (map_in new).version ≡ (map_in old).version
 version_stays old before command given new after done none =
     ap (λ (s : State). s.version) done.map ∙ elim done.answers [
-      | inl executes ↦ ap (λ (g : Given). g.state.version) executes.is_given ∙ step_stays (map_in old) command none
+      | inl executes ↦ ap (λ (g : Given). g.state.version) executes.is_given ∙ (step_stays (map_in old) command none).version
       | inr lacking ↦ ap (λ (g : Given). g.state.version) lacking.1
     ]

@@ -1,7 +1,7 @@
 //! Items that are drawn, and lists of them that are scanned.
 use crate::spread::{SIDE, Spread};
 use map_questions::{AnyQuestion, Near, NearK, PointQuestion, SegmentQuestion};
-use map_shapes::{Found, Point, Segment, Shaped};
+use map_shapes::{Point, Segment, Shaped};
 use std::alloc::{AllocError, Global};
 use std::cmp::Reverse;
 use workload_gen::Generator;
@@ -107,7 +107,8 @@ impl Seeded for Segment {
 fn nearest(alloc: Global, question: &NearK, points: &[Point]) -> Result<Vec<u128>, AllocError> {
     let mut found: Vec<(u128, u64)> = Vec::with_capacity(alloc, question.k)?;
     for point in points {
-        let Found { dist, id } = question.found(point);
+        let near = question.found(point);
+        let (dist, id) = (near.dist(), near.id());
         let place = found.partition_point(|kept| *kept < (dist, id));
         if place < question.k {
             found.truncate(question.k - 1);

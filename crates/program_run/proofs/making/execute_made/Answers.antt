@@ -1,10 +1,12 @@
 use Rattle.std.proofs.Common.{rules, ◌≡◌, ◌∙◌, List, [], ◌∷◌, length, fold, refl, sym, ap, subst, arith}
 use Rattle.map_model.specs.Command.{Command}
+use Rattle.map_model.specs.Line.{IsCommand}
+use Rattle.map_model.specs.Version.{Version, One}
 use Rattle.map_session.specs.Session.{Obeys}
 use Rattle.script_lang.specs.Command.{command_of}
 use Rattle.workload_gen.specs.Summary.{Summary, told_more}
 use Rattle.workload_gen.proofs.Giving.{script_length}
-use Rattle.program_run.proofs.MadeCommands.{given_first, none_to_come}
+use Rattle.program_run.proofs.MadeCommands.{given_first, given_lawful, none_to_come}
 use Rattle.program_run.proofs.Versions.{ChooseNone, made_chooses_none, version_stays}
 use Rattle.program_run.proofs.making.execute_made.Goals as goal
 
@@ -20,6 +22,13 @@ loop-command-init g c = record {
     ap (λ (s : Summary). fold told_more s told) (sym c.new-summary.ensures),
   );
 }
+
+-- the command is one of version 1, which the session still has
+pub obey-requires-clause-lawful : goal.obey-requires-clause-lawful
+obey-requires-clause-lawful g c =
+    let command = c.in-Some.command in
+    let lawful : IsCommand One (command_of command) = given_lawful c.loop-command.workload command c.next.new.self (search rules) in
+    subst (λ (version : Version). IsCommand version (command_of command)) (sym c.loop-command.invariant.version) lawful
 
 pub loop-command-preserved : goal.loop-command-preserved
 loop-command-preserved g c =
