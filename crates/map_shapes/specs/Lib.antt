@@ -11,7 +11,6 @@ pub mod IndexSet
 pub mod Segment
 pub mod Shape
 pub mod FoundParts
-pub mod Founds
 pub mod Found
 pub mod Cost
 pub mod Version

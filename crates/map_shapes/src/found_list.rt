@@ -2,29 +2,22 @@
 ghost use Rattle.std.specs.Prelude.{◌≡◌, ◌==◌, ◌<◌, ◌≤◌, [], ◌∷◌, ◌++◌, length, Some, slice_get, take, insert};
 
 use crate::Found;
-use crate::found::Short;
 use arrayvec::ArrayVec;
 use std::marker::Model;
 
 /// Up to 64 found points, which take no memory of the heap. Contracts see them as their list.
-///
-/// The highest bits of their squares stand apart, so that all take 1,104 bytes.
 #[derive(Drop)]
 pub struct FoundList {
-    shorts: ArrayVec<Short, 64>,
-    far: ArrayVec<bool, 64>,
+    found: ArrayVec<Found, 64>,
 }
 
 impl Model for FoundList {
-    ghost use Rattle.std.specs.Prelude.{◌≡◌, List, length};
+    ghost use Rattle.std.specs.Prelude.{List};
     ghost use Rattle.map_model.specs.Found.{Found};
-    ghost use Rattle.map_shapes.specs.Founds.{founds_in};
 
     ghost Value = { List Found };
 
-    ghost view = { λ l. founds_in l.shorts.items l.far.items };
-
-    ghost invariant = { λ l. length l.shorts.items ≡ length l.far.items };
+    ghost view = { λ l. l.found.items };
 }
 
 impl FoundList {
@@ -36,8 +29,7 @@ impl FoundList {
         ensures { result ≡ [] }
     {
         FoundList {
-            shorts: ArrayVec::new(),
-            far: ArrayVec::new(),
+            found: ArrayVec::new(),
         }
     }
 
@@ -46,9 +38,7 @@ impl FoundList {
         requires { length self.old < 64 }
         ensures { self.new ≡ self.old ++ found ∷ [] }
     {
-        let (short, far) = found.parts();
-        self.shorts.push(short);
-        self.far.push(far);
+        self.found.push(found);
     }
 
     /// Puts one in at an index, before the one that is there.
@@ -57,17 +47,14 @@ impl FoundList {
         requires room { length self.old < 64 }
         ensures { self.new ≡ insert self.old k found }
     {
-        let (short, far) = found.parts();
-        self.shorts.insert(k, short);
-        self.far.insert(k, far);
+        self.found.insert(k, found);
     }
 
     /// Keeps so many at the front.
     pub fn truncate(&mut self, len: usize)
         ensures { self.new ≡ take len self.old }
     {
-        self.shorts.truncate(len);
-        self.far.truncate(len);
+        self.found.truncate(len);
     }
 
     /// How many there are.
@@ -75,14 +62,14 @@ impl FoundList {
         ensures count { result ≡ length self.now }
         ensures within { result ≤ 64 }
     {
-        self.shorts.len()
+        self.found.len()
     }
 
     /// Whether there is none.
     pub fn is_empty(&self) -> bool
         ensures { result ≡ (length self.now == 0) }
     {
-        self.shorts.is_empty()
+        self.found.is_empty()
     }
 
     /// The point at an index.
@@ -90,6 +77,13 @@ impl FoundList {
         requires { k < length self.now }
         ensures { slice_get self.now k ≡ Some result }
     {
-        Found::joined(self.shorts[k], self.far[k])
+        self.found[k]
+    }
+
+    /// All of them.
+    pub fn as_slice(&self) -> &[Found]
+        ensures { result.now ≡ self.now }
+    {
+        self.found.as_slice()
     }
 }
