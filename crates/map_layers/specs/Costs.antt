@@ -62,8 +62,8 @@ abbrev pub IsAskingIn : Option state.Layer → (ℕ → ℕ → ℕ) → Questio
 IsAskingIn None most asked old new = ⊥
 IsAskingIn (Some layer) most asked old new = IsAsking layer (most_in layer most) asked old new
 
--- Answered or refused for want of memory, a question consults so many parts and touches so much at most of the layer; where there is none, or
--- it is refused for another cause, nothing is counted.
+-- Answered or refused for want of memory, a question consults so many parts and touches so much at most of the layer; where there is none, or it is refused for
+-- another cause, nothing is counted.
 abbrev pub IsTouchingIn : {T : Type 0} → Option state.Layer → (ℕ → PartTouches) → Result T AskFault → Counts → Counts → Type 0
 IsTouchingIn None touches result old new = new ≡ old
 IsTouchingIn (Some layer) touches result old new = IsTouching (bounds_at (live_count layer)).parts (most_in layer (λ level n. most_of (touches level) n)) result old new
