@@ -144,7 +144,7 @@ fn answers_none(answer: &AnyAnswer) -> bool
             ids.as_slice().is_empty()
         }
         AnyAnswer::NearestOne(found) => found.is_none(),
-        AnyAnswer::NearestOnes(found) => found.as_slice().is_empty(),
+        AnyAnswer::NearestOnes(found) => found.is_empty(),
         AnyAnswer::Highest(peak) => peak.is_none(),
         AnyAnswer::Counted(_) | AnyAnswer::Summed(_) | AnyAnswer::StabCounted(_) => false,
     }

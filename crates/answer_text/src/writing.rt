@@ -15,7 +15,7 @@ use crate::texts::{
 use crate::{Refusal, Reply};
 use map_io::{Sink, WriteFault};
 use map_questions::AnyAnswer;
-use map_shapes::{Found, QuestionCost, Spent, Version};
+use map_shapes::{Found, FoundList, QuestionCost, Spent, Version};
 
 /// Writes a reply's line of a version with its line feed; with the ledger, what it cost stands at its end.
 ///
@@ -78,7 +78,7 @@ fn put_answer_numbers<K: Sink>(
             put_ids(piece, &[*n], sink)
         }
         AnyAnswer::NearestOne(Some(found)) => put_found(piece, found, sink),
-        AnyAnswer::NearestOnes(found) => put_pairs(piece, found.as_slice(), sink),
+        AnyAnswer::NearestOnes(found) => put_pairs(piece, found, sink),
         AnyAnswer::Highest(Some(peak)) => {
             let height = place(version, peak.y);
             put_numbers(piece, &[Number::Plain(peak.id), height], sink)
@@ -146,13 +146,13 @@ fn put_found<K: Sink>(piece: &mut Piece, found: &Found, sink: &mut K) -> Result<
 }
 
 /// Identifiers with their distances.
-fn put_pairs<K: Sink>(piece: &mut Piece, found: &[Found], sink: &mut K) -> Result<(), WriteFault>
+fn put_pairs<K: Sink>(piece: &mut Piece, found: &FoundList, sink: &mut K) -> Result<(), WriteFault>
     requires { length piece.old.items < 64 }
     ensures gathered { OnOk result (Gathers (K.told sink.old) (K.told sink.new) piece.old.items piece.new.items (flat_map found_text found.now)) }
     ensures cut_off { OnErr result (CutOffInPieces (K.told sink.old) (K.told sink.new) (piece.old.items ++ flat_map found_text found.now)) }
 {
-    for point in found {
-        put_found(piece, point, sink)?;
+    for k in 0..found.len() {
+        put_found(piece, &found.get(k), sink)?;
     }
     Ok(())
 }

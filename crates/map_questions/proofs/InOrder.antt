@@ -1,8 +1,10 @@
 -- Where an entry belongs in a list that is in order.
-use Rattle.std.proofs.Common.{◌≡◌, ℕ, zero, suc, ◌≤◌, ◌<◌, Bool, true, false, List, [], ◌∷◌, length, get_or, refl, sym, ◌∙◌, arith}
+use Rattle.std.proofs.Common.{◌≡◌, ℕ, zero, suc, ◌≤◌, ◌<◌, Bool, true, false, List, [], ◌∷◌, length, get_or, Some, slice_get, inl, inr, refl, sym, ap, ◌∙◌, arith}
 use Rattle.std.specs.Prelude.{not, take_while}
 use Rattle.std.specs.List.Sorted.{IsPartitionedBy, IsPartitionPoint}
+use Rattle.std.proofs.lemmas.Bool.{cases_Bool}
 use Rattle.std.proofs.lemmas.Grind.{common_steps}
+use Rattle.std.proofs.lemmas.Option.{slice_get_within, get_or_from_slice_get}
 use Rattle.std.proofs.lemmas.List.Folds.{length-prefix_len}
 use Rattle.std.proofs.lemmas.List.Sums.{prefix_len_is}
 use Rattle.map_model.specs.Found.{insert_by, sorted_by}
@@ -39,6 +41,21 @@ module _ {A : Type 0} {le : A → A → Bool} (order : IsTotalOrder le) where
   IsPartitionedBy-before x xs sorted i j d within inside passes =
       fails_after (le x (get_or xs i d)) (le x (get_or xs j d))
       (λ h. order.transitive x (get_or xs i d) (get_or xs j d) h (in_order xs sorted i j d within inside)) passes
+
+  -- where one at a place comes before an entry, so do those before it
+  pub comes_before : (x : A) (xs : List A) → sorted_by le xs ≡ xs → (m : ℕ) (w : A) → slice_get xs m ≡ Some w → not (le x w) ≡ true → (k : ℕ) (d : A) → k ≤ m
+      → not (le x (get_or xs k d)) ≡ true
+  comes_before x xs sorted m w at passes k d within =
+      IsPartitionedBy-before x xs sorted k m d within (slice_get_within xs m w at)
+      (ap (λ v. not (le x v)) (get_or_from_slice_get xs m w d at) ∙ passes)
+
+  -- where it doesn't, those behind it don't
+  pub comes_behind : (x : A) (xs : List A) → sorted_by le xs ≡ xs → (m : ℕ) (w : A) → slice_get xs m ≡ Some w → not (le x w) ≡ false → (k : ℕ) (d : A) → m ≤ k
+      → k < length xs → not (le x (get_or xs k d)) ≡ false
+  comes_behind x xs sorted m w at fails k d within inside = elim (cases_Bool (not (le x (get_or xs k d)))) [
+    | inl passes ↦ absurd (let here : not (le x w) ≡ true = sym (ap (λ v. not (le x v)) (get_or_from_slice_get xs m w d at)) ∙ IsPartitionedBy-before x xs sorted m k d within inside passes in cc)
+    | inr behind ↦ behind
+  ]
 
 -- a search for the first that fails counts those at the front that pass
 pub count-searched : {A : Type 0} (p : A → Bool) (x : A) (xs : List A) (n : ℕ) → n ≤ length xs → IsPartitionPoint (λ y. p y ≡ true) (λ y. p y ≡ false) xs n

@@ -1,5 +1,6 @@
 //! The tally of a question for the nearest points.
-ghost use Rattle.std.specs.Prelude.{◌≡◌, ◌-◌, ◌<◌, ◌≤◌, [], ◌∷◌, IsTrue, false, IfSome, MatchOption, slice_get, length, not, take_while};
+ghost use Rattle.std.specs.Prelude.{◌≡◌, ℕ, ◌-◌, ◌<◌, ◌≤◌, [], ◌∷◌, IsTrue, true, false, IfSome, MatchOption, slice_get, slice_index_or, length, not};
+ghost use Rattle.map_model.specs.Found as model;
 ghost use Rattle.map_model.specs.Found.{insert_by, sorted_by};
 ghost use Rattle.map_shapes.specs.Found.{nearer_le};
 ghost use Rattle.map_questions.specs.FirstFew.{IsFirstFew, first_few_of_both};
@@ -66,7 +67,10 @@ impl NearKTally {
     pub fn worst(&self) -> Option<Found>
         ensures { result ≡ slice_get self.now.found (self.now.k - 1) }
     {
-        self.found.as_slice().get(self.k - 1).copied()
+        if self.found.len() < self.k {
+            return None;
+        }
+        Some(self.found.get(self.k - 1))
     }
 }
 
@@ -76,16 +80,30 @@ fn insert_in_order(list: &mut FoundList, found: Found)
     requires sorted { sorted_by nearer_le list.old ≡ list.old }
     ensures { list.new ≡ insert_by nearer_le found list.old }
 {
-    let place = count_before(list, &found);
+    let place = count_before(list, &found, 0, list.len());
     list.insert(place, found);
 }
 
-/// How many of a list that is in order come before a point.
-fn count_before(list: &FoundList, found: &Found) -> usize
-    requires { sorted_by nearer_le list.now ≡ list.now }
-    ensures { result ≡ length (take_while (λ kept. not (nearer_le found.now kept)) list.now) }
+/// How many of a list that is in order come before a point, where it is known of those before `low` that they do, and of those
+/// from `high` on that they don't.
+fn count_before(list: &FoundList, found: &Found, low: usize, high: usize) -> usize
+    requires sorted { sorted_by nearer_le list.now ≡ list.now }
+    requires ordered { low ≤ high }
+    requires within { high ≤ length list.now }
+    ensures from_low { low ≤ result }
+    ensures to_high { result ≤ high }
+    ensures before { (k : ℕ) (d : model.Found) → low ≤ k → k < result → not (nearer_le found.now (slice_index_or list.now k d)) ≡ true }
+    ensures after { (k : ℕ) (d : model.Found) → result ≤ k → k < high → not (nearer_le found.now (slice_index_or list.now k d)) ≡ false }
 {
-    list.as_slice().partition_point(|kept| kept.before(found))
+    if low == high {
+        return low;
+    }
+    let middle = low + (high - low) / 2;
+    if list.get(middle).before(found) {
+        count_before(list, found, middle + 1, high)
+    } else {
+        count_before(list, found, low, middle)
+    }
 }
 
 impl Tally for NearKTally {

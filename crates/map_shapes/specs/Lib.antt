@@ -11,6 +11,7 @@ pub mod IndexSet
 pub mod Segment
 pub mod Shape
 pub mod FoundParts
+pub mod Founds
 pub mod Found
 pub mod Cost
 pub mod Version

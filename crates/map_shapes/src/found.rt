@@ -1,6 +1,7 @@
 // A point that a search for near ones found.
 ghost use Rattle.std.specs.Prelude.{◌≡◌, ◌+◌, ◌*◌, not};
 ghost use Rattle.map_shapes.specs.Found.{nearer_le};
+ghost use Rattle.map_shapes.specs.Founds.{found_in};
 
 use std::marker::Model;
 
@@ -12,6 +13,13 @@ pub struct Found {
     /// The square, less 2^64 where it is that much or more.
     low: u64,
     far: bool,
+}
+
+/// A found point without the highest bit of its square.
+#[derive(Clone, Copy, Debug, Default)]
+pub(crate) struct Short {
+    id: u64,
+    low: u64,
 }
 
 impl Model for Found {
@@ -57,6 +65,28 @@ impl Found {
         ensures { result ≡ self.now.id }
     {
         self.id
+    }
+
+    /// It without the highest bit of its square, and that bit.
+    pub(crate) fn parts(&self) -> (Short, bool)
+        ensures { found_in result.0 result.1 ≡ self.now }
+    {
+        let short = Short {
+            id: self.id,
+            low: self.low,
+        };
+        (short, self.far)
+    }
+
+    /// The point that both say.
+    pub(crate) fn joined(short: Short, far: bool) -> Found
+        ensures { result ≡ found_in short far }
+    {
+        Found {
+            id: short.id,
+            low: short.low,
+            far,
+        }
     }
 
     /// Whether it is nearer than the other one, or as near and its identifier is less.

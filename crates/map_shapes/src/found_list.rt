@@ -2,22 +2,29 @@
 ghost use Rattle.std.specs.Prelude.{◌≡◌, ◌==◌, ◌<◌, ◌≤◌, [], ◌∷◌, ◌++◌, length, Some, slice_get, take, insert};
 
 use crate::Found;
+use crate::found::Short;
 use arrayvec::ArrayVec;
 use std::marker::Model;
 
 /// Up to 64 found points, which take no memory of the heap. Contracts see them as their list.
+///
+/// The highest bits of their squares stand apart, so that all take 1,104 bytes.
 #[derive(Drop)]
 pub struct FoundList {
-    found: ArrayVec<Found, 64>,
+    shorts: ArrayVec<Short, 64>,
+    far: ArrayVec<bool, 64>,
 }
 
 impl Model for FoundList {
-    ghost use Rattle.std.specs.Prelude.{List};
+    ghost use Rattle.std.specs.Prelude.{◌≡◌, List, length};
     ghost use Rattle.map_model.specs.Found.{Found};
+    ghost use Rattle.map_shapes.specs.Founds.{founds_in};
 
     ghost Value = { List Found };
 
-    ghost view = { λ l. l.found.items };
+    ghost view = { λ l. founds_in l.shorts.items l.far.items };
+
+    ghost invariant = { λ l. length l.shorts.items ≡ length l.far.items };
 }
 
 impl FoundList {
@@ -29,7 +36,8 @@ impl FoundList {
         ensures { result ≡ [] }
     {
         FoundList {
-            found: ArrayVec::new(),
+            shorts: ArrayVec::new(),
+            far: ArrayVec::new(),
         }
     }
 
@@ -38,7 +46,9 @@ impl FoundList {
         requires { length self.old < 64 }
         ensures { self.new ≡ self.old ++ found ∷ [] }
     {
-        self.found.push(found);
+        let (short, far) = found.parts();
+        self.shorts.push(short);
+        self.far.push(far);
     }
 
     /// Puts one in at an index, before the one that is there.
@@ -47,14 +57,17 @@ impl FoundList {
         requires room { length self.old < 64 }
         ensures { self.new ≡ insert self.old k found }
     {
-        self.found.insert(k, found);
+        let (short, far) = found.parts();
+        self.shorts.insert(k, short);
+        self.far.insert(k, far);
     }
 
     /// Keeps so many at the front.
     pub fn truncate(&mut self, len: usize)
         ensures { self.new ≡ take len self.old }
     {
-        self.found.truncate(len);
+        self.shorts.truncate(len);
+        self.far.truncate(len);
     }
 
     /// How many there are.
@@ -62,14 +75,14 @@ impl FoundList {
         ensures count { result ≡ length self.now }
         ensures within { result ≤ 64 }
     {
-        self.found.len()
+        self.shorts.len()
     }
 
     /// Whether there is none.
     pub fn is_empty(&self) -> bool
         ensures { result ≡ (length self.now == 0) }
     {
-        self.found.is_empty()
+        self.shorts.is_empty()
     }
 
     /// The point at an index.
@@ -77,13 +90,6 @@ impl FoundList {
         requires { k < length self.now }
         ensures { slice_get self.now k ≡ Some result }
     {
-        self.found[k]
-    }
-
-    /// All of them.
-    pub fn as_slice(&self) -> &[Found]
-        ensures { result.now ≡ self.now }
-    {
-        self.found.as_slice()
+        Found::joined(self.shorts[k], self.far[k])
     }
 }

@@ -1,8 +1,9 @@
 //! The shapes of a map, the names of its layers, the questions about points in a rectangle, and what replies tell.
 //!
-//! A [`Segment`] and a [`Rect`] have their order as ghost fields, and a [`Point`] the range of its weight: no other value can be
-//! made. A coordinate is any u32, as a [`Version`] keeps it. Points and segments are items in two orders. [`CountIn`] and [`SumIn`] are tallied by a `Total`, which stays at 2^64 - 1 and never
-//! refuses, and [`ListIn`] by an [`IdTally`], which refuses where memory isn't given.
+//! A [`Segment`] and a [`Rect`] have their order as ghost fields, and a [`Point`] the range of its weight: no other value can be made.
+//! A coordinate is any u32, as a [`Version`] keeps it. Points and segments are items in two orders. [`CountIn`] and [`SumIn`] are
+//! tallied by a `Total`, which stays at 2^64 - 1 and never refuses, and [`ListIn`] by an [`IdTally`], which refuses where memory
+//! isn't given.
 #![tactic(auto)]
 
 mod count_in;
