@@ -4,7 +4,7 @@ use map_questions::{
     Above, AnyAnswer, AnyQuestion, Near, NearK, PointQuestion, SegmentQuestion, Stab, StabCount,
     Top,
 };
-use map_shapes::{CountIn, Found, ListIn, Rect, SumIn};
+use map_shapes::{CountIn, Found, FoundList, ListIn, Rect, SumIn};
 use std::alloc::{AllocError, Global};
 use workload_gen::Generator;
 
@@ -75,8 +75,9 @@ pub fn numbers(alloc: Global, answer: AnyAnswer) -> Result<Vec<u128>, AllocError
             let ids = ids.into_vec();
             ids.iter().map(|id| u128::from(*id)).collect(alloc)
         }
-        AnyAnswer::NearestOne(found) => pairs(alloc, found.as_slice()),
-        AnyAnswer::NearestOnes(found) => pairs(alloc, found.as_slice()),
+        AnyAnswer::NearestOne(Some(found)) => Vec::from_slice(alloc, &pair(found)),
+        AnyAnswer::NearestOne(None) => Ok(Vec::new(alloc)),
+        AnyAnswer::NearestOnes(found) => pairs(alloc, &found),
         AnyAnswer::Highest(Some(peak)) => {
             Vec::from_slice(alloc, &[u128::from(peak.id), u128::from(peak.y)])
         }
@@ -84,9 +85,14 @@ pub fn numbers(alloc: Global, answer: AnyAnswer) -> Result<Vec<u128>, AllocError
     }
 }
 
-fn pairs(alloc: Global, found: &[Found]) -> Result<Vec<u128>, AllocError> {
-    let pairs = found
-        .iter()
-        .flat_map(|found| [u128::from(found.id()), found.dist()]);
-    pairs.collect(alloc)
+fn pair(found: Found) -> [u128; 2] {
+    [u128::from(found.id()), found.dist()]
+}
+
+fn pairs(alloc: Global, found: &FoundList) -> Result<Vec<u128>, AllocError> {
+    let mut numbers = Vec::with_capacity(alloc, 2 * found.len())?;
+    for k in 0..found.len() {
+        numbers.extend_from_slice(&pair(found.get(k)))?;
+    }
+    Ok(numbers)
 }
