@@ -1,5 +1,5 @@
 -- A line that passes each step is read as a command within its limits.
-use Rattle.std.proofs.Common.{◌≡◌, ℕ, ◌+◌, ◌≤◌, true, false, cond, not, nat_lt, List, length, Some, Ok, Err, arith, refl, sym, ap, ◌∙◌}
+use Rattle.std.proofs.Common.{◌≡◌, ℕ, ◌≤◌, true, false, cond, not, nat_lt, List, length, Some, Ok, Err, arith, refl, sym, ap, ◌∙◌}
 use Rattle.std.proofs.lemmas.Bool.Decides.{nat_tests}
 use Rattle.map_model.specs.Words.{words, name_field, longest_line}
 use Rattle.map_model.specs.Shape as shapes

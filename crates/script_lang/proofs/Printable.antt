@@ -17,7 +17,7 @@ use Rattle.map_model.specs.Command.{Command}
 use Rattle.map_model.specs.Version.{Version, One, Two}
 use Rattle.map_model.specs.Form.{Field, Id, Coordinate, Weight, Amount, VersionNumber, Tail, Bare, Indexes, OneIndex, Form, form, is_ordered, verb_of, verbs}
 use Rattle.map_model.specs.Form as model
-use Rattle.map_model.specs.Grammar.{is_printable, has_minus, unsigned, is_digits, is_in_range, all_fields, is_tailed, has_words, Values, named, with_values, is_index_word, is_distinct, index_set, point_index, Parsed, parse_indexes, parse_kind, parse_index, parse_tail, parse_fields, parse_named, parse_form, parse_verb, parse_words, without_return}
+use Rattle.map_model.specs.Grammar.{is_printable, has_minus, unsigned, is_digits, is_in_range, all_fields, is_tailed, has_words, Values, named, with_values, is_index_word, is_distinct, index_set, point_index, Parsed, parse_indexes, parse_kind, parse_index, parse_tail, parse_fields, parse_named, parse_verb, parse_words, without_return}
 use Rattle.script_lang.specs.declared.command.Command as script
 use Rattle.script_lang.specs.declared.line_fault.LineFault as errors
 use Rattle.script_lang.specs.LineFault.{fault_of}

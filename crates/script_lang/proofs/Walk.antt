@@ -7,7 +7,7 @@ use Rattle.std.specs.List.{list_all, starts_with}
 use Rattle.std.specs.Prelude.{ok_or}
 use Rattle.std.specs.Str.{all_ascii_digits}
 use Rattle.std.specs.Str.Parse.{digits_value}
-use Rattle.std.proofs.lemmas.Bool.{cases_Bool, cases_lt, eqb-true, false≢true, true≢false, and_parts}
+use Rattle.std.proofs.lemmas.Bool.{cases_Bool, cases_lt, false≢true, true≢false, and_parts}
 use Rattle.std.proofs.lemmas.Bool.Decides.{nat_tests}
 use Rattle.map_model.specs.Words.{is_name, is_filled, name_field}
 use Rattle.map_model.specs.Version.{Version, One, Two, negatives, greatest_coordinate, kept}
@@ -16,7 +16,7 @@ use Rattle.map_model.specs.Shape as shapes
 use Rattle.map_model.specs.Index.{IndexSet, Index, Range, fits}
 use Rattle.map_model.specs.LineFault as faults
 use Rattle.map_model.specs.Form as model
-use Rattle.map_model.specs.Grammar.{Values, Parsed, named, has_minus, is_digits, is_within, is_in_range, kept_in, number_of, all_fields, is_tailed, has_words, with_value, with_values, command_of, is_index_word, is_distinct, index_set, point_index, parse_indexes, parse_kind, parse_index, parse_tail, parse_fields, parse_named, parse_form, parse_verb}
+use Rattle.map_model.specs.Grammar.{Values, Parsed, named, is_digits, is_within, is_in_range, number_of, all_fields, is_tailed, has_words, with_value, with_values, command_of, is_index_word, is_distinct, index_set, point_index, parse_indexes, parse_kind, parse_index, parse_tail, parse_fields, parse_named, parse_form, parse_verb}
 use Rattle.map_shapes.specs.declared.kind.Kind.{Kind}
 use Rattle.map_shapes.specs.declared.kind.Kind.TheVariants.{Points, Segments}
 use Rattle.map_shapes.specs.Kind.{kind_of}
@@ -29,8 +29,8 @@ use Rattle.script_lang.specs.declared.form.Form.{Form}
 use Rattle.script_lang.specs.declared.numbers.Numbers.{Numbers}
 use Rattle.script_lang.specs.declared.line_fault.LineFault.{LineFault}
 use Rattle.script_lang.specs.declared.line_fault.LineFault.TheVariants as errors
-use Rattle.script_lang.specs.Form.{field_of, fields_of, tail_of, form_of, is_place, limits_of_field, verb_of}
-use Rattle.script_lang.specs.Numbers.{no_numbers, version_in, with_number, number_in, digits_below, kept_number, signed_in, coordinate_in, field_in, with_read, with_word, with_words}
+use Rattle.script_lang.specs.Form.{field_of, fields_of, tail_of, form_of, is_place, verb_of}
+use Rattle.script_lang.specs.Numbers.{no_numbers, with_number, kept_number, signed_in, field_in, with_read, with_word, with_words}
 use Rattle.script_lang.specs.Read.{has_end, values_in, tailed, ended, finished, walked, parse_printable, no_name, split_name}
 use Rattle.script_lang.specs.Indexes.{kind_in, no_index, with_index_words, word_count, kind_layer, ended_layer, ended_index, ending_in}
 use Rattle.script_lang.proofs.IndexWords.{set_if, indexes_by_count}

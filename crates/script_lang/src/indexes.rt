@@ -38,22 +38,29 @@ pub struct Ending {
 pub fn read_ending(tail: Tail, left: usize, text: &[u8]) -> Result<Ending, LineFault>
     ensures { ending_of result ≡ ending_in (tail_of tail) left (words text.now) }
 {
-    let mut ending = Ending {
+    let none = Ending {
         kind: Kind::Points,
         indexes: IndexSet::new(),
         index: PointIndex::Range,
     };
     match tail {
-        Tail::Bare => {}
+        Tail::Bare => Ok(none),
         Tail::Indexes => {
-            (ending.kind, ending.indexes) = read_layer(text)?;
-            if word_count(ending.indexes) + 1 < left || !ending.indexes.fits(ending.kind) {
+            let (kind, indexes) = read_layer(text)?;
+            if word_count(indexes) + 1 < left || !indexes.fits(kind) {
                 return Err(LineFault::Index);
             }
+            Ok(Ending {
+                kind,
+                indexes,
+                ..none
+            })
         }
-        Tail::OneIndex => ending.index = read_index(text).ok_or(LineFault::Index)?,
+        Tail::OneIndex => match read_index(text) {
+            Some(index) => Ok(Ending { index, ..none }),
+            None => Err(LineFault::Index),
+        },
     }
-    Ok(ending)
 }
 
 /// The index of points that the first word of a text names.

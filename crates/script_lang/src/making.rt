@@ -17,7 +17,8 @@ use crate::form::{Order, Question, Verb};
 use crate::indexes::Ending;
 use crate::numbers::Numbers;
 use map_questions::{
-    Above, AnyQuestion, CrossCount, CrossIn, Near, NearK, PointQuestion, SegmentQuestion, Stab, StabCount, Top,
+    Above, AnyQuestion, CrossCount, CrossIn, Near, NearK, PointQuestion, SegmentQuestion, Stab,
+    StabCount, Top,
 };
 use map_shapes::{CountIn, ListIn, Name, Rect, SumIn};
 
