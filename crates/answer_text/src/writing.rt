@@ -104,9 +104,9 @@ fn put_refusal_numbers<K: Sink>(
     ensures cut_off { OnErr result (CutOffInPieces (K.told sink.old) (K.told sink.new) (piece.old.items ++ refusal_numbers cause)) }
 {
     match cause {
-        Refusal::Building { items: n } | Refusal::Duplicate { id: n } | Refusal::Unknown { id: n } => {
-            put_ids(piece, &[n], sink)
-        }
+        Refusal::Building { items: n }
+        | Refusal::Duplicate { id: n }
+        | Refusal::Unknown { id: n } => { put_ids(piece, &[n], sink) }
         _ => Ok(()),
     }
 }

@@ -136,7 +136,10 @@ fn replies_are_written(rt: HostRuntime) -> Result<(), Fail> {
     });
     let updated = Reply::Updated { spent };
     let (_, line) = written_before(rt.alloc(), &updated, true, Version::One, 3)?;
-    assert_eq!(rt; line.as_slice(), b"ok turns 0 total 15/120 marks 1/3\n".as_slice());
+    assert_eq!(rt;
+        line.as_slice(),
+        b"ok turns 0 total 15/120 marks 1/3\n".as_slice()
+    );
     let cause = Refusal::Building { items: 65_536 };
     let refused = Reply::Refused { cause };
     let (_, line) = written_before(rt.alloc(), &refused, true, Version::One, 2)?;
