@@ -47,6 +47,7 @@ cause_text causes.Order = refl
 cause_text causes.NoLayer = refl
 cause_text causes.Kind = refl
 cause_text causes.Index = refl
+cause_text (causes.Building items) = one (codes "no building") items
 cause_text causes.Taken = refl
 cause_text causes.NoRoom = refl
 cause_text (causes.Duplicate id) = one (codes "no duplicate") id
@@ -97,6 +98,8 @@ answer_behind version (answers.Highest None) = refl
 answer_behind version (answers.Highest (Some peak)) = no_list (codes "top") (spaced peak.id ++ (spaced_coordinate version peak.y ++ [])) _ (ap (λ (z : List ℕ). codes "top" ++ z) (two (spaced peak.id) (spaced_coordinate version peak.y)))
 answer_behind version (answers.Stabbed ids) = ap (λ (z : List ℕ). codes "stab" ++ z) (ids_or_none ids)
 answer_behind version (answers.StabCounted n) = no_list (codes "stabcount") (spaced_all (n ∷ [])) _ (one (codes "stabcount") n)
+answer_behind version (answers.Crossed ids) = ap (λ (z : List ℕ). codes "cross" ++ z) (ids_or_none ids)
+answer_behind version (answers.CrossCounted n) = no_list (codes "crosscount") (spaced_all (n ∷ [])) _ (one (codes "crosscount") n)
 
 text_behind : (version : Version) (reply : Reply) → reply_word reply ++ behind version reply ≡ reply_text version (reply_of reply)
 text_behind version variants.Made = refl

@@ -3,7 +3,7 @@ use Rattle.map_model.specs.Refusal as refusals
 use Rattle.map_model.specs.Reply as replies
 use Rattle.map_model.specs.Cost as costs
 use Rattle.map_shapes.specs.Shape.{model_shape}
-use Rattle.map_shapes.specs.Cost.{spent_of, asked_of}
+use Rattle.map_shapes.specs.Cost.{update_cost_of, asked_of}
 use Rattle.map_questions.specs.Any.{answer_of}
 use Rattle.answer_text.specs.declared.refusal.Refusal.{Refusal}
 use Rattle.answer_text.specs.declared.refusal.Refusal.TheVariants as causes
@@ -22,6 +22,7 @@ refusal_of causes.Order = refusals.Order
 refusal_of causes.NoLayer = refusals.NoLayer
 refusal_of causes.Kind = refusals.Kind
 refusal_of causes.Index = refusals.Index
+refusal_of (causes.Building items) = refusals.Building items
 refusal_of causes.Taken = refusals.Taken
 refusal_of causes.NoRoom = refusals.NoRoom
 refusal_of (causes.Duplicate id) = refusals.Duplicate id
@@ -43,7 +44,7 @@ reply_of (variants.Refused cause) = replies.Refused (refusal_of cause)
 -- what a reply tells that it cost, as the definitions have it
 abbrev pub cost_of : Reply → costs.Cost
 cost_of variants.Made = costs.Untold
-cost_of (variants.Updated spent) = costs.Updating (spent_of spent)
+cost_of (variants.Updated spent) = update_cost_of spent
 cost_of (variants.Answered answer asked) = costs.Asking (asked_of asked)
 cost_of (variants.Got shape) = costs.Untold
 cost_of (variants.Size n) = costs.Untold

@@ -4,9 +4,10 @@ use Rattle.std.specs.Fmt.{signed_decimal}
 use Rattle.map_model.specs.Version.{Version}
 use Rattle.map_model.specs.Shape as model
 use Rattle.map_model.specs.Reply.{spaced, spaced_coordinate}
-use Rattle.map_model.specs.Cost.{cost_text}
+use Rattle.map_model.specs.Cost.{cost_text, out_of}
 use Rattle.map_model.specs.Found as shapes
 use Rattle.map_shapes.specs.Shape.{model_shape}
+use Rattle.map_shapes.specs.declared.spent.SpentAtOnce.{SpentAtOnce}
 use Rattle.map_questions.specs.declared.any_answer.AnyAnswer.{AnyAnswer}
 use Rattle.map_questions.specs.declared.any_answer.AnyAnswer.TheVariants as answers
 use Rattle.answer_text.specs.declared.refusal.Refusal.{Refusal}
@@ -28,6 +29,7 @@ refusal_word causes.Order = codes "no order"
 refusal_word causes.NoLayer = codes "no layer"
 refusal_word causes.Kind = codes "no kind"
 refusal_word causes.Index = codes "no index"
+refusal_word (causes.Building items) = codes "no building"
 refusal_word causes.Taken = codes "no taken"
 refusal_word causes.NoRoom = codes "no room"
 refusal_word (causes.Duplicate id) = codes "no duplicate"
@@ -46,6 +48,8 @@ answer_word (answers.ListedAbove ids) = codes "above"
 answer_word (answers.Highest peak) = codes "top"
 answer_word (answers.Stabbed ids) = codes "stab"
 answer_word (answers.StabCounted n) = codes "stabcount"
+answer_word (answers.Crossed ids) = codes "cross"
+answer_word (answers.CrossCounted n) = codes "crosscount"
 
 abbrev pub reply_word : Reply → List ℕ
 reply_word variants.Made = codes "ok"
@@ -74,6 +78,7 @@ abbrev pub found_text : shapes.Found → List ℕ
 found_text f = spaced_all (f.id ∷ f.dist ∷ [])
 
 abbrev pub refusal_numbers : Refusal → List ℕ
+refusal_numbers (causes.Building items) = spaced_all (items ∷ [])
 refusal_numbers (causes.Duplicate id) = spaced_all (id ∷ [])
 refusal_numbers (causes.Unknown id) = spaced_all (id ∷ [])
 refusal_numbers _ = []
@@ -91,6 +96,8 @@ answer_numbers version (answers.Highest None) = []
 answer_numbers version (answers.Highest (Some peak)) = spaced peak.id ++ (spaced_coordinate version peak.y ++ [])
 answer_numbers version (answers.Stabbed ids) = []
 answer_numbers version (answers.StabCounted n) = spaced_all (n ∷ [])
+answer_numbers version (answers.Crossed ids) = []
+answer_numbers version (answers.CrossCounted n) = spaced_all (n ∷ [])
 
 -- the numbers of a shape
 abbrev pub shape_numbers : Version → model.Shape → List ℕ
@@ -110,6 +117,7 @@ abbrev pub answer_ids : AnyAnswer → List ℕ
 answer_ids (answers.Listed ids) = ids
 answer_ids (answers.ListedAbove ids) = ids
 answer_ids (answers.Stabbed ids) = ids
+answer_ids (answers.Crossed ids) = ids
 answer_ids _ = []
 
 abbrev pub listed_ids : Reply → List ℕ
@@ -125,6 +133,7 @@ answers_none (answers.NearestOnes found) = length found == 0
 answers_none (answers.ListedAbove ids) = length ids == 0
 answers_none (answers.Highest peak) = is_none peak
 answers_none (answers.Stabbed ids) = length ids == 0
+answers_none (answers.Crossed ids) = length ids == 0
 answers_none _ = false
 
 abbrev pub has_none : Reply → Bool
@@ -134,6 +143,10 @@ has_none _ = false
 
 abbrev pub none_text : Reply → List ℕ
 none_text reply = if has_none reply then codes " none" else []
+
+-- turns where parts are joined at once, with the sum of them and its bound
+abbrev pub turns_text : SpentAtOnce → List ℕ
+turns_text s = (codes " turns " ++ decimal s.turns) ++ (codes " total" ++ out_of s.total s.turn_bound)
 
 abbrev pub tail_text : Bool → Reply → List ℕ
 tail_text ledger reply = if ledger then cost_text (cost_of reply) else []

@@ -23,7 +23,9 @@ pub enum Refusal {
     Kind,
     /// No index of the kind, or one that the layer lacks.
     Index,
-    /// A layer of this name stands.
+    /// The index waits for so many items.
+    Building { items: u64 },
+    /// A layer of this name stands, or the layer has the index.
     Taken,
     /// No further layer has room.
     NoRoom,

@@ -1,16 +1,16 @@
 // What a command is answered.
 use crate::Refusal;
 use map_questions::AnyAnswer;
-use map_shapes::{QuestionCost, Recent, Shape, Spent};
+use map_shapes::{QuestionCost, Recent, Shape, UpdateCost};
 
 /// What a command is answered, with what it cost.
 #[derive(Drop)]
 pub enum Reply {
-    /// A layer was made, or a version chosen.
+    /// A layer or an index was made, or a version chosen.
     Made,
     /// An item was added, moved or dropped.
     Updated {
-        spent: Spent,
+        spent: UpdateCost,
     },
     /// An index answered a question.
     Answered {

@@ -55,6 +55,8 @@ fn answer_word(answer: &AnyAnswer) -> &'static [u8]
         AnyAnswer::Highest(_) => b"top",
         AnyAnswer::Stabbed(_) => b"stab",
         AnyAnswer::StabCounted(_) => b"stabcount",
+        AnyAnswer::Crossed(_) => b"cross",
+        AnyAnswer::CrossCounted(_) => b"crosscount",
     }
 }
 
@@ -73,6 +75,7 @@ fn refusal_word(cause: Refusal) -> &'static [u8]
         Refusal::NoLayer => b"no layer",
         Refusal::Kind => b"no kind",
         Refusal::Index => b"no index",
+        Refusal::Building { .. } => b"no building",
         Refusal::Taken => b"no taken",
         Refusal::NoRoom => b"no room",
         Refusal::Duplicate { .. } => b"no duplicate",
@@ -102,15 +105,17 @@ fn answer_ids(answer: &AnyAnswer) -> &[u64]
     ensures { result.now ≡ answer_ids answer.now }
 {
     match answer {
-        AnyAnswer::Listed(ids) | AnyAnswer::ListedAbove(ids) | AnyAnswer::Stabbed(ids) => {
-            ids.as_slice()
-        }
+        AnyAnswer::Listed(ids)
+        | AnyAnswer::ListedAbove(ids)
+        | AnyAnswer::Stabbed(ids)
+        | AnyAnswer::Crossed(ids) => ids.as_slice(),
         AnyAnswer::Counted(_)
         | AnyAnswer::Summed(_)
         | AnyAnswer::NearestOne(_)
         | AnyAnswer::NearestOnes(_)
         | AnyAnswer::Highest(_)
-        | AnyAnswer::StabCounted(_) => &[],
+        | AnyAnswer::StabCounted(_)
+        | AnyAnswer::CrossCounted(_) => &[],
     }
 }
 
@@ -140,13 +145,17 @@ fn answers_none(answer: &AnyAnswer) -> bool
     ensures { result ≡ answers_none answer.now }
 {
     match answer {
-        AnyAnswer::Listed(ids) | AnyAnswer::ListedAbove(ids) | AnyAnswer::Stabbed(ids) => {
-            ids.as_slice().is_empty()
-        }
+        AnyAnswer::Listed(ids)
+        | AnyAnswer::ListedAbove(ids)
+        | AnyAnswer::Stabbed(ids)
+        | AnyAnswer::Crossed(ids) => ids.as_slice().is_empty(),
         AnyAnswer::NearestOne(found) => found.is_none(),
         AnyAnswer::NearestOnes(found) => found.is_empty(),
         AnyAnswer::Highest(peak) => peak.is_none(),
-        AnyAnswer::Counted(_) | AnyAnswer::Summed(_) | AnyAnswer::StabCounted(_) => false,
+        AnyAnswer::Counted(_)
+        | AnyAnswer::Summed(_)
+        | AnyAnswer::StabCounted(_)
+        | AnyAnswer::CrossCounted(_) => false,
     }
 }
 

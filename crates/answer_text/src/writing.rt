@@ -2,11 +2,11 @@
 ghost use Rattle.std.specs.Prelude.{◌≡◌, ◌<◌, ◌≤◌, ◌++◌, length, decimal, flat_map, OnOk, OnErr};
 ghost use Rattle.map_model.specs.Reply.{reply_line};
 ghost use Rattle.map_model.specs.Cost as costs;
-ghost use Rattle.map_shapes.specs.Cost.{spent_of, asked_of};
+ghost use Rattle.map_shapes.specs.Cost.{spent_of, spent_at_once_of, update_cost_of, asked_of};
 ghost use Rattle.map_shapes.specs.Version.{version_of};
 ghost use Rattle.answer_text.specs.Reply.{reply_of, cost_of};
 ghost use Rattle.answer_text.specs.Pieces.{DeliversLines, CutOffInPieces, Gathers};
-ghost use Rattle.answer_text.specs.Texts.{answer_numbers, reply_numbers, refusal_numbers, spaced_all, spaced_number, found_text, tail_text};
+ghost use Rattle.answer_text.specs.Texts.{answer_numbers, reply_numbers, refusal_numbers, spaced_all, spaced_number, found_text, turns_text, tail_text};
 
 use crate::piece::{Piece, finish, put};
 use crate::texts::{
@@ -15,7 +15,7 @@ use crate::texts::{
 use crate::{Refusal, Reply};
 use map_io::{Sink, WriteFault};
 use map_questions::AnyAnswer;
-use map_shapes::{Found, FoundList, QuestionCost, Spent, Version};
+use map_shapes::{Found, FoundList, QuestionCost, Spent, SpentAtOnce, UpdateCost, Version};
 
 /// Writes a reply's line of a version with its line feed; with the ledger, what it cost stands at its end.
 ///
@@ -74,9 +74,10 @@ fn put_answer_numbers<K: Sink>(
     ensures cut_off { OnErr result (CutOffInPieces (K.told sink.old) (K.told sink.new) (piece.old.items ++ answer_numbers (version_of version) answer.now)) }
 {
     match answer {
-        AnyAnswer::Counted(n) | AnyAnswer::Summed(n) | AnyAnswer::StabCounted(n) => {
-            put_ids(piece, &[*n], sink)
-        }
+        AnyAnswer::Counted(n)
+        | AnyAnswer::Summed(n)
+        | AnyAnswer::StabCounted(n)
+        | AnyAnswer::CrossCounted(n) => put_ids(piece, &[*n], sink),
         AnyAnswer::NearestOne(Some(found)) => put_found(piece, found, sink),
         AnyAnswer::NearestOnes(found) => put_pairs(piece, found, sink),
         AnyAnswer::Highest(Some(peak)) => {
@@ -87,7 +88,8 @@ fn put_answer_numbers<K: Sink>(
         | AnyAnswer::Highest(None)
         | AnyAnswer::Listed(_)
         | AnyAnswer::ListedAbove(_)
-        | AnyAnswer::Stabbed(_) => Ok(()),
+        | AnyAnswer::Stabbed(_)
+        | AnyAnswer::Crossed(_) => Ok(()),
     }
 }
 
@@ -102,7 +104,9 @@ fn put_refusal_numbers<K: Sink>(
     ensures cut_off { OnErr result (CutOffInPieces (K.told sink.old) (K.told sink.new) (piece.old.items ++ refusal_numbers cause)) }
 {
     match cause {
-        Refusal::Duplicate { id } | Refusal::Unknown { id } => put_ids(piece, &[id], sink),
+        Refusal::Building { items: n }
+        | Refusal::Duplicate { id: n }
+        | Refusal::Unknown { id: n } => { put_ids(piece, &[n], sink) }
         _ => Ok(()),
     }
 }
@@ -173,13 +177,24 @@ fn put_tail<K: Sink>(
         return Ok(());
     }
     match reply {
-        Reply::Updated { spent } => put_spent(piece, *spent, sink),
+        Reply::Updated { spent } => put_update(piece, *spent, sink),
         Reply::Answered { asked, .. } => put_asked(piece, *asked, sink),
         Reply::Made
         | Reply::Got { .. }
         | Reply::Size { .. }
         | Reply::Recent { .. }
         | Reply::Refused { .. } => Ok(()),
+    }
+}
+
+fn put_update<K: Sink>(piece: &mut Piece, cost: UpdateCost, sink: &mut K) -> Result<(), WriteFault>
+    requires { length piece.old.items < 64 }
+    ensures gathered { OnOk result (Gathers (K.told sink.old) (K.told sink.new) piece.old.items piece.new.items (costs.cost_text (update_cost_of cost))) }
+    ensures cut_off { OnErr result (CutOffInPieces (K.told sink.old) (K.told sink.new) (piece.old.items ++ costs.cost_text (update_cost_of cost))) }
+{
+    match cost {
+        UpdateCost::Spread(spent) => put_spent(piece, spent, sink),
+        UpdateCost::AtOnce(spent) => put_at_once(piece, spent, sink),
     }
 }
 
@@ -190,6 +205,29 @@ fn put_spent<K: Sink>(piece: &mut Piece, spent: Spent, sink: &mut K) -> Result<(
 {
     put_out_of(piece, b" turns", spent.turns, spent.turn_bound, sink)?;
     put_out_of(piece, b" marks", spent.marks, spent.mark_bound, sink)
+}
+
+fn put_at_once<K: Sink>(
+    piece: &mut Piece,
+    spent: SpentAtOnce,
+    sink: &mut K,
+) -> Result<(), WriteFault>
+    requires { length piece.old.items < 64 }
+    ensures gathered { OnOk result (Gathers (K.told sink.old) (K.told sink.new) piece.old.items piece.new.items (costs.cost_text (costs.Joining (spent_at_once_of spent)))) }
+    ensures cut_off { OnErr result (CutOffInPieces (K.told sink.old) (K.told sink.new) (piece.old.items ++ costs.cost_text (costs.Joining (spent_at_once_of spent)))) }
+{
+    put_turns(piece, spent, sink)?;
+    put_out_of(piece, b" marks", spent.marks, spent.mark_bound, sink)
+}
+
+/// The turns, with the sum of them and its bound.
+fn put_turns<K: Sink>(piece: &mut Piece, spent: SpentAtOnce, sink: &mut K) -> Result<(), WriteFault>
+    requires { length piece.old.items < 64 }
+    ensures gathered { OnOk result (Gathers (K.told sink.old) (K.told sink.new) piece.old.items piece.new.items (turns_text spent)) }
+    ensures cut_off { OnErr result (CutOffInPieces (K.told sink.old) (K.told sink.new) (piece.old.items ++ turns_text spent)) }
+{
+    put_labelled(piece, b" turns ", spent.turns, sink)?;
+    put_out_of(piece, b" total", spent.total, spent.turn_bound, sink)
 }
 
 fn put_asked<K: Sink>(

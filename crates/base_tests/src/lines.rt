@@ -5,7 +5,7 @@ use std::alloc::{AllocError, Global};
 use std::test::Fail;
 
 /// Lines, each with the plain line of its command, nothing where it says nothing, or its first fault.
-const LINES: [(&[u8], Result<&str, LineFault>); 54] = [
+const LINES: [(&[u8], Result<&str, LineFault>); 81] = [
     (
         b"layer shops points top near range",
         Ok("layer shops points range near top"),
@@ -72,10 +72,43 @@ const LINES: [(&[u8], Result<&str, LineFault>); 54] = [
     (b"layer b segments range", Err(LineFault::Index)),
     (b"layer q points range range", Err(LineFault::Index)),
     (b"top a 9 0", Err(LineFault::Order)),
+    (
+        b"layer s segments cross stab",
+        Ok("layer s segments stab cross"),
+    ),
+    (b"layer s segments cross", Ok("layer s segments cross")),
+    (
+        b"layer a points batch range",
+        Ok("layer a points range batch"),
+    ),
+    (b"index a top", Ok("index a top")),
+    (b"\tindex  a near\r", Ok("index a near")),
+    (b"index a range", Ok("index a range")),
+    (b"cross a 1 2 2", Ok("cross a 1 2 2")),
+    (b"crosscount a 1 2 3", Ok("crosscount a 1 2 3")),
+    (b"cross a 4 9 3", Err(LineFault::Order)),
+    (b"crosscount a 0 1 0", Err(LineFault::Order)),
+    (b"cross a 4 9", Err(LineFault::Fields)),
+    (b"cross a 4 -9 3", Err(LineFault::Number)),
+    (b"cross a 2147483648 9 3", Err(LineFault::Range)),
+    (b"index a", Err(LineFault::Fields)),
+    (b"index a near top", Err(LineFault::Fields)),
+    (b"index a! near", Err(LineFault::Name)),
+    (b"index a stab", Err(LineFault::Index)),
+    (b"index a batch", Err(LineFault::Index)),
+    (b"index a nea", Err(LineFault::Index)),
+    (b"layer q points batch", Err(LineFault::Index)),
+    (b"layer q points near batch", Err(LineFault::Index)),
+    (b"layer q points range batch batch", Err(LineFault::Index)),
+    (b"layer q points range top batch", Err(LineFault::Index)),
+    (b"layer q points range cross", Err(LineFault::Index)),
+    (b"layer q segments stab batch", Err(LineFault::Index)),
+    (b"layer q segments stab range", Err(LineFault::Index)),
+    (b"layer q segments cross cross", Err(LineFault::Index)),
 ];
 
 /// Lines of version 2, in the same way.
-const SIGNED: [(&[u8], Result<&str, LineFault>); 25] = [
+const SIGNED: [(&[u8], Result<&str, LineFault>); 27] = [
     (b"livemap 02", Ok("livemap 2")),
     (b"livemap", Err(LineFault::Fields)),
     (b"livemap a 1", Err(LineFault::Fields)),
@@ -90,6 +123,8 @@ const SIGNED: [(&[u8], Result<&str, LineFault>); 25] = [
     (b"seg a 7 -3 -2 -1", Ok("seg a 7 -3 -2 -1")),
     (b"count a -5 -6 -4 0", Ok("count a -5 -6 -4 0")),
     (b"stab a -1", Ok("stab a -1")),
+    (b"cross a -1 -3 -2", Ok("cross a -1 -3 -2")),
+    (b"cross a -1 -2 -3", Err(LineFault::Order)),
     (b"count a -4 0 -5 1", Err(LineFault::Order)),
     (b"seg a 7 0 -1 0", Err(LineFault::Order)),
     (b"move a 7 0 0 -1", Err(LineFault::Number)),

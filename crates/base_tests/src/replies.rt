@@ -4,7 +4,9 @@ ghost use Rattle.std.specs.Prelude.{◌<◌};
 use answer_text::{Refusal, Reply, write_reply};
 use map_io::{MemSink, WriteFault};
 use map_questions::AnyAnswer;
-use map_shapes::{Found, FoundList, IdList, Peak, QuestionCost, Shape, Spent, Version};
+use map_shapes::{
+    Found, FoundList, IdList, Peak, QuestionCost, Shape, Spent, SpentAtOnce, UpdateCost, Version,
+};
 use std::alloc::{AllocError, Global};
 use std::test::Fail;
 
@@ -74,7 +76,7 @@ fn list_of(alloc: Global, sevens: usize) -> Result<Reply, AllocError> {
 }
 
 /// Answers with distances or heights, each with its line of version 2.
-fn told() -> [(Reply, &'static str); 3] {
+fn told() -> [(Reply, &'static str); 4] {
     let farthest = Found::new(3, u32::MAX, u32::MAX);
     let mut found = FoundList::new();
     found.push(Found::new(u64::MAX, 4_294_967_295, 92_682));
@@ -93,6 +95,7 @@ fn told() -> [(Reply, &'static str); 3] {
             "nearest 18446744073709551615 18446744073709570149 3 36893488130239234050\n",
         ),
         (answered(AnyAnswer::Highest(Some(highest))), "top 0 -1\n"),
+        (answered(AnyAnswer::CrossCounted(7)), "crosscount 7\n"),
     ]
 }
 
@@ -120,9 +123,27 @@ fn replies_are_written(rt: HostRuntime) -> Result<(), Fail> {
         marks: 0,
         mark_bound: u64::MAX,
     };
+    let spent = UpdateCost::Spread(spent);
     let updated = Reply::Updated { spent };
     let (_, line) = written_before(rt.alloc(), &updated, true, Version::One, 3)?;
     assert_eq!(rt; line.as_slice(), LARGEST.as_bytes());
+    let spent = UpdateCost::AtOnce(SpentAtOnce {
+        turns: 0,
+        total: 15,
+        turn_bound: 120,
+        marks: 1,
+        mark_bound: 3,
+    });
+    let updated = Reply::Updated { spent };
+    let (_, line) = written_before(rt.alloc(), &updated, true, Version::One, 3)?;
+    assert_eq!(rt;
+        line.as_slice(),
+        b"ok turns 0 total 15/120 marks 1/3\n".as_slice()
+    );
+    let cause = Refusal::Building { items: 65_536 };
+    let refused = Reply::Refused { cause };
+    let (_, line) = written_before(rt.alloc(), &refused, true, Version::One, 2)?;
+    assert_eq!(rt; line.as_slice(), b"no building 65536\n".as_slice());
     let cause = Refusal::NoMemory;
     let refused = Reply::Refused { cause };
     let (_, line) = written_before(rt.alloc(), &refused, true, Version::Two, 2)?;

@@ -1,6 +1,6 @@
 -- No two layers of a map that was reached have the same name, and no two items of a layer the same identifier.
 use Rattle.std.proofs.Common.{◌≡◌, ◌≢◌, ◌==◌, ℕ, suc, ◌<◌, Bool, true, false, if◌then◌else◌, List, [], ◌∷◌, ◌++◌, length, Option, Some, None, Ok, Err, get_or, unwrap_or, arith, refl, sym, ap, ◌∙◌, subst, inl, inr}
-use Rattle.std.specs.Prelude.{All, bytes_eq, nat_le, not, is_some, map}
+use Rattle.std.specs.Prelude.{All, bytes_eq, nat_le, not, is_some, map, nat_lt, ◌&&◌}
 use Rattle.std.specs.List.{AllPairs}
 use Rattle.std.proofs.lemmas.Bool.{false_from_ne_true, true≢false}
 use Rattle.std.proofs.lemmas.Bool.Decides.{Decides-eqb}
@@ -10,14 +10,15 @@ use Rattle.std.proofs.lemmas.List.Elements.{All-cons, All-push, filter_passes}
 use Rattle.std.proofs.lemmas.List.Quantifiers.{all_pairs_push}
 use Rattle.std.proofs.lemmas.List.Folds.{list_any_at}
 use Rattle.map_model.specs.Version.{Version}
-use Rattle.map_model.specs.Shape.{Shape, Kind, Point, kind_of}
+use Rattle.map_model.specs.Shape.{Shape, Kind, Point, Points, kind_of}
 use Rattle.map_model.specs.Index.{IndexSet, has}
-use Rattle.map_model.specs.State.{Item, Layer, State, HasDistinctKeys, empty_map_of, most_layers, live_count, is_live, shape_of, layer_named, changed, with_items, with_item, without_item}
+use Rattle.map_model.specs.Index as indexes
+use Rattle.map_model.specs.State.{Item, Layer, State, HasDistinctKeys, empty_map_of, most_layers, live_count, is_live, shape_of, layer_named, with_layer, without_item, no_waits, wait_of, added, moved, dropped, indexed}
 use Rattle.map_model.specs.Answer.{Question, index_of, kind_asked}
-use Rattle.map_model.specs.Command.{Command, Livemap, MakeLayer, Add, Move, Drop, Ask, Get, Size, Recent}
-use Rattle.map_model.specs.Refusal.{Taken, NoRoom, Duplicate, Unknown, Full, Index}
+use Rattle.map_model.specs.Command.{Command, Livemap, MakeLayer, MakeIndex, Add, Move, Drop, Ask, Get, Size, Recent}
+use Rattle.map_model.specs.Refusal.{Taken, NoRoom, Duplicate, Unknown, Full, Index, Building}
 use Rattle.map_model.specs.Refusal as refusals
-use Rattle.map_model.specs.Machine.{Outcome, step, refused, is_same_kind, is_taken, choose_version, make_layer, add_to, move_in, drop_from, ask_of, got, get_from, size_of, recent_of}
+use Rattle.map_model.specs.Machine.{Outcome, step, refused, is_same_kind, is_taken, choose_version, make_layer, index_in, add_to, move_in, drop_from, ask_of, got, get_from, size_of, recent_of}
 use Rattle.map_model.specs.Grammar.{Parsed, parse}
 use Rattle.map_model.specs.Output.{Given, AnswersTo, Output}
 
@@ -56,53 +57,59 @@ AreDistinct-cons layer layers names ids rest = record {
 pub HasDistinctKeys-empty : (most : ℕ) → HasDistinctKeys (empty_map_of most)
 HasDistinctKeys-empty most = record { names = λ i j d before inside. absurd (omega arith); ids = λ k d inside. absurd (omega arith) }
 
--- ---- the items of a layer changed
+-- ---- a layer changed
 
--- the layers with a change of the items of one
-abbrev pub changed_in : List ℕ → (List Item → List Item) → List Layer → List Layer
-changed_in name change layers = map (λ layer. if bytes_eq layer.name name then changed change layer else layer) layers
+-- the layers with a change of one
+abbrev pub changed_in : List ℕ → (Layer → Layer) → List Layer → List Layer
+changed_in name change layers = map (λ layer. if bytes_eq layer.name name then change layer else layer) layers
+
+-- a change that keeps a layer's name
+abbrev pub KeepsName : (Layer → Layer) → Type 0
+KeepsName change = (layer : Layer) → (change layer).name ≡ layer.name
 
 -- the names stay
-names_kept : (name : List ℕ) (change : List Item → List Item) (P : List ℕ → Type 0) (layers : List Layer) → All (λ l. P l.name) layers → All (λ l. P l.name) (changed_in name change layers)
-names_kept name change P [] h = λ k d inside. absurd (omega arith)
-names_kept name change P (layer ∷ layers) h =
+names_kept : (name : List ℕ) (change : Layer → Layer) → KeepsName change → (P : List ℕ → Type 0) (layers : List Layer) → All (λ l. P l.name) layers → All (λ l. P l.name) (changed_in name change layers)
+names_kept name change same P [] h = λ k d inside. absurd (omega arith)
+names_kept name change same P (layer ∷ layers) h =
     All-cons (λ (l : Layer). P l.name) _ (changed_in name change layers)
-    (elim (bytes_eq layer.name name) as (λ b. P (if b then changed change layer else layer).name) [ true ↦ h 0 layer (omega arith) | false ↦ h 0 layer (omega arith) ])
-    (names_kept name change P layers (λ k d inside. h (suc k) d (omega arith)))
+    (elim (bytes_eq layer.name name) as (λ b. P (if b then change layer else layer).name) [ true ↦ subst P (sym (same layer)) (h 0 layer (omega arith)) | false ↦ h 0 layer (omega arith) ])
+    (names_kept name change same P layers (λ k d inside. h (suc k) d (omega arith)))
 
 -- layers of other names stay
-others_kept : (name : List ℕ) (change : List Item → List Item) (layers : List Layer) → All (λ l. name ≢ l.name) layers → changed_in name change layers ≡ layers
+others_kept : (name : List ℕ) (change : Layer → Layer) (layers : List Layer) → All (λ l. name ≢ l.name) layers → changed_in name change layers ≡ layers
 others_kept name change [] h = refl
 others_kept name change (layer ∷ layers) h =
     let other : bytes_eq layer.name name ≡ false = false_from_ne_true _ (λ same. h 0 layer (omega arith) (sym ((bytes_eq-Decides layer.name name).0 same))) in
-    (λ i. (if other i then changed change layer else layer) ∷ others_kept name change layers (λ k d inside. h (suc k) d (omega arith)) i)
+    (λ i. (if other i then change layer else layer) ∷ others_kept name change layers (λ k d inside. h (suc k) d (omega arith)) i)
 
-changed_first : (name : List ℕ) (change : List Item → List Item) (layer : Layer) (layers : List Layer) → layer.name ≡ name → AllPairs (λ a b. a.id ≢ b.id) (change layer.items) → AreDistinct (layer ∷ layers)
-    → AreDistinct (changed change layer ∷ changed_in name change layers)
-changed_first name change layer layers is ids h =
-    let others : All (λ l. name ≢ l.name) layers = λ k d inside. subst (λ n. n ≢ (get_or layers k d).name) is (names_apart layer layers h k d inside) in
-    subst (λ ls. AreDistinct (changed change layer ∷ ls)) (sym (others_kept name change layers others))
-    (AreDistinct-cons (changed change layer) layers (names_apart layer layers h) ids (AreDistinct-rest layer layers h))
+changed_first : (name : List ℕ) (change : Layer → Layer) → KeepsName change → (layer : Layer) (layers : List Layer) → layer.name ≡ name → AllPairs (λ a b. a.id ≢ b.id) (change layer).items
+    → AreDistinct (layer ∷ layers) → AreDistinct (change layer ∷ changed_in name change layers)
+changed_first name change same layer layers is ids h =
+    let apart = names_apart layer layers h in
+    let others : All (λ l. name ≢ l.name) layers = λ k d inside. subst (λ n. n ≢ (get_or layers k d).name) is (apart k d inside) in
+    let others' : All (λ l. (change layer).name ≢ l.name) layers = λ k d inside. subst (λ n. n ≢ (get_or layers k d).name) (sym (same layer)) (apart k d inside) in
+    subst (λ ls. AreDistinct (change layer ∷ ls)) (sym (others_kept name change layers others))
+    (AreDistinct-cons (change layer) layers others' ids (AreDistinct-rest layer layers h))
 
 -- a change that keeps the identifiers of a layer apart
-AreDistinct-changed_in : (name : List ℕ) (change : List Item → List Item) (layers : List Layer)
-    → ((layer : Layer) → layer_named name layers ≡ Some layer → AllPairs (λ a b. a.id ≢ b.id) layer.items → AllPairs (λ a b. a.id ≢ b.id) (change layer.items))
+AreDistinct-changed_in : (name : List ℕ) (change : Layer → Layer) → KeepsName change → (layers : List Layer)
+    → ((layer : Layer) → layer_named name layers ≡ Some layer → AllPairs (λ a b. a.id ≢ b.id) layer.items → AllPairs (λ a b. a.id ≢ b.id) (change layer).items)
     → AreDistinct layers → AreDistinct (changed_in name change layers)
-AreDistinct-changed_in name change [] keeps h = h
-AreDistinct-changed_in name change (layer ∷ layers) keeps h =
+AreDistinct-changed_in name change same [] keeps h = h
+AreDistinct-changed_in name change same (layer ∷ layers) keeps h =
     elim (bytes_eq layer.name name) as (λ b. bytes_eq layer.name name ≡ b
-    → ((l : Layer) → (if b then Some layer else layer_named name layers) ≡ Some l → AllPairs (λ x y. x.id ≢ y.id) l.items → AllPairs (λ x y. x.id ≢ y.id) (change l.items))
-    → AreDistinct ((if b then changed change layer else layer) ∷ changed_in name change layers)) [
-      | true ↦ λ same keeps'. changed_first name change layer layers ((bytes_eq-Decides layer.name name).0 same) (keeps' layer refl (ids_apart layer layers h)) h
-      | false ↦ λ other keeps'. AreDistinct-cons layer (changed_in name change layers) (names_kept name change (λ n. layer.name ≢ n) layers (names_apart layer layers h)) (ids_apart layer layers h)
-          (AreDistinct-changed_in name change layers keeps' (AreDistinct-rest layer layers h))
+    → ((l : Layer) → (if b then Some layer else layer_named name layers) ≡ Some l → AllPairs (λ x y. x.id ≢ y.id) l.items → AllPairs (λ x y. x.id ≢ y.id) (change l).items)
+    → AreDistinct ((if b then change layer else layer) ∷ changed_in name change layers)) [
+      | true ↦ λ is keeps'. changed_first name change same layer layers ((bytes_eq-Decides layer.name name).0 is) (keeps' layer refl (ids_apart layer layers h)) h
+      | false ↦ λ other keeps'. AreDistinct-cons layer (changed_in name change layers) (names_kept name change same (λ n. layer.name ≢ n) layers (names_apart layer layers h)) (ids_apart layer layers h)
+          (AreDistinct-changed_in name change same layers keeps' (AreDistinct-rest layer layers h))
     ] refl keeps
 
-pub HasDistinctKeys-with_items : (name : List ℕ) (change : List Item → List Item) (state : State)
-    → ((layer : Layer) → layer_named name state.layers ≡ Some layer → AllPairs (λ a b. a.id ≢ b.id) layer.items → AllPairs (λ a b. a.id ≢ b.id) (change layer.items))
-    → HasDistinctKeys state → HasDistinctKeys (with_items name change state)
-HasDistinctKeys-with_items name change state keeps h =
-    of_state (with_items name change state) (AreDistinct-changed_in name change state.layers keeps (of_layers state h))
+pub HasDistinctKeys-with_layer : (name : List ℕ) (change : Layer → Layer) → KeepsName change → (state : State)
+    → ((layer : Layer) → layer_named name state.layers ≡ Some layer → AllPairs (λ a b. a.id ≢ b.id) layer.items → AllPairs (λ a b. a.id ≢ b.id) (change layer).items)
+    → HasDistinctKeys state → HasDistinctKeys (with_layer name change state)
+HasDistinctKeys-with_layer name change same state keeps h =
+    of_state (with_layer name change state) (AreDistinct-changed_in name change same state.layers keeps (of_layers state h))
 
 -- ---- a layer more
 
@@ -140,7 +147,14 @@ HasDistinctKeys-make_layer : (state : State) (name : List ℕ) (kind : Kind) (in
 HasDistinctKeys-make_layer state name kind indexes h =
     either_keeps (is_taken name state) (refused state Taken) _ (λ taken. h) (λ free.
     either_keeps (nat_le most_layers (length state.layers)) (refused state NoRoom) _ (λ full. h) (λ room.
-    HasDistinctKeys-push state (record { name = name; kind = kind; indexes = indexes; items = [] }) (not_named name state.layers free) (λ i j d before inside. absurd (omega arith)) h))
+    HasDistinctKeys-push state (record { name = name; kind = kind; indexes = indexes; waits = no_waits; inserted = 0; items = [] }) (not_named name state.layers free) (λ i j d before inside. absurd (omega arith)) h))
+
+HasDistinctKeys-index_in : (state : State) (name : List ℕ) (index : indexes.Index) (found : Option Layer) → HasDistinctKeys state → Keeps (index_in state name index found)
+HasDistinctKeys-index_in state name index None h = h
+HasDistinctKeys-index_in state name index (Some layer) h =
+    either_keeps (not (is_same_kind layer.kind Points && not layer.indexes.batch)) (refused state refusals.Kind) _ (λ other. h) (λ same.
+    either_keeps (has layer.indexes index) (refused state Taken) _ (λ taken. h) (λ free.
+    HasDistinctKeys-with_layer name (indexed index) (λ _. refl) state (λ l named ids. ids) h))
 
 -- an identifier that isn't live is that of no item
 not_live : (id : ℕ) (items : List Item) → is_live id items ≡ false → (k : ℕ) (d : Item) → k < length items → (get_or items k d).id ≢ id
@@ -154,7 +168,7 @@ HasDistinctKeys-add_to state name id shape (Some layer) is h =
     either_keeps (not (is_same_kind layer.kind (kind_of shape))) (refused state refusals.Kind) _ (λ other. h) (λ same.
     either_keeps (is_live id layer.items) (refused state (Duplicate id)) _ (λ live. h) (λ fresh.
     either_keeps (nat_le state.most_items (live_count layer)) (refused state Full) _ (λ full. h) (λ room.
-    HasDistinctKeys-with_items name (with_item item) state (λ l named ids.
+    HasDistinctKeys-with_layer name (added item) (λ _. refl) state (λ l named ids.
     let same_layer : layer ≡ l = ap (λ found. unwrap_or found layer) (sym is ∙ named) in
     all_pairs_push (λ a b. a.id ≢ b.id) l.items item ids (not_live id l.items (subst (λ (x : Layer). is_live id x.items ≡ false) same_layer fresh))) h)))
 
@@ -162,7 +176,7 @@ HasDistinctKeys-drop_from : (state : State) (name : List ℕ) (id : ℕ) (found 
 HasDistinctKeys-drop_from state name id None h = h
 HasDistinctKeys-drop_from state name id (Some layer) h =
     either_keeps (is_live id layer.items) _ (refused state (Unknown id))
-    (λ live. HasDistinctKeys-with_items name (without_item id) state (λ l named ids. AllPairs-filter (λ a b. a.id ≢ b.id) (λ item. not (item.id == id)) l.items ids) h) (λ gone. h)
+    (λ live. HasDistinctKeys-with_layer name (dropped id) (λ _. refl) state (λ l named ids. AllPairs-filter (λ a b. a.id ≢ b.id) (λ item. not (item.id == id)) l.items ids) h) (λ gone. h)
 
 -- without an item's identifier there is none that has it
 apart_without : (id : ℕ) (items : List Item) → (k : ℕ) (d : Item) → k < length (without_item id items) → (get_or (without_item id items) k d).id ≢ id
@@ -176,14 +190,15 @@ HasDistinctKeys-move_in state name id shape (Some layer) h =
     let item : Item = record { id = id; shape = shape } in
     either_keeps (not (is_same_kind layer.kind (kind_of shape))) (refused state refusals.Kind) _ (λ other. h) (λ same.
     either_keeps (is_live id layer.items) _ (refused state (Unknown id)) (λ live.
-    HasDistinctKeys-with_items name (λ items. with_item item (without_item id items)) state (λ l named ids.
+    HasDistinctKeys-with_layer name (moved item) (λ _. refl) state (λ l named ids.
     all_pairs_push (λ a b. a.id ≢ b.id) (without_item id l.items) item (AllPairs-filter (λ a b. a.id ≢ b.id) (λ i. not (i.id == id)) l.items ids) (apart_without id l.items)) h) (λ gone. h))
 
 HasDistinctKeys-ask_of : (state : State) (question : Question) (found : Option Layer) → HasDistinctKeys state → Keeps (ask_of state question found)
 HasDistinctKeys-ask_of state question None h = h
 HasDistinctKeys-ask_of state question (Some layer) h =
     either_keeps (not (is_same_kind layer.kind (kind_asked question))) (refused state refusals.Kind) _ (λ other. h) (λ same.
-    either_keeps (not (has layer.indexes (index_of question))) (refused state Index) _ (λ lacks. h) (λ has'. h))
+    either_keeps (not (has layer.indexes (index_of question))) (refused state Index) _ (λ lacks. h) (λ has'.
+    either_keeps (nat_lt 0 (wait_of layer.waits (index_of question))) (refused state (Building (wait_of layer.waits (index_of question)))) _ (λ waits. h) (λ ready. h)))
 
 HasDistinctKeys-got : (state : State) (id : ℕ) (shape : Option Shape) → HasDistinctKeys state → Keeps (got state id shape)
 HasDistinctKeys-got state id None h = h
@@ -204,6 +219,7 @@ HasDistinctKeys-recent_of state k (Some layer) h = h
 pub HasDistinctKeys-step : (state : State) (command : Command) → HasDistinctKeys state → Keeps (step state command)
 HasDistinctKeys-step state (Livemap version) h = HasDistinctKeys-choose_version state version state.layers h
 HasDistinctKeys-step state (MakeLayer name kind indexes) h = HasDistinctKeys-make_layer state name kind indexes h
+HasDistinctKeys-step state (MakeIndex name index) h = HasDistinctKeys-index_in state name index (layer_named name state.layers) h
 HasDistinctKeys-step state (Add name id shape) h = HasDistinctKeys-add_to state name id shape (layer_named name state.layers) refl h
 HasDistinctKeys-step state (Move name id x y w) h = HasDistinctKeys-move_in state name id (Point x y w) (layer_named name state.layers) h
 HasDistinctKeys-step state (Drop name id) h = HasDistinctKeys-drop_from state name id (layer_named name state.layers) h

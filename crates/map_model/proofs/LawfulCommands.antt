@@ -1,20 +1,18 @@
 -- What a line says is within the limits of its form.
-use Rattle.std.proofs.Common.{◌≡◌, ℕ, zero, suc, ◌+◌, ◌-◌, ◌≤◌, Bool, true, false, cond, not, ◌&&◌, ◌||◌, nat_le, nat_lt, nat_eq, length-drop, List, [], ◌∷◌, ◌++◌, codes, length, drop, get_or, Option, Some, None, Ok, Err, bytes_eq, arith, refl, sym, ap, ◌∙◌, subst, inl, inr}
-use Rattle.std.specs.List.{list_all, list_any, starts_with}
+use Rattle.std.proofs.Common.{◌≡◌, ℕ, zero, suc, ◌-◌, ◌≤◌, Bool, true, false, cond, not, ◌&&◌, nat_le, nat_lt, nat_eq, List, [], ◌∷◌, ◌++◌, codes, length, drop, get_or, Option, Some, None, Ok, Err, bytes_eq, arith, refl, sym, ap, ◌∙◌, subst, inl, inr}
+use Rattle.std.specs.List.{list_all, starts_with}
 use Rattle.std.specs.Str.Parse.{digits_value}
 use Rattle.std.proofs.lemmas.Bool.{and_parts, false≢true, true≢false, cases_Bool, leb-true, eqb-true}
-use Rattle.std.proofs.lemmas.Slice.Eq.{bytes_eq-Decides}
-use Rattle.std.proofs.Math.Bool.{or-true}
 use Rattle.map_model.specs.Words.{words, is_name, longest_line, greatest_id, greatest_weight}
 use Rattle.map_model.specs.Version.{Version, One, Two, negatives, greatest_coordinate, kept}
 use Rattle.map_model.specs.Shape.{Kind, Points, Segments}
-use Rattle.map_model.specs.Index.{fits}
+use Rattle.map_model.specs.Index.{Index, Range, Near, Top, fits, may_be_late}
 use Rattle.map_model.specs.LineFault.{LineFault}
 use Rattle.map_model.specs.LineFault as faults
 use Rattle.map_model.specs.Command.{Command}
-use Rattle.map_model.specs.Form.{Field, Id, Coordinate, Weight, Amount, VersionNumber, limits_of, Form, form, is_ordered, verb_of, greatest_amount}
+use Rattle.map_model.specs.Form.{Field, Id, Coordinate, Weight, Amount, VersionNumber, limits_of, Tail, Bare, Indexes, OneIndex, Form, form, is_ordered, verb_of, greatest_amount}
 use Rattle.map_model.specs.Form as verbs
-use Rattle.map_model.specs.Grammar.{without_return, is_printable, is_digits, is_within, is_in_range, number_of, all_fields, has_words, Values, named, place, rect_of, with_value, with_values, command_of, takes_word, is_distinct, index_set, Parsed, parse_indexes, parse_kind, parse_fields, parse_named, parse_form, parse_verb, parse_words, parse}
+use Rattle.map_model.specs.Grammar.{without_return, is_printable, is_digits, is_within, is_in_range, number_of, all_fields, has_words, Values, named, place, rect_of, with_value, with_values, command_of, is_index_word, is_distinct, index_set, point_index, Parsed, parse_indexes, parse_kind, parse_index, parse_tail, parse_fields, parse_named, parse_form, parse_verb, parse_words, parse}
 use Rattle.map_model.specs.Line.{IsCommand, IsRect}
 
 -- behind a step that finds no fault
@@ -155,54 +153,6 @@ first_amount version fields (word ∷ words) v some h =
     let parts = and_parts (is_in_range version Amount word) (all_fields (is_in_range version) fields words) h in
     some_amount version fields words (with_value Amount (number_of version Amount word) v) parts.1 (some-amount version word parts.0)
 
--- ---- indexes
-
--- the words of a kind's indexes, some of them, fit it
-apart : (word a b : List ℕ) → bytes_eq a b ≡ false → bytes_eq word a ≡ true → bytes_eq word b ≡ false
-apart word a b differ same = ap (λ (w : List ℕ). bytes_eq w b) ((bytes_eq-Decides word a).0 same) ∙ differ
-
-no_stab : (words : List (List ℕ)) → list_all (takes_word Points) words ≡ true → list_any (λ word. bytes_eq word (codes "stab")) words ≡ false
-no_stab [] h = refl
-no_stab (word ∷ words) h =
-    let parts = and_parts (takes_word Points word) (list_all (takes_word Points) words) h in
-    ap (λ b. b || list_any (λ w. bytes_eq w (codes "stab")) words) (one parts.0) ∙ no_stab words parts.1
-  where
-    one : takes_word Points word ≡ true → bytes_eq word (codes "stab") ≡ false
-    one taken = elim (cases_Bool (bytes_eq word (codes "range"))) [
-      | inl range ↦ apart word (codes "range") (codes "stab") refl range
-      | inr not_range ↦ elim (cases_Bool (bytes_eq word (codes "near"))) [
-        | inl near ↦ apart word (codes "near") (codes "stab") refl near
-        | inr not_near ↦ apart word (codes "top") (codes "stab") refl (sym (λ i. (not_range i || not_near i) || bytes_eq word (codes "top")) ∙ taken)
-      ]
-    ]
-
-some_points : (word : List ℕ) (words : List (List ℕ)) → takes_word Points word ≡ true → ((index_set (word ∷ words)).range || (index_set (word ∷ words)).near || (index_set (word ∷ words)).top) ≡ true
-some_points word words taken =
-    some (bytes_eq word (codes "range")) (bytes_eq word (codes "near")) (bytes_eq word (codes "top")) (index_set words).range (index_set words).near (index_set words).top taken
-  where
-    some : (a b c x y z : Bool) → (a || b || c) ≡ true → ((a || x) || (b || y) || (c || z)) ≡ true
-    some true b c x y z h = refl
-    some false true c x y z h = ap (λ v. v || (c || z)) (or-true x)
-    some false false true x y z h = or-true (x || y)
-    some false false false x y z h = absurd (false≢true h)
-
-no_points : (words : List (List ℕ)) → list_all (takes_word Segments) words ≡ true → ((index_set words).range || (index_set words).near || (index_set words).top) ≡ false
-no_points [] h = refl
-no_points (word ∷ words) h =
-    let parts = and_parts (takes_word Segments word) (list_all (takes_word Segments) words) h in
-    let away = λ (other : List ℕ) (differ : bytes_eq (codes "stab") other ≡ false). apart word (codes "stab") other differ parts.0 in
-    (λ i. (away (codes "range") refl i || (index_set words).range) || (away (codes "near") refl i || (index_set words).near) || (away (codes "top") refl i || (index_set words).top))
-    ∙ no_points words parts.1
-
-fits_words : (kind : Kind) (words : List (List ℕ)) → 1 ≤ length words → list_all (takes_word kind) words ≡ true → fits kind (index_set words) ≡ true
-fits_words kind [] some h = absurd (omega arith)
-fits_words Points (word ∷ words) some h =
-    let parts = and_parts (takes_word Points word) (list_all (takes_word Points) words) h in
-    (λ i. some_points word words parts.0 i && not (no_stab (word ∷ words) h i))
-fits_words Segments (word ∷ words) some h =
-    let parts = and_parts (takes_word Segments word) (list_all (takes_word Segments) words) h in
-    (λ i. not (no_points (word ∷ words) h i) && (parts.0 i || (index_set words).stab))
-
 -- ---- one form after the other
 
 -- what the steps before the end say
@@ -239,11 +189,17 @@ corners version verb name words h order =
     let parts = and_parts (nat_le (place v 0) (place v 2)) (nat_le (place v 1) (place v 3)) ordered in
     (leb-true (place v 0) (place v 2) parts.0, leb-true (place v 1) (place v 3) parts.1, all.places 2, all.places 3)
 
-lawful : (version : Version) (verb : verbs.Verb) (name : List ℕ) (words : List (List ℕ)) → HasPassed version (form verb) name words → (form verb).has_indexes ≡ false
+abbrev is_bare : Tail → Bool
+is_bare Bare = true
+is_bare Indexes = false
+is_bare OneIndex = false
+
+lawful : (version : Version) (verb : verbs.Verb) (name : List ℕ) (words : List (List ℕ)) → HasPassed version (form verb) name words → (form verb).tail ≡ Bare
     → IsCommand version (command_of verb (with_values version (form verb).fields words (named name)))
 unfolding form command_of
 lawful version verbs.Livemap name words h free = record { named = refl; in_limits = tt }
-lawful version verbs.Layer name words h free = absurd (true≢false free)
+lawful version verbs.Layer name words h free = absurd (false≢true (ap is_bare free))
+lawful version verbs.Index name words h free = absurd (false≢true (ap is_bare free))
 lawful version verbs.Add name words h free =
     let all = all_limited version verbs.Add name words h in
     record { named = called version verbs.Add name words h refl; in_limits = (all.id, (all.places 0, all.places 1, limited-weight version name words h.many h.ranged)) }
@@ -272,6 +228,12 @@ lawful version verbs.Top name words h free =
     record { named = called version verbs.Top name words h refl; in_limits = (leb-true _ _ h.ordered, all.places 1) }
 lawful version verbs.Stab name words h free = record { named = called version verbs.Stab name words h refl; in_limits = (all_limited version verbs.Stab name words h).places 0 }
 lawful version verbs.StabCount name words h free = record { named = called version verbs.StabCount name words h refl; in_limits = (all_limited version verbs.StabCount name words h).places 0 }
+lawful version verbs.Cross name words h free =
+    let all = all_limited version verbs.Cross name words h in
+    record { named = called version verbs.Cross name words h refl; in_limits = (all.places 0, leb-true _ _ h.ordered, all.places 2) }
+lawful version verbs.CrossCount name words h free =
+    let all = all_limited version verbs.CrossCount name words h in
+    record { named = called version verbs.CrossCount name words h refl; in_limits = (all.places 0, leb-true _ _ h.ordered, all.places 2) }
 lawful version verbs.Get name words h free = record { named = called version verbs.Get name words h refl; in_limits = (all_limited version verbs.Get name words h).id }
 lawful version verbs.Size name words h free = record { named = called version verbs.Size name words h refl; in_limits = tt }
 lawful version verbs.Recent name words h free =
@@ -279,28 +241,24 @@ lawful version verbs.Recent name words h free =
     record { named = called version verbs.Recent name words h refl; in_limits = (some, (all_limited version verbs.Recent name words h).amount) }
 
 -- a layer with a kind and indexes
-lawful_layer : (version : Version) (name : List ℕ) (kind : Kind) (words : List (List ℕ)) (v : Values) → v.name ≡ name → is_name name ≡ true → 1 ≤ length words
-    → list_all (takes_word kind) words ≡ true → IsCommand version (command_of verbs.Layer (record v { kind = kind; indexes = index_set words }))
+lawful_layer : (version : Version) (kind : Kind) (words : List (List ℕ)) (v : Values) → is_name v.name ≡ true → fits kind (index_set words) ≡ true
+    → IsCommand version (command_of verbs.Layer (record v { kind = kind; indexes = index_set words }))
 unfolding command_of
-lawful_layer version name kind words v same h some taken = record { named = ap is_name same ∙ h; in_limits = fits_words kind words some taken }
-
-has_more : (f : Form) (words : List (List ℕ)) → f.has_indexes ≡ true → has_words f words ≡ true → 2 ≤ length (drop (length f.fields) words)
-has_more f words follow many =
-    let enough : nat_le (length f.fields + 2) (length words) ≡ true = sym (ap (λ b. cond b (nat_le (length f.fields + 2) (length words)) (nat_eq (length words) (length f.fields))) follow) ∙ many in
-    omega (arith, leb-true (length f.fields + 2) (length words) enough, length-drop (length f.fields) words)
+lawful_layer version kind words v named fitting = record { named = named; in_limits = fitting }
 
 -- the end of a line of a layer
-from_indexes : (verb : verbs.Verb) (v : Values) (kind : Kind) (words : List (List ℕ)) (command : Command) → parse_indexes verb v kind words ≡ Ok (Some command) → (list_all (takes_word kind) words ≡ true) × (command_of verb (record v { kind = kind; indexes = index_set words }) ≡ command)
-from_indexes verb v kind words command e = elim (cases_Bool (list_all (takes_word kind) words && is_distinct words)) [
+from_indexes : (verb : verbs.Verb) (v : Values) (kind : Kind) (words : List (List ℕ)) (command : Command) → parse_indexes verb v kind words ≡ Ok (Some command)
+    → (fits kind (index_set words) ≡ true) × (command_of verb (record v { kind = kind; indexes = index_set words }) ≡ command)
+from_indexes verb v kind words command e = elim (cases_Bool (list_all is_index_word words && is_distinct words && fits kind (index_set words))) [
   | inl passed ↦
       let made : Ok (Some (command_of verb (record v { kind = kind; indexes = index_set words }))) ≡ Ok (Some command) = sym (rw passed refl) ∙ e in
-      ((and_parts (list_all (takes_word kind) words) (is_distinct words) passed).0, cc)
+      ((and_parts (list_all is_index_word words && is_distinct words) (fits kind (index_set words)) passed).1, cc)
   | inr failed ↦ absurd (let never : Err faults.Index ≡ Ok (Some command) = sym (rw failed refl) ∙ e in cc)
 ]
 
-from_kind : (version : Version) (v : Values) (name : List ℕ) (words : List (List ℕ)) (command : Command) → v.name ≡ name → is_name name ≡ true → 2 ≤ length words → parse_kind verbs.Layer v words ≡ Ok (Some command) → IsCommand version command
-from_kind version v name [] command same called' some e = absurd (omega arith)
-from_kind version v name (word ∷ words) command same called' some e = elim (cases_Bool (bytes_eq word (codes "points"))) [
+from_kind : (version : Version) (v : Values) (words : List (List ℕ)) (command : Command) → is_name v.name ≡ true → parse_kind verbs.Layer v words ≡ Ok (Some command) → IsCommand version command
+from_kind version v [] command named e = absurd (let never : Err faults.Fields ≡ Ok (Some command) = e in cc)
+from_kind version v (word ∷ words) command named e = elim (cases_Bool (bytes_eq word (codes "points"))) [
   | inl points ↦ indexed Points (sym (ap (λ b. cond b (parse_indexes verbs.Layer v Points words) (cond (bytes_eq word (codes "segments")) (parse_indexes verbs.Layer v Segments words) (Err faults.Kind))) points) ∙ e)
   | inr not_points ↦ elim (cases_Bool (bytes_eq word (codes "segments"))) [
     | inl segments ↦ indexed Segments (sym (λ i. cond (not_points i) (parse_indexes verbs.Layer v Points words) (cond (segments i) (parse_indexes verbs.Layer v Segments words) (Err faults.Kind))) ∙ e)
@@ -310,42 +268,88 @@ from_kind version v name (word ∷ words) command same called' some e = elim (ca
   where
     indexed : (kind : Kind) → parse_indexes verbs.Layer v kind words ≡ Ok (Some command) → IsCommand version command
     indexed kind read =
-        let r = from_indexes verbs.Layer v kind words command read in
-        subst (λ c. IsCommand version c) r.1 (lawful_layer version name kind words v same called' (omega arith) r.0)
+        let found = from_indexes verbs.Layer v kind words command read in
+        subst (λ c. IsCommand version c) found.1 (lawful_layer version kind words v named found.0)
 
-only_layer : (verb : verbs.Verb) → (form verb).has_indexes ≡ true → verb ≡ verbs.Layer
+-- a layer in use and one index
+lawful_index : (version : Version) (v : Values) (index : Index) → is_name v.name ≡ true → may_be_late index ≡ true → IsCommand version (command_of verbs.Index (record v { index = index }))
+unfolding command_of
+lawful_index version v index named late = record { named = named; in_limits = late }
+
+abbrev IsLateIfSome : Option Index → Type 0
+IsLateIfSome None = Unit {0}
+IsLateIfSome (Some index) = may_be_late index ≡ true
+
+late : (a b c : Bool) → IsLateIfSome (cond a (Some Range) (cond b (Some Near) (cond c (Some Top) None)))
+late true b c = refl
+late false true c = refl
+late false false true = refl
+late false false false = tt
+
+from_index : (version : Version) (v : Values) (found : Option Index) (command : Command) → is_name v.name ≡ true → IsLateIfSome found → parse_index verbs.Index v found ≡ Ok (Some command)
+    → IsCommand version command
+from_index version v None command named late e = absurd (let never : Err faults.Index ≡ Ok (Some command) = e in cc)
+from_index version v (Some index) command named late e =
+    let same : command_of verbs.Index (record v { index = index }) ≡ command = cc in
+    subst (λ c. IsCommand version c) same (lawful_index version v index named late)
+
+-- the end of a line that gives a layer in use an index
+from_one : (version : Version) (v : Values) (words : List (List ℕ)) (command : Command) → is_name v.name ≡ true → parse_tail verbs.Index OneIndex v words ≡ Ok (Some command) → IsCommand version command
+from_one version v [] command named e = absurd (let never : Err faults.Fields ≡ Ok (Some command) = e in cc)
+from_one version v (word ∷ words) command named e =
+    from_index version v (point_index word) command named (late (bytes_eq word (codes "range")) (bytes_eq word (codes "near")) (bytes_eq word (codes "top"))) e
+
+abbrev tail_number : Tail → ℕ
+tail_number Bare = 0
+tail_number Indexes = 1
+tail_number OneIndex = 2
+
+only_layer : (verb : verbs.Verb) → (form verb).tail ≡ Indexes → verb ≡ verbs.Layer
 unfolding form
 only_layer verbs.Layer h = refl
-only_layer _ h = absurd (false≢true h)
+only_layer verbs.Index h = absurd (let none : ⊥ = omega (arith, ap tail_number h) in none)
+only_layer _ h = absurd (let none : ⊥ = omega (arith, ap tail_number h) in none)
 
-layer_is_named : (verb : verbs.Verb) → (form verb).has_indexes ≡ true → (form verb).has_name ≡ true
+only_index : (verb : verbs.Verb) → (form verb).tail ≡ OneIndex → verb ≡ verbs.Index
 unfolding form
-layer_is_named verbs.Layer h = refl
-layer_is_named _ h = absurd (false≢true h)
+only_index verbs.Index h = refl
+only_index verbs.Layer h = absurd (let none : ⊥ = omega (arith, ap tail_number h) in none)
+only_index _ h = absurd (let none : ⊥ = omega (arith, ap tail_number h) in none)
+
+names : (verb : verbs.Verb) → is_bare (form verb).tail ≡ false → (form verb).has_name ≡ true
+unfolding form
+names verbs.Layer h = refl
+names verbs.Index h = refl
+names _ h = absurd (true≢false h)
+
+from_tail : (version : Version) (verb : verbs.Verb) (name : List ℕ) (words : List (List ℕ)) (command : Command) → HasPassed version (form verb) name words → (tail : Tail)
+    → (form verb).tail ≡ tail → parse_tail verb tail (with_values version (form verb).fields words (named name)) (drop (length (form verb).fields) words) ≡ Ok (Some command) → IsCommand version command
+from_tail version verb name words command passed Bare is e =
+    let v = with_values version (form verb).fields words (named name) in
+    let same : command_of verb v ≡ command = cc in
+    subst (λ c. IsCommand version c) same (lawful version verb name words passed is)
+from_tail version verb name words command passed Indexes is e =
+    let v = with_values version (form verb).fields words (named name) in
+    let rest = drop (length (form verb).fields) words in
+    from_kind version v rest command (called version verb name words passed (names verb (ap is_bare is)))
+    (subst (λ w. parse_kind w v rest ≡ Ok (Some command)) (only_layer verb is) e)
+from_tail version verb name words command passed OneIndex is e =
+    let v = with_values version (form verb).fields words (named name) in
+    let rest = drop (length (form verb).fields) words in
+    from_one version v rest command (called version verb name words passed (names verb (ap is_bare is)))
+    (subst (λ w. parse_tail w OneIndex v rest ≡ Ok (Some command)) (only_index verb is) e)
 
 from_fields : (version : Version) (verb : verbs.Verb) (name : List ℕ) (words : List (List ℕ)) (command : Command) → parse_fields version verb (form verb) name words ≡ Ok (Some command)
     → IsCommand version command
 from_fields version verb name words command e =
     let f = form verb in
     let v = with_values version f.fields words (named name) in
-    let last : Parsed = cond f.has_indexes (parse_kind verb v (drop (length f.fields) words)) (Ok (Some (command_of verb v))) in
     let p1 = past (not (has_words f words)) faults.Fields _ command e in
     let p2 = past (f.has_name && not (is_name name)) faults.Name _ command p1.1 in
     let p3 = past (not (all_fields (is_digits version) f.fields words)) faults.Number _ command p2.1 in
     let p4 = past (not (all_fields (is_in_range version) f.fields words)) faults.Range _ command p3.1 in
-    let p5 = past (not (is_ordered f.order v.places)) faults.Order last command p4.1 in
-    let passed : HasPassed version f name words = record { many = holds _ p1.0; called = p2.0; ranged = holds _ p4.0; ordered = holds _ p5.0 } in
-    elim (cases_Bool f.has_indexes) [
-      | inr free ↦
-          let made : Ok (Some (command_of verb v)) ≡ Ok (Some command) = sym (ap (λ b. cond b (parse_kind verb v (drop (length f.fields) words)) (Ok (Some (command_of verb v)))) free) ∙ p5.1 in
-          let same : command_of verb v ≡ command = cc in
-          subst (λ c. IsCommand version c) same (lawful version verb name words passed free)
-      | inl follow ↦
-          let kinds : parse_kind verb v (drop (length f.fields) words) ≡ Ok (Some command) = sym (ap (λ b. cond b (parse_kind verb v (drop (length f.fields) words)) (Ok (Some (command_of verb v)))) follow) ∙ p5.1 in
-          from_kind version v name (drop (length f.fields) words) command (name-kept version f.fields words (named name))
-          (is_named name (sym (ap (λ b. b && not (is_name name)) (layer_is_named verb follow)) ∙ passed.called)) (has_more f words follow passed.many)
-          (subst (λ w. parse_kind w v (drop (length f.fields) words) ≡ Ok (Some command)) (only_layer verb follow) kinds)
-    ]
+    let p5 = past (not (is_ordered f.order v.places)) faults.Order (parse_tail verb f.tail v (drop (length f.fields) words)) command p4.1 in
+    from_tail version verb name words command (record { many = holds _ p1.0; called = p2.0; ranged = holds _ p4.0; ordered = holds _ p5.0 }) f.tail refl p5.1
 
 from_form : (version : Version) (verb : verbs.Verb) (words : List (List ℕ)) (command : Command) → parse_form version verb (form verb) words ≡ Ok (Some command) → IsCommand version command
 from_form version verb words command e = elim (cases_Bool (form verb).has_name) [

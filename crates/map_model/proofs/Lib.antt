@@ -9,3 +9,4 @@ pub mod RoundTrip
 pub mod LawfulCommands
 pub mod CostsFixed
 pub mod Shifts
+pub mod Waiting

@@ -1,28 +1,29 @@
 -- The laws of the output relation over a map of layers.
-use Rattle.std.proofs.Common.{◌≡◌, ℕ, ◌*◌, ◌≤◌, Bool, true, false, cond, not, nat_le, List, [], ◌∷◌, ◌++◌, codes, Option, Some, None, Ok, Err, IsTrue, ◌⊎◌, inl, inr, arith, refl, sym, ap, ◌∙◌, subst, append_assoc, append-nil, get_or, suc, Contains, length, nat_eq, count_by, add_assoc, add-zero, zero-add, length-append, take_at, le_of_lt, take, ◌<◌, ◌+◌}
-use Rattle.std.proofs.lemmas.Bool.{false≢true, and_parts, not-true, both_ways, eqb-false}
-use Rattle.std.proofs.lemmas.List.{append_cancel_left, get_or_at, take-append-le, get_or_append_left}
+use Rattle.std.proofs.Common.{◌≡◌, ℕ, ◌*◌, ◌≤◌, Bool, true, false, cond, not, ◌&&◌, nat_le, nat_lt, List, [], ◌∷◌, ◌++◌, codes, Option, Some, None, Ok, Err, IsTrue, ◌⊎◌, inl, inr, arith, refl, sym, ap, ◌∙◌, subst, append_assoc, append-nil, get_or, suc, Contains, length, nat_eq, count_by, add_assoc, add-zero, zero-add, ◌+◌}
+use Rattle.std.proofs.lemmas.Bool.{false≢true, and_parts, not-true, both_ways, eqb-false, cases_Bool}
+use Rattle.std.proofs.lemmas.List.{append_cancel_left}
 use Rattle.std.proofs.lemmas.List.Sums.{sum_by-cons}
 use Rattle.std.specs.List.{starts_with}
-use Rattle.std.proofs.Math.Nat.{mul-le-mul_left, le_refl}
+use Rattle.std.proofs.Math.Nat.{mul-le-mul_right, le_refl}
 use Rattle.map_model.specs.Text.{lines, refusals}
 use Rattle.map_model.proofs.TextLemmas.{lines-line}
 use Rattle.map_model.specs.Version.{Version}
-use Rattle.map_model.specs.Shape.{Shape, Kind, Point, kind_of}
-use Rattle.map_model.specs.Index.{IndexSet, has, index_count}
-use Rattle.map_model.specs.State.{Item, Layer, State, most_layers, live_count, is_live, shape_of, layer_named, with_items, with_item, without_item}
+use Rattle.map_model.specs.Shape.{Shape, Kind, Point, Points, kind_of}
+use Rattle.map_model.specs.Index.{IndexSet, Index, Range, Near, Top, Stab, Cross, has, one_if}
+use Rattle.map_model.specs.State.{Item, Layer, State, most_layers, live_count, is_live, shape_of, layer_named, with_layer, wait_of, handed, added, moved, dropped}
 use Rattle.map_model.specs.Answer as questions
 use Rattle.map_model.specs.Answer.{answer_over, index_of, kind_asked, latest}
-use Rattle.map_model.specs.Command.{Command, Livemap, MakeLayer, Add, Move, Drop, Ask, Get, Size, Recent, name_of, lists_ids, takes_memory}
-use Rattle.map_model.specs.Refusal.{NoMemory, NoLayer, Duplicate, Unknown, Full, Index, Taken, NoRoom, refusal_of_fault}
+use Rattle.map_model.specs.Command.{Command, Livemap, MakeLayer, MakeIndex, Add, Move, Drop, Ask, Get, Size, Recent, name_of, lists_ids, takes_memory}
+use Rattle.map_model.specs.Refusal.{NoMemory, NoLayer, Duplicate, Unknown, Full, Building, Taken, NoRoom, refusal_of_fault}
 use Rattle.map_model.specs.Refusal as refusals
-use Rattle.map_model.specs.Cost.{Cost, Untold, Updating, Asking, Update, Adds, Drops, Moves, turns_of, bounds_at, turn_bound, mark_bound, part_bound, parts_up_to, greatest_level, cost_text}
+use Rattle.map_model.specs.Cost.{Cost, Untold, Updating, Joining, Asking, Update, Adds, Drops, Moves, brings, turns_of, bounds_at, rate_of, turn_bound, mark_bound, part_bound, ready_count, batch_part_bound, batch_parts, batch_turn_bound, inserted_by, parts_up_to, greatest_level, cost_text}
 use Rattle.map_model.specs.Reply.{Updated, Answered, Refused, is_refusal, reply_text, reply_line}
-use Rattle.map_model.specs.Machine.{Outcome, replied, refused, is_same_kind, is_taken, choose_version, make_layer, add_to, move_in, drop_from, ask_of, got, get_from, size_of, recent_of, step}
+use Rattle.map_model.specs.Machine.{Outcome, replied, refused, is_same_kind, is_taken, choose_version, make_layer, index_in, add_to, move_in, drop_from, ask_of, got, get_from, size_of, recent_of, step}
 use Rattle.map_model.specs.Grammar.{Parsed, parse}
 use Rattle.map_model.specs.Output as outputs
 use Rattle.map_model.specs.Output.{Told, Given, nothing, Executes, may_lack_memory, AnswersTo, Answers, written_for, refusal_count, Output, Interrupted, IsCost, update_of, machine_reply, machine_state, line_for, machine_text, machine_end, asks_memory, never_lacks_memory}
 use Rattle.map_model.proofs.ReplyLines.{told_text, told_one_line, begins_no, rest_of_line}
+use Rattle.map_model.proofs.Levels.{batch_parts-le, some_digit}
 
 -- ---- `no memory` is written for no other answer
 
@@ -45,17 +46,17 @@ added_apart state name id shape None = refused_apart state NoLayer
 added_apart state name id shape (Some layer) =
     either_apart (not (is_same_kind layer.kind (kind_of shape))) _ _ (refused_apart state refusals.Kind)
     (either_apart (is_live id layer.items) _ _ (refused_apart state (Duplicate id))
-    (either_apart (nat_le state.most_items (live_count layer)) _ _ (refused_apart state Full) (updated_apart (with_items name (with_item (record { id = id; shape = shape })) state))))
+    (either_apart (nat_le state.most_items (live_count layer)) _ _ (refused_apart state Full) (updated_apart (with_layer name (added (record { id = id; shape = shape })) state))))
 
 moved_apart : (state : State) (name : List ℕ) (id : ℕ) (shape : Shape) (layer : Option Layer) → IsApart (move_in state name id shape layer)
 moved_apart state name id shape None = refused_apart state NoLayer
 moved_apart state name id shape (Some layer) =
     either_apart (not (is_same_kind layer.kind (kind_of shape))) _ _ (refused_apart state refusals.Kind)
-    (either_apart (is_live id layer.items) _ _ (updated_apart (with_items name (λ items. with_item (record { id = id; shape = shape }) (without_item id items)) state)) (refused_apart state (Unknown id)))
+    (either_apart (is_live id layer.items) _ _ (updated_apart (with_layer name (moved (record { id = id; shape = shape })) state)) (refused_apart state (Unknown id)))
 
 dropped_apart : (state : State) (name : List ℕ) (id : ℕ) (layer : Option Layer) → IsApart (drop_from state name id layer)
 dropped_apart state name id None = refused_apart state NoLayer
-dropped_apart state name id (Some layer) = either_apart (is_live id layer.items) _ _ (updated_apart (with_items name (without_item id) state)) (refused_apart state (Unknown id))
+dropped_apart state name id (Some layer) = either_apart (is_live id layer.items) _ _ (updated_apart (with_layer name (dropped id) state)) (refused_apart state (Unknown id))
 
 answer_apart : (items : List Item) (question : questions.Question) → lists_ids question ≡ true → (version : Version) (x y : List ℕ) → reply_text version (Answered (answer_over items question)) ++ x ≡ codes "no memory" ++ y → ⊥
 answer_apart items (questions.CountIn rect) h version x y e = false≢true h
@@ -67,6 +68,8 @@ answer_apart items (questions.Above x1 x2 py) h version x y e = eqb-false 97 110
 answer_apart items (questions.Top x1 x2) h version x y e = false≢true h
 answer_apart items (questions.Stab px) h version x y e = eqb-false 115 110 refl (ap (λ (bytes : List ℕ). get_or bytes 0 0) e)
 answer_apart items (questions.StabCount px) h version x y e = false≢true h
+answer_apart items (questions.CrossIn px y1 y2) h version x y e = eqb-false 99 110 refl (ap (λ (bytes : List ℕ). get_or bytes 0 0) e)
+answer_apart items (questions.CrossCount px y1 y2) h version x y e = false≢true h
 
 answered_apart : (state : State) (items : List Item) (question : questions.Question) → lists_ids question ≡ true → IsApart (replied state (Answered (answer_over items question)))
 answered_apart state items question h = record { refused_or = inr (answer_apart items question h) }
@@ -75,11 +78,13 @@ asked_apart : (state : State) (question : questions.Question) (layer : Option La
 asked_apart state question None h = refused_apart state NoLayer
 asked_apart state question (Some layer) h =
     either_apart (not (is_same_kind layer.kind (kind_asked question))) _ _ (refused_apart state refusals.Kind)
-    (either_apart (not (has layer.indexes (index_of question))) _ _ (refused_apart state Index) (answered_apart state layer.items question h))
+    (either_apart (not (has layer.indexes (index_of question))) _ _ (refused_apart state refusals.Index)
+    (either_apart (nat_lt 0 (wait_of layer.waits (index_of question))) _ _ (refused_apart state (Building (wait_of layer.waits (index_of question)))) (answered_apart state layer.items question h)))
 
 stepped_apart : (state : State) (command : Command) → takes_memory command ≡ true → IsApart (step state command)
 stepped_apart state (Livemap version) h = absurd (false≢true h)
 stepped_apart state (MakeLayer name kind indexes) h = absurd (false≢true h)
+stepped_apart state (MakeIndex name index) h = absurd (false≢true h)
 stepped_apart state (Add name id shape) h = added_apart state name id shape (layer_named name state.layers)
 stepped_apart state (Move name id x y w) h = moved_apart state name id (Point x y w) (layer_named name state.layers)
 stepped_apart state (Drop name id) h = dropped_apart state name id (layer_named name state.layers)
@@ -205,36 +210,119 @@ either_cost layer update false first second p q = q
 refused_cost : (layer : Option Layer) (update : Option Update) (state : State) (cause : refusals.Refusal) → HasCost layer update (refused state cause)
 refused_cost layer update state cause = record { cost = Untold; allowed = refl }
 
-enough_turns : (update : Update) (n items : ℕ) → 3 * n ≤ n * turns_of update (bounds_at items)
-enough_turns update n items = omega (arith, mul-le-mul_left n (least update))
+-- an add or a move may take its bound, which is at least three turns an index
+enough_turns : (update : Update) (layer : Layer) → 3 * ready_count layer ≤ turn_bound update layer
+enough_turns update layer =
+    let s = layer.indexes in
+    omega (arith, one s.range Range, one s.near Near, one s.top Top, one s.stab Stab, one s.cross Cross)
   where
-    least : (update : Update) → 3 ≤ turns_of update (bounds_at items)
-    least Adds = omega arith
-    least Drops = omega arith
-    least Moves = omega arith
+    least : (update : Update) (index : Index) (n : ℕ) → 3 ≤ turns_of update (bounds_at (rate_of index) n)
+    least Adds Range n = omega arith
+    least Adds Near n = omega arith
+    least Adds Top n = omega arith
+    least Adds Stab n = omega arith
+    least Adds Cross n = omega arith
+    least Drops Range n = omega arith
+    least Drops Near n = omega arith
+    least Drops Top n = omega arith
+    least Drops Stab n = omega arith
+    least Drops Cross n = omega arith
+    least Moves Range n = omega arith
+    least Moves Near n = omega arith
+    least Moves Top n = omega arith
+    least Moves Stab n = omega arith
+    least Moves Cross n = omega arith
+
+    one_at_most : (b : Bool) → one_if b ≤ 1
+    one_at_most true = omega arith
+    one_at_most false = omega arith
+
+    one : (b : Bool) (index : Index)
+        → 3 * cond b (one_if (nat_le (wait_of layer.waits index) handed)) 0 ≤ cond b (turns_of update (bounds_at (rate_of index) (live_count layer))) 0
+    one true index = omega (arith, one_at_most (nat_le (wait_of layer.waits index) handed), least update index (live_count layer))
+    one false index = omega arith
 
 -- an update may spend its bounds
-updated_cost : (layer : Layer) (update : Update) (state : State) → HasCost (Some layer) (Some update) (replied state Updated)
-updated_cost layer update state = record {
+spread_cost : (layer : Layer) (update : Update) (state : State) → layer.indexes.batch ≡ false → HasCost (Some layer) (Some update) (replied state Updated)
+spread_cost layer update state spread = record {
   cost = Updating (record { turns = turn_bound update layer; turn_bound = turn_bound update layer; marks = mark_bound update layer; mark_bound = mark_bound update layer });
   allowed = record {
+    spread = spread;
     turn_bound_told = refl;
     mark_bound_told = refl;
     turns_bounded = le_refl (turn_bound update layer);
     marks_bounded = le_refl (mark_bound update layer);
-    takes_turns = λ _. enough_turns update (index_count layer.indexes) (live_count layer);
+    takes_turns = λ _. enough_turns update layer;
   };
 }
 
--- a question may ask as many parts as its bound
+-- inserts may take at least eight turns
+some_turns : (n : ℕ) → 8 ≤ batch_turn_bound (n + 1)
+some_turns n =
+    let digits = batch_part_bound (n + 1) in
+    let each : 8 ≤ digits * (digits + 7) = omega (arith, some_digit n, mul-le-mul_right (digits + 7) (some_digit n)) in
+    omega (arith, each, mul-le-mul_right (digits * (digits + 7)) (let some : 1 ≤ n + 1 = omega arith in some))
+
+-- the same where parts are joined at once, by the turns and marks of one update
+joined_with : (layer : Layer) (update : Update) (state : State) (turns : ℕ) → layer.indexes.batch ≡ true → turns ≤ batch_turn_bound (inserted_by update layer)
+    → (brings update ≡ true → 3 ≤ turns) → (brings update ≡ false → turns ≡ 0) → HasCost (Some layer) (Some update) (replied state Updated)
+joined_with layer update state turns at_once few some none =
+    let bound = batch_turn_bound (inserted_by update layer) in record {
+      cost = Joining (record { turns = turns; total = bound; turn_bound = bound; marks = 0; mark_bound = batch_part_bound (inserted_by update layer) });
+      allowed = record {
+        at_once = at_once;
+        turn_bound_told = refl;
+        mark_bound_told = refl;
+        turns_added = few;
+        turns_bounded = le_refl bound;
+        marks_bounded = omega arith;
+        takes_turns = some;
+        takes_none = none;
+        makes_none = λ _. refl;
+      };
+    }
+
+joined_cost : (layer : Layer) (update : Update) (state : State) → layer.indexes.batch ≡ true → HasCost (Some layer) (Some update) (replied state Updated)
+joined_cost layer Adds state at_once =
+    joined_with layer Adds state 3 at_once (omega (arith, some_turns layer.inserted)) (λ _. omega arith) (λ none. absurd (false≢true (sym none)))
+joined_cost layer Drops state at_once = joined_with layer Drops state 0 at_once (omega arith) (λ some. absurd (false≢true some)) (λ _. refl)
+joined_cost layer Moves state at_once =
+    joined_with layer Moves state 3 at_once (omega (arith, some_turns layer.inserted)) (λ _. omega arith) (λ none. absurd (false≢true (sym none)))
+
+updated_cost : (layer : Layer) (update : Update) (state : State) → HasCost (Some layer) (Some update) (replied state Updated)
+updated_cost layer update state = elim (cases_Bool layer.indexes.batch) [
+  | inl at_once ↦ joined_cost layer update state at_once
+  | inr spread ↦ spread_cost layer update state spread
+]
+
+-- a question may ask as many parts as its bound, and each part where they are joined at once
 answered_cost : (layer : Layer) (state : State) (answer : questions.Answer) → HasCost (Some layer) None (replied state (Answered answer))
-answered_cost layer state answer = record {
-  cost = Asking (record { parts = part_bound layer; part_bound = part_bound layer; touches = 0 });
-  allowed = record { part_bound_told = refl; parts_bounded = le_refl (part_bound layer); some_part = λ _. least_parts (greatest_level (live_count layer)) };
-}
+answered_cost layer state answer = elim (cases_Bool layer.indexes.batch) [
+  | inl at_once ↦
+      let bound : part_bound layer ≡ batch_part_bound layer.inserted = bound_by layer.indexes.batch true at_once in record {
+        cost = Asking (record { parts = batch_parts layer.inserted; part_bound = part_bound layer; touches = 0 });
+        allowed = record {
+          part_bound_told = refl;
+          parts_bounded = omega (arith, bound, batch_parts-le layer.inserted);
+          some_part = λ spread. absurd (both_ways layer.indexes.batch spread at_once);
+          each_part = λ _. refl;
+        };
+      }
+  | inr spread ↦
+      let bound : part_bound layer ≡ parts_up_to (greatest_level (live_count layer)) = bound_by layer.indexes.batch false spread in record {
+        cost = Asking (record { parts = part_bound layer; part_bound = part_bound layer; touches = 0 });
+        allowed = record {
+          part_bound_told = refl;
+          parts_bounded = le_refl (part_bound layer);
+          some_part = λ _ _. omega (arith, bound);
+          each_part = λ at_once. absurd (both_ways layer.indexes.batch spread at_once);
+        };
+      }
+]
   where
-    least_parts : (level : ℕ) → 1 ≤ parts_up_to level
-    least_parts level = omega arith
+    bound_by : (b c : Bool) → b ≡ c
+        → cond b (batch_part_bound layer.inserted) (parts_up_to (greatest_level (live_count layer))) ≡ cond c (batch_part_bound layer.inserted) (parts_up_to (greatest_level (live_count layer)))
+    bound_by b c same = ap (λ x. cond x (batch_part_bound layer.inserted) (parts_up_to (greatest_level (live_count layer)))) same
 
 added_cost : (state : State) (name : List ℕ) (id : ℕ) (shape : Shape) (layer : Option Layer) → HasCost layer (Some Adds) (add_to state name id shape layer)
 added_cost state name id shape None = refused_cost None (Some Adds) state NoLayer
@@ -242,27 +330,29 @@ added_cost state name id shape (Some layer) =
     either_cost (Some layer) (Some Adds) (not (is_same_kind layer.kind (kind_of shape))) _ _ (refused_cost (Some layer) (Some Adds) state refusals.Kind)
     (either_cost (Some layer) (Some Adds) (is_live id layer.items) _ _ (refused_cost (Some layer) (Some Adds) state (Duplicate id))
     (either_cost (Some layer) (Some Adds) (nat_le state.most_items (live_count layer)) _ _ (refused_cost (Some layer) (Some Adds) state Full)
-    (updated_cost layer Adds (with_items name (with_item (record { id = id; shape = shape })) state))))
+    (updated_cost layer Adds (with_layer name (added (record { id = id; shape = shape })) state))))
 
 moved_cost : (state : State) (name : List ℕ) (id : ℕ) (shape : Shape) (layer : Option Layer) → HasCost layer (Some Moves) (move_in state name id shape layer)
 moved_cost state name id shape None = refused_cost None (Some Moves) state NoLayer
 moved_cost state name id shape (Some layer) =
     either_cost (Some layer) (Some Moves) (not (is_same_kind layer.kind (kind_of shape))) _ _ (refused_cost (Some layer) (Some Moves) state refusals.Kind)
     (either_cost (Some layer) (Some Moves) (is_live id layer.items) _ _
-    (updated_cost layer Moves (with_items name (λ items. with_item (record { id = id; shape = shape }) (without_item id items)) state))
+    (updated_cost layer Moves (with_layer name (moved (record { id = id; shape = shape })) state))
     (refused_cost (Some layer) (Some Moves) state (Unknown id)))
 
 dropped_cost : (state : State) (name : List ℕ) (id : ℕ) (layer : Option Layer) → HasCost layer (Some Drops) (drop_from state name id layer)
 dropped_cost state name id None = refused_cost None (Some Drops) state NoLayer
 dropped_cost state name id (Some layer) =
-    either_cost (Some layer) (Some Drops) (is_live id layer.items) _ _ (updated_cost layer Drops (with_items name (without_item id) state)) (refused_cost (Some layer) (Some Drops) state (Unknown id))
+    either_cost (Some layer) (Some Drops) (is_live id layer.items) _ _ (updated_cost layer Drops (with_layer name (dropped id) state)) (refused_cost (Some layer) (Some Drops) state (Unknown id))
 
 asked_cost : (state : State) (question : questions.Question) (layer : Option Layer) → HasCost layer None (ask_of state question layer)
 asked_cost state question None = refused_cost None None state NoLayer
 asked_cost state question (Some layer) =
     either_cost (Some layer) None (not (is_same_kind layer.kind (kind_asked question))) _ _ (refused_cost (Some layer) None state refusals.Kind)
-    (either_cost (Some layer) None (not (has layer.indexes (index_of question))) _ _ (refused_cost (Some layer) None state Index)
-    (answered_cost layer state (answer_over layer.items question)))
+    (either_cost (Some layer) None (not (has layer.indexes (index_of question))) _ _ (refused_cost (Some layer) None state refusals.Index)
+    (either_cost (Some layer) None (nat_lt 0 (wait_of layer.waits (index_of question))) _ _
+    (refused_cost (Some layer) None state (Building (wait_of layer.waits (index_of question))))
+    (answered_cost layer state (answer_over layer.items question))))
 
 got_cost : (layer : Option Layer) (state : State) (id : ℕ) (shape : Option Shape) → HasCost layer None (got state id shape)
 got_cost layer state id None = refused_cost layer None state (Unknown id)
@@ -285,6 +375,12 @@ made_cost layer state name kind indexes =
     either_cost layer None (is_taken name state) _ _ (refused_cost layer None state Taken)
     (either_cost layer None (nat_le most_layers (length state.layers)) _ _ (refused_cost layer None state NoRoom) (record { cost = Untold; allowed = refl }))
 
+indexed_cost : (state : State) (name : List ℕ) (index : Index) (layer : Option Layer) → HasCost layer None (index_in state name index layer)
+indexed_cost state name index None = refused_cost None None state NoLayer
+indexed_cost state name index (Some layer) =
+    either_cost (Some layer) None (not (is_same_kind layer.kind Points && not layer.indexes.batch)) _ _ (refused_cost (Some layer) None state refusals.Kind)
+    (either_cost (Some layer) None (has layer.indexes index) _ _ (refused_cost (Some layer) None state Taken) (record { cost = Untold; allowed = refl }))
+
 chosen_cost : (layer : Option Layer) (state : State) (version : Version) (layers : List Layer) → HasCost layer None (choose_version state version layers)
 chosen_cost layer state version [] = record { cost = Untold; allowed = refl }
 chosen_cost layer state version (first ∷ layers) = refused_cost layer None state refusals.Version
@@ -292,6 +388,7 @@ chosen_cost layer state version (first ∷ layers) = refused_cost layer None sta
 stepped_cost : (state : State) (command : Command) → HasCost (layer_named (name_of command) state.layers) (update_of command) (step state command)
 stepped_cost state (Livemap version) = chosen_cost (layer_named [] state.layers) state version state.layers
 stepped_cost state (MakeLayer name kind indexes) = made_cost (layer_named name state.layers) state name kind indexes
+stepped_cost state (MakeIndex name index) = indexed_cost state name index (layer_named name state.layers)
 stepped_cost state (Add name id shape) = added_cost state name id shape (layer_named name state.layers)
 stepped_cost state (Move name id x y w) = moved_cost state name id (Point x y w) (layer_named name state.layers)
 stepped_cost state (Drop name id) = dropped_cost state name id (layer_named name state.layers)

@@ -8,10 +8,10 @@ use Rattle.map_model.proofs.TextLemmas.{decimal_one_line}
 use Rattle.map_model.specs.Version.{Version, One, Two, negatives, coordinate_text}
 use Rattle.map_model.specs.Shape.{Shape, Point, Segment}
 use Rattle.map_model.specs.Found.{Found, Peak}
-use Rattle.map_model.specs.Answer.{Answer, Counted, Summed, Listed, NearestOne, NearestOnes, ListedAbove, Highest, Stabbed, StabCounted}
+use Rattle.map_model.specs.Answer.{Answer, Counted, Summed, Listed, NearestOne, NearestOnes, ListedAbove, Highest, Stabbed, StabCounted, Crossed, CrossCounted}
 use Rattle.map_model.specs.Refusal as refusals
 use Rattle.map_model.specs.Refusal.{Refusal, refusal_text}
-use Rattle.map_model.specs.Cost.{Cost, Untold, Updating, Asking, cost_text, out_of}
+use Rattle.map_model.specs.Cost.{Cost, Untold, Updating, Joining, Asking, cost_text, out_of}
 use Rattle.map_model.specs.Reply.{Reply, Made, Updated, Answered, Got, Sized, Latest, Refused, is_refusal, spaced, spaced_coordinate, numbers_or_none, found_numbers, found_or_none, peak_or_none, shape_text, answer_text, reply_text}
 
 pub one_line-append : (s t : List ℕ) → one_line s ≡ true → one_line t ≡ true → one_line (s ++ t) ≡ true
@@ -63,6 +63,7 @@ refusal_one_line refusals.Order = refl
 refusal_one_line refusals.NoLayer = refl
 refusal_one_line refusals.Kind = refl
 refusal_one_line refusals.Index = refl
+refusal_one_line (refusals.Building items) = decimal_one_line items
 refusal_one_line refusals.Taken = refl
 refusal_one_line refusals.NoRoom = refl
 refusal_one_line (refusals.Duplicate id) = decimal_one_line id
@@ -81,6 +82,8 @@ answer_one_line version (ListedAbove ids) = numbers_or_none_one_line ids
 answer_one_line version (Highest peak) = peak_one_line version peak
 answer_one_line version (Stabbed ids) = numbers_or_none_one_line ids
 answer_one_line version (StabCounted n) = decimal_one_line n
+answer_one_line version (Crossed ids) = numbers_or_none_one_line ids
+answer_one_line version (CrossCounted n) = decimal_one_line n
 
 pub reply_one_line : (version : Version) (reply : Reply) → one_line (reply_text version reply) ≡ true
 reply_one_line version Made = refl
@@ -99,6 +102,9 @@ cost_one_line Untold = refl
 cost_one_line (Updating s) =
     one_line-append (codes " turns" ++ out_of s.turns s.turn_bound) (codes " marks" ++ out_of s.marks s.mark_bound)
     (out_of_one_line s.turns s.turn_bound) (out_of_one_line s.marks s.mark_bound)
+cost_one_line (Joining s) =
+    three_one_line (codes " turns " ++ decimal s.turns) (codes " total" ++ out_of s.total s.turn_bound) (codes " marks" ++ out_of s.marks s.mark_bound)
+    (decimal_one_line s.turns) (out_of_one_line s.total s.turn_bound) (out_of_one_line s.marks s.mark_bound)
 cost_one_line (Asking a) =
     one_line-append (codes " parts" ++ out_of a.parts a.part_bound) (codes " touches " ++ decimal a.touches)
     (out_of_one_line a.parts a.part_bound) (decimal_one_line a.touches)
@@ -124,6 +130,8 @@ begins_no version (Answered (ListedAbove ids)) rest = refl
 begins_no version (Answered (Highest peak)) rest = refl
 begins_no version (Answered (Stabbed ids)) rest = refl
 begins_no version (Answered (StabCounted n)) rest = refl
+begins_no version (Answered (Crossed ids)) rest = refl
+begins_no version (Answered (CrossCounted n)) rest = refl
 begins_no version (Got shape) rest = refl
 begins_no version (Sized n) rest = refl
 begins_no version (Latest ids) rest = refl
@@ -137,6 +145,7 @@ begins_no version (Refused refusals.Order) rest = refl
 begins_no version (Refused refusals.NoLayer) rest = refl
 begins_no version (Refused refusals.Kind) rest = refl
 begins_no version (Refused refusals.Index) rest = refl
+begins_no version (Refused (refusals.Building items)) rest = refl
 begins_no version (Refused refusals.Taken) rest = refl
 begins_no version (Refused refusals.NoRoom) rest = refl
 begins_no version (Refused (refusals.Duplicate id)) rest = refl

@@ -1,5 +1,5 @@
 -- A command's line is read as that command.
-use Rattle.std.proofs.Common.{◌≡◌, ℕ, suc, ◌-◌, ◌^◌, ◌≤◌, ◌<◌, Bool, true, false, cond, not, ◌&&◌, ltb, List, [], ◌∷◌, ◌++◌, codes, decimal, length, take, drop, Some, None, Ok, Err, arith, refl, sym, ap, ◌∙◌, subst, get_or, append-nil, append_assoc, length-append, nat_le, nat_lt, nat_eq, inl, inr, ◌+◌}
+use Rattle.std.proofs.Common.{◌≡◌, ℕ, suc, ◌-◌, ◌^◌, ◌≤◌, ◌<◌, Bool, true, false, cond, not, ◌&&◌, ltb, List, [], ◌∷◌, ◌++◌, codes, decimal, length, take, drop, Some, None, Ok, Err, arith, refl, sym, ap, ◌∙◌, subst, get_or, length-append, nat_le, nat_lt, nat_eq, inl, inr, ◌+◌}
 use Rattle.std.specs.List.{list_all, starts_with}
 use Rattle.std.specs.Str.{all_ascii_digits}
 use Rattle.std.specs.Str.Parse.{digits_value}
@@ -11,14 +11,14 @@ use Rattle.map_model.specs.Words.{is_filled, words, is_name, is_name_byte, great
 use Rattle.map_model.specs.Version.{Version, One, Two, negatives, greatest_coordinate, kept, coordinate_text}
 use Rattle.map_model.specs.Shape.{Rect}
 use Rattle.map_model.specs.Shape.{Kind, Points, Segments, Point, Segment}
-use Rattle.map_model.specs.Index.{IndexSet, fits}
+use Rattle.map_model.specs.Index.{IndexSet, Index, Range, Near, Top, Stab, Cross, fits, may_be_late}
 use Rattle.map_model.specs.Answer as questions
-use Rattle.map_model.specs.Command.{Command, Livemap, MakeLayer, Add, Move, Drop, Ask, Get, Size, Recent}
+use Rattle.map_model.specs.Command.{Command, Livemap, MakeLayer, MakeIndex, Add, Move, Drop, Ask, Get, Size, Recent}
 use Rattle.map_model.specs.Form.{Field, Id, Coordinate, Weight, Amount, VersionNumber, limits_of, Form, form, is_ordered, verbs, verb_of, greatest_amount}
 use Rattle.map_model.specs.Form as forms
 use Rattle.map_model.specs.LineFault as faults
 use Rattle.map_model.specs.Grammar.{without_return, is_printable, has_minus, is_digits, is_within, is_in_range, kept_in, number_of, all_fields, has_words, Values, named, with_value, with_values, command_of, parse_indexes, parse_fields, parse_verb, parse_words, parse_text, parse}
-use Rattle.map_model.specs.Line.{kind_word, index_words, word_if, point_words, rect_words, spaced_words, command_line, IsCoordinate, IsWeight, IsAmount, IsRect, IsQuestion, IsCommand}
+use Rattle.map_model.specs.Line.{kind_word, index_words, index_word, word_if, point_words, rect_words, spaced_words, command_line, IsCoordinate, IsWeight, IsAmount, IsRect, IsQuestion, IsCommand}
 use Rattle.map_model.proofs.WordLists.{is_plain, name_plain, digit_plain, list_all-weaker, IsPlainWord, ArePlainWords, words-spaced, spaced_printable, length-spaced, last_of_spaced}
 
 pub own : IsNumeralModel (λ ds. all_ascii_digits ds ≡ true) (digits_value 10)
@@ -224,7 +224,7 @@ begins verb word filled plain short no_comment known = record { plain = record {
 says : (version : Version) (verb : forms.Verb) (word name : List ℕ) (ns : List ℕ) (more : List (List ℕ)) (command : Command) → IsCommandWord verb word → is_name name ≡ true
     → AllWrite version (form verb).fields ns more → length more ≤ 9
     → has_words (form verb) more ≡ true → is_ordered (form verb).order (with_numbers (form verb).fields ns (named name)).places ≡ true
-    → (form verb).has_name ≡ true → (form verb).has_indexes ≡ false
+    → (form verb).has_name ≡ true → (form verb).tail ≡ forms.Bare
     → command_of verb (with_numbers (form verb).fields ns (named name)) ≡ command
     → parse version (spaced_words (word ∷ name ∷ more)) ≡ Ok (Some command)
 says version verb word name ns more command front h write few many ordered called free is =
@@ -318,6 +318,35 @@ says_stabcount version name x named hx =
     says version forms.StabCount (codes "stabcount") name (x ∷ []) (coordinate_text version x ∷ []) (Ask name (questions.StabCount x)) (begins forms.StabCount (codes "stabcount") refl refl (omega arith) refl refl)
     named (a_coordinate version x hx, tt) (omega arith) refl refl refl refl refl
 
+-- the two forms with a place and a span of heights
+says_span : (version : Version) (verb : forms.Verb) (word name : List ℕ) (x y1 y2 : ℕ) (command : Command) → IsCommandWord verb word → is_name name ≡ true
+    → IsCoordinate version x → y1 ≤ y2 → IsCoordinate version y2
+    → form verb ≡ forms.row word (Coordinate ∷ Coordinate ∷ Coordinate ∷ []) forms.Heights
+    → command_of verb (record (named name) { places = x ∷ y1 ∷ y2 ∷ [] }) ≡ command
+    → parse version (spaced_words (word ∷ name ∷ coordinate_text version x ∷ coordinate_text version y1 ∷ coordinate_text version y2 ∷ [])) ≡ Ok (Some command)
+says_span version verb word name x y1 y2 command front h hx ordered hy2 row is =
+    let more = coordinate_text version x ∷ coordinate_text version y1 ∷ coordinate_text version y2 ∷ [] in
+    let ns = x ∷ y1 ∷ y2 ∷ [] in
+    let write : AllWrite version (Coordinate ∷ Coordinate ∷ Coordinate ∷ []) ns more =
+    (a_coordinate version x hx, (a_coordinate version y1 (lower version y1 y2 ordered hy2), (a_coordinate version y2 hy2, tt))) in
+    says version verb word name ns more command front h
+    (subst (λ (f : Form). AllWrite version f.fields ns more) (sym row) write) (omega arith)
+    (ap (λ (f : Form). has_words f more) row)
+    (ap (λ (f : Form). is_ordered f.order (with_numbers f.fields ns (named name)).places) row ∙ le-leb y1 y2 ordered)
+    (ap (λ (f : Form). f.has_name) row)
+    (ap (λ (f : Form). f.tail) row)
+    (ap (λ (f : Form). command_of verb (with_numbers f.fields ns (named name))) row ∙ is)
+
+says_cross : (version : Version) (name : List ℕ) (x y1 y2 : ℕ) → is_name name ≡ true → IsCoordinate version x → y1 ≤ y2 → IsCoordinate version y2 → Says version (Ask name (questions.CrossIn x y1 y2))
+unfolding form verbs command_of
+says_cross version name x y1 y2 named hx ordered hy2 =
+    says_span version forms.Cross (codes "cross") name x y1 y2 (Ask name (questions.CrossIn x y1 y2)) (begins forms.Cross (codes "cross") refl refl (omega arith) refl refl) named hx ordered hy2 refl refl
+
+says_crosscount : (version : Version) (name : List ℕ) (x y1 y2 : ℕ) → is_name name ≡ true → IsCoordinate version x → y1 ≤ y2 → IsCoordinate version y2 → Says version (Ask name (questions.CrossCount x y1 y2))
+unfolding form verbs command_of
+says_crosscount version name x y1 y2 named hx ordered hy2 =
+    says_span version forms.CrossCount (codes "crosscount") name x y1 y2 (Ask name (questions.CrossCount x y1 y2)) (begins forms.CrossCount (codes "crosscount") refl refl (omega arith) refl refl) named hx ordered hy2 refl refl
+
 says_get : (version : Version) (name : List ℕ) (id : ℕ) → is_name name ≡ true → id ≤ greatest_id → Says version (Get name id)
 unfolding form verbs command_of
 says_get version name id named hid =
@@ -354,7 +383,7 @@ says_rect version verb word name rect command front h inside row is =
     (ap (λ (f : Form). has_words f more) row)
     (ap (λ (f : Form). is_ordered f.order (with_numbers f.fields ns (named name)).places) row ∙ corners)
     (ap (λ (f : Form). f.has_name) row)
-    (ap (λ (f : Form). f.has_indexes) row)
+    (ap (λ (f : Form). f.tail) row)
     (ap (λ (f : Form). command_of verb (with_numbers f.fields ns (named name))) row ∙ is)
 
 says_count : (version : Version) (name : List ℕ) (rect : Rect) → is_name name ≡ true → IsRect version rect → Says version (Ask name (questions.CountIn rect))
@@ -379,61 +408,88 @@ record IsRead (kind : Kind) (s : IndexSet) (v : Values) : Type 0 where
   some : 1 ≤ length (index_words s)
   read : parse_indexes forms.Layer v kind (index_words s) ≡ Ok (Some (MakeLayer v.name kind s))
 
-abbrev set_of : Bool → Bool → Bool → Bool → IndexSet
-set_of range near top stab = record { range = range; near = near; top = top; stab = stab }
+abbrev set_of : Bool → Bool → Bool → Bool → Bool → Bool → IndexSet
+set_of range near top stab cross batch = record { range = range; near = near; top = top; stab = stab; cross = cross; batch = batch }
 
-points_read : (range near top stab : Bool) (v : Values) → fits Points (set_of range near top stab) ≡ true → IsRead Points (set_of range near top stab) v
+points_read : (range near top stab cross batch : Bool) (v : Values) → fits Points (set_of range near top stab cross batch) ≡ true → IsRead Points (set_of range near top stab cross batch) v
 unfolding command_of
-points_read true true true false v h = record { some = omega arith; read = refl }
-points_read true true false false v h = record { some = omega arith; read = refl }
-points_read true false true false v h = record { some = omega arith; read = refl }
-points_read true false false false v h = record { some = omega arith; read = refl }
-points_read false true true false v h = record { some = omega arith; read = refl }
-points_read false true false false v h = record { some = omega arith; read = refl }
-points_read false false true false v h = record { some = omega arith; read = refl }
-points_read _ _ _ _ v h = absurd (false≢true h)
+points_read true true true false false false v h = record { some = omega arith; read = refl }
+points_read true true false false false false v h = record { some = omega arith; read = refl }
+points_read true false true false false false v h = record { some = omega arith; read = refl }
+points_read true false false false false true v h = record { some = omega arith; read = refl }
+points_read true false false false false false v h = record { some = omega arith; read = refl }
+points_read false true true false false false v h = record { some = omega arith; read = refl }
+points_read false true false false false false v h = record { some = omega arith; read = refl }
+points_read false false true false false false v h = record { some = omega arith; read = refl }
+points_read _ _ _ _ _ _ v h = absurd (false≢true h)
 
-segments_read : (range near top stab : Bool) (v : Values) → fits Segments (set_of range near top stab) ≡ true → IsRead Segments (set_of range near top stab) v
+segments_read : (range near top batch stab cross : Bool) (v : Values) → fits Segments (set_of range near top stab cross batch) ≡ true → IsRead Segments (set_of range near top stab cross batch) v
 unfolding command_of
-segments_read false false false true v h = record { some = omega arith; read = refl }
-segments_read _ _ _ _ v h = absurd (false≢true h)
+segments_read false false false false true true v h = record { some = omega arith; read = refl }
+segments_read false false false false true false v h = record { some = omega arith; read = refl }
+segments_read false false false false false true v h = record { some = omega arith; read = refl }
+segments_read _ _ _ _ _ _ v h = absurd (false≢true h)
 
 indexes_read : (kind : Kind) (s : IndexSet) (v : Values) → fits kind s ≡ true → IsRead kind s v
-indexes_read Points s v h = points_read s.range s.near s.top s.stab v h
-indexes_read Segments s v h = segments_read s.range s.near s.top s.stab v h
+indexes_read Points s v h = points_read s.range s.near s.top s.stab s.cross s.batch v h
+indexes_read Segments s v h = segments_read s.range s.near s.top s.batch s.stab s.cross v h
 
--- the index words are plain, and at most four
-one_word_plain : (b : Bool) (word : List ℕ) (words : List (List ℕ)) → IsPlainWord word → ArePlainWords words → ArePlainWords (word_if b word ++ words)
-one_word_plain true word words p ps = (p, ps)
-one_word_plain false word words p ps = ps
+-- the words of a set are plain, and at most six
+one_word_plain : (b : Bool) (word : List ℕ) → IsPlainWord word → ArePlainWords (word_if b word)
+one_word_plain true word p = (p, tt)
+one_word_plain false word p = tt
+
+both_plain : (words more : List (List ℕ)) → ArePlainWords words → ArePlainWords more → ArePlainWords (words ++ more)
+both_plain [] more p q = q
+both_plain (word ∷ words) more p q = (p.0, both_plain words more p.1 q)
 
 few_words : (b : Bool) (word : List ℕ) → length (word_if b word) ≤ 1
 few_words true word = omega arith
 few_words false word = omega arith
 
+set_words_plain : (s : IndexSet) → ArePlainWords (index_words s)
+set_words_plain s =
+    both_plain _ (word_if s.batch (codes "batch"))
+    (both_plain _ (word_if s.cross (codes "cross"))
+    (both_plain _ (word_if s.stab (codes "stab"))
+    (both_plain _ (word_if s.top (codes "top"))
+    (both_plain (word_if s.range (codes "range")) (word_if s.near (codes "near"))
+    (one_word_plain s.range (codes "range") (known_word (codes "range") refl refl (omega arith)))
+    (one_word_plain s.near (codes "near") (known_word (codes "near") refl refl (omega arith))))
+    (one_word_plain s.top (codes "top") (known_word (codes "top") refl refl (omega arith))))
+    (one_word_plain s.stab (codes "stab") (known_word (codes "stab") refl refl (omega arith))))
+    (one_word_plain s.cross (codes "cross") (known_word (codes "cross") refl refl (omega arith))))
+    (one_word_plain s.batch (codes "batch") (known_word (codes "batch") refl refl (omega arith)))
+
 layer_words_plain : (kind : Kind) (s : IndexSet) → ArePlainWords (kind_word kind ∷ index_words s)
-layer_words_plain kind s =
-    let stab : ArePlainWords (word_if s.stab (codes "stab")) = subst (λ (ws : List (List ℕ)). ArePlainWords ws) (append-nil _) (one_word_plain s.stab (codes "stab") [] (known_word (codes "stab") refl refl (omega arith)) tt) in (
-      kind_plain kind,
-      subst (λ (ws : List (List ℕ)). ArePlainWords ws)
-          (sym (append_assoc (word_if s.range (codes "range") ++ word_if s.near (codes "near")) (word_if s.top (codes "top")) (word_if s.stab (codes "stab"))
-          ∙ append_assoc (word_if s.range (codes "range")) (word_if s.near (codes "near")) (word_if s.top (codes "top") ++ word_if s.stab (codes "stab"))))
-          (one_word_plain s.range (codes "range") _ (known_word (codes "range") refl refl (omega arith))
-          (one_word_plain s.near (codes "near") _ (known_word (codes "near") refl refl (omega arith))
-          (one_word_plain s.top (codes "top") _ (known_word (codes "top") refl refl (omega arith)) stab))),
-    )
+layer_words_plain kind s = (kind_plain kind, set_words_plain s)
   where
     kind_plain : (kind : Kind) → IsPlainWord (kind_word kind)
     kind_plain Points = known_word (codes "points") refl refl (omega arith)
     kind_plain Segments = known_word (codes "segments") refl refl (omega arith)
 
-few_indexes : (s : IndexSet) → length (index_words s) ≤ 4
+few_indexes : (s : IndexSet) → length (index_words s) ≤ 6
 few_indexes s =
     let a = word_if s.range (codes "range") in
     let b = word_if s.near (codes "near") in
     let c = word_if s.top (codes "top") in
     let d = word_if s.stab (codes "stab") in
-    omega (arith, few_words s.range (codes "range"), few_words s.near (codes "near"), few_words s.top (codes "top"), few_words s.stab (codes "stab"), length-append ((a ++ b) ++ c) d, length-append (a ++ b) c, length-append a b)
+    let e = word_if s.cross (codes "cross") in
+    let f = word_if s.batch (codes "batch") in
+    omega (
+      arith,
+      few_words s.range (codes "range"),
+      few_words s.near (codes "near"),
+      few_words s.top (codes "top"),
+      few_words s.stab (codes "stab"),
+      few_words s.cross (codes "cross"),
+      few_words s.batch (codes "batch"),
+      length-append ((((a ++ b) ++ c) ++ d) ++ e) f,
+      length-append (((a ++ b) ++ c) ++ d) e,
+      length-append ((a ++ b) ++ c) d,
+      length-append (a ++ b) c,
+      length-append a b,
+    )
 
 -- a kind and some words behind the name of a layer
 layer_fields : (version : Version) (name : List ℕ) (kind : Kind) (words : List (List ℕ)) → is_name name ≡ true → 1 ≤ length words
@@ -452,6 +508,32 @@ says_layer version name kind s h fitting =
     ∙ layer_fields version name kind (index_words s) h read.some
     ∙ read.read
 
+-- ---- an index of a layer in use
+
+index_plain : (index : Index) → IsPlainWord (index_word index)
+index_plain Range = known_word (codes "range") refl refl (omega arith)
+index_plain Near = known_word (codes "near") refl refl (omega arith)
+index_plain Top = known_word (codes "top") refl refl (omega arith)
+index_plain Stab = known_word (codes "stab") refl refl (omega arith)
+index_plain Cross = known_word (codes "cross") refl refl (omega arith)
+
+index_fields : (version : Version) (name : List ℕ) (index : Index) → is_name name ≡ true → may_be_late index ≡ true
+    → parse_fields version forms.Index (form forms.Index) name (index_word index ∷ []) ≡ Ok (Some (MakeIndex name index))
+unfolding form command_of
+index_fields version name Range h late = rw h refl
+index_fields version name Near h late = rw h refl
+index_fields version name Top h late = rw h refl
+index_fields version name Stab h late = absurd (false≢true late)
+index_fields version name Cross h late = absurd (false≢true late)
+
+says_index : (version : Version) (name : List ℕ) (index : Index) → is_name name ≡ true → may_be_late index ≡ true → Says version (MakeIndex name index)
+unfolding form verbs
+says_index version name index h late =
+    parse-spaced version (codes "index") (name ∷ index_word index ∷ [])
+    (known_word (codes "index") refl refl (omega arith), (name_word name h, (index_plain index, tt)))
+    (omega arith) refl
+    ∙ index_fields version name index h late
+
 -- ---- every command
 
 says_question : (version : Version) (name : List ℕ) (question : questions.Question) → is_name name ≡ true → IsQuestion version question → Says version (Ask name question)
@@ -464,10 +546,13 @@ says_question version name (questions.Above x1 x2 y) named h = says_above versio
 says_question version name (questions.Top x1 x2) named h = says_top version name x1 x2 named h.0 h.1
 says_question version name (questions.Stab x) named h = says_stab version name x named h
 says_question version name (questions.StabCount x) named h = says_stabcount version name x named h
+says_question version name (questions.CrossIn x y1 y2) named h = says_cross version name x y1 y2 named h.0 h.1 h.2
+says_question version name (questions.CrossCount x y1 y2) named h = says_crosscount version name x y1 y2 named h.0 h.1 h.2
 
 pub parse-command_line : (version : Version) (command : Command) → IsCommand version command → Says version command
 parse-command_line version (Livemap chosen) h = says_livemap version chosen
 parse-command_line version (MakeLayer name kind indexes) h = says_layer version name kind indexes h.named h.in_limits
+parse-command_line version (MakeIndex name index) h = says_index version name index h.named h.in_limits
 parse-command_line version (Add name id (Point x y w)) h = says_point version name id x y w h.named h.in_limits.0 h.in_limits.1.0 h.in_limits.1.1 h.in_limits.1.2
 parse-command_line version (Add name id (Segment lo hi y)) h = says_segment version name id lo hi y h.named h.in_limits.1.0 h.in_limits.0 h.in_limits.1.1 h.in_limits.1.2
 parse-command_line version (Move name id x y w) h = says_move version name id x y w h.named h.in_limits.0 h.in_limits.1.0 h.in_limits.1.1 h.in_limits.1.2

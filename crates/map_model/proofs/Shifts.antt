@@ -1,12 +1,12 @@
 -- What items and questions that are moved alike are answered.
-use Rattle.std.proofs.Common.{◌≡◌, ℕ, zero, suc, ◌+◌, ◌-◌, ◌==◌, Bool, true, false, cond, ◌&&◌, ◌||◌, if◌then◌else◌, List, [], ◌∷◌, Option, Some, None, nat_le, nat_lt, map, filter, take, reverse, sum_by, count_by, arith, refl, sym, ap, ◌∙◌, ◌*◌}
+use Rattle.std.proofs.Common.{◌≡◌, ℕ, ◌+◌, ◌==◌, Bool, true, false, cond, ◌&&◌, ◌||◌, List, [], ◌∷◌, Option, Some, nat_le, nat_lt, map, take, sum_by, count_by, arith, refl, sym, ap, ◌∙◌, ◌*◌}
 use Rattle.std.specs.Prelude.{slice_get}
 use Rattle.std.proofs.lemmas.Bool.Decides.{nat_tests}
 use Rattle.std.proofs.lemmas.List.Sums.{sum_by-cons}
-use Rattle.map_model.specs.Shape.{Rect, Shape, Point, Segment, is_inside, is_between, is_above, is_stabbed, weight_of, height_of, difference, squared_distance}
+use Rattle.map_model.specs.Shape.{Rect, Shape, Point, Segment, is_inside, is_between, is_above, is_stabbed, is_met, weight_of, height_of, difference, squared_distance}
 use Rattle.map_model.specs.State.{Item, shape_of}
 use Rattle.map_model.specs.Found.{Found, Peak, found_le, peak_le, insert_by, sorted_by}
-use Rattle.map_model.specs.Answer.{Question, CountIn, SumIn, ListIn, Near, Nearest, Above, Top, Stab, StabCount, Highest, answer_over, items_with, ids_with, by_distance, by_height}
+use Rattle.map_model.specs.Answer.{Question, CountIn, SumIn, ListIn, Near, Nearest, Above, Top, Stab, StabCount, CrossIn, CrossCount, Highest, answer_over, items_with, ids_with, by_distance, by_height}
 use Rattle.map_model.specs.Answer as questions
 use Rattle.map_model.specs.Shift.{shifted_shape, shifted_item, shifted_items, shifted_rect, shifted_question, shifted_peak, shifted_answer, shifted_found}
 
@@ -42,6 +42,11 @@ above_shifted dx dy x1 x2 least (Segment lo hi y) = refl
 stabbed_shifted : (dx dy x : ℕ) (shape : Shape) → is_stabbed (x + dx) (shifted_shape dx dy shape) ≡ is_stabbed x shape
 stabbed_shifted dx dy x (Point px y w) = refl
 stabbed_shifted dx dy x (Segment lo hi y) = (λ i. le_shifted lo x dx i && le_shifted x hi dx i)
+
+met_shifted : (dx dy x y1 y2 : ℕ) (shape : Shape) → is_met (x + dx) (y1 + dy) (y2 + dy) (shifted_shape dx dy shape) ≡ is_met x y1 y2 shape
+met_shifted dx dy x y1 y2 (Point px y w) = refl
+met_shifted dx dy x y1 y2 (Segment lo hi y) =
+    (λ i. le_shifted lo x dx i && le_shifted x hi dx i && le_shifted y1 y dy i && le_shifted y y2 dy i)
 
 weight_shifted : (dx dy : ℕ) (shape : Shape) → weight_of (shifted_shape dx dy shape) ≡ weight_of shape
 weight_shifted dx dy (Point x y w) = refl
@@ -172,6 +177,10 @@ answer_shifted dx dy items (Top x1 x2) =
     ∙ ap Highest (highest_shifted dy (by_height x1 x2 items))
 answer_shifted dx dy items (Stab x) = ap questions.Stabbed (ids_with_shifted dx dy (is_stabbed x) (is_stabbed (x + dx)) (stabbed_shifted dx dy x) items)
 answer_shifted dx dy items (StabCount x) = ap questions.StabCounted (count_shifted dx dy (is_stabbed x) (is_stabbed (x + dx)) (stabbed_shifted dx dy x) items)
+answer_shifted dx dy items (CrossIn x y1 y2) =
+    ap questions.Crossed (ids_with_shifted dx dy (is_met x y1 y2) (is_met (x + dx) (y1 + dy) (y2 + dy)) (met_shifted dx dy x y1 y2) items)
+answer_shifted dx dy items (CrossCount x y1 y2) =
+    ap questions.CrossCounted (count_shifted dx dy (is_met x y1 y2) (is_met (x + dx) (y1 + dy) (y2 + dy)) (met_shifted dx dy x y1 y2) items)
 
 pub shape_shifted : (dx dy : ℕ) (items : List Item) (id : ℕ) → shape_of id (shifted_items dx dy items) ≡ shifted_found dx dy (shape_of id items)
 shape_shifted dx dy [] id = refl

@@ -1,7 +1,7 @@
 -- The questions that an index answers, and their answers over a scan of all items of a layer.
 use Rattle.std.specs.Prelude.{ℕ, Bool, List, Option, sum_by, count_by, map, filter, reverse, take, slice_get, nat_le}
 use Rattle.map_model.specs.Shape.{Rect}
-use Rattle.map_model.specs.Shape.{Shape, Kind, Points, Segments, is_inside, is_between, is_above, is_stabbed, weight_of, height_of, squared_distance}
+use Rattle.map_model.specs.Shape.{Shape, Kind, Points, Segments, is_inside, is_between, is_above, is_stabbed, is_met, weight_of, height_of, squared_distance}
 use Rattle.map_model.specs.Index as indexes
 use Rattle.map_model.specs.State.{Item}
 use Rattle.map_model.specs.Found.{Found, Peak, found_le, peak_le, sorted_by}
@@ -26,6 +26,10 @@ pub data Question : Type 0 where
   Stab : (x : ℕ) → Question
   -- how many segments are over x
   StabCount : (x : ℕ) → Question
+  -- the identifiers of the segments that one from (x, y1) to (x, y2) meets, ascending
+  CrossIn : (x y1 y2 : ℕ) → Question
+  -- how many it meets
+  CrossCount : (x y1 y2 : ℕ) → Question
 
 -- what a question is answered: a variant a question, in their order
 pub data Answer : Type 0 where
@@ -38,6 +42,8 @@ pub data Answer : Type 0 where
   Highest : (peak : Option Peak) → Answer
   Stabbed : (ids : List ℕ) → Answer
   StabCounted : (n : ℕ) → Answer
+  Crossed : (ids : List ℕ) → Answer
+  CrossCounted : (n : ℕ) → Answer
 
 -- the index that answers a question
 abbrev pub index_of : Question → indexes.Index
@@ -50,6 +56,8 @@ index_of (Above x1 x2 y) = indexes.Top
 index_of (Top x1 x2) = indexes.Top
 index_of (Stab x) = indexes.Stab
 index_of (StabCount x) = indexes.Stab
+index_of (CrossIn x y1 y2) = indexes.Cross
+index_of (CrossCount x y1 y2) = indexes.Cross
 
 -- the kind of layer that a question asks
 abbrev pub kind_asked : Question → Kind
@@ -62,6 +70,8 @@ kind_asked (Above x1 x2 y) = Points
 kind_asked (Top x1 x2) = Points
 kind_asked (Stab x) = Segments
 kind_asked (StabCount x) = Segments
+kind_asked (CrossIn x y1 y2) = Segments
+kind_asked (CrossCount x y1 y2) = Segments
 
 -- the items whose shape passes a test
 abbrev pub items_with : (Shape → Bool) → List Item → List Item
@@ -90,6 +100,8 @@ answer_over items (Above x1 x2 y) = ListedAbove (ids_with (is_above x1 x2 y) ite
 answer_over items (Top x1 x2) = Highest (slice_get (by_height x1 x2 items) 0)
 answer_over items (Stab x) = Stabbed (ids_with (is_stabbed x) items)
 answer_over items (StabCount x) = StabCounted (count_by (λ item. is_stabbed x item.shape) items)
+answer_over items (CrossIn x y1 y2) = Crossed (ids_with (is_met x y1 y2) items)
+answer_over items (CrossCount x y1 y2) = CrossCounted (count_by (λ item. is_met x y1 y2 item.shape) items)
 
 -- the identifiers of the last k items, the last one first, all where fewer
 abbrev pub latest : ℕ → List Item → List ℕ

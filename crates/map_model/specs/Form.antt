@@ -41,6 +41,8 @@ pub data Order : Type 0 where
   Free : Order
   -- the first is at most the second
   Ends : Order
+  -- the second is at most the third
+  Heights : Order
   -- the first is at most the third, and the second at most the fourth
   Corners : Order
 
@@ -48,7 +50,17 @@ pub data Order : Type 0 where
 abbrev pub is_ordered : Order → List ℕ → Bool
 is_ordered Free places = true
 is_ordered Ends places = nat_le (slice_index places 0) (slice_index places 1)
+is_ordered Heights places = nat_le (slice_index places 1) (slice_index places 2)
 is_ordered Corners places = nat_le (slice_index places 0) (slice_index places 2) && nat_le (slice_index places 1) (slice_index places 3)
+
+-- what follows the numbers of a line
+pub data Tail : Type 0 where
+  -- nothing
+  Bare : Tail
+  -- a kind and one or more indexes
+  Indexes : Tail
+  -- one index
+  OneIndex : Tail
 
 -- a line's form: a command word, mostly the name of a layer, numbers, and for a new layer its kind and indexes
 pub record Form : Type 0 where
@@ -57,14 +69,14 @@ pub record Form : Type 0 where
   pub has_name : Bool
   -- the numbers after the name
   pub fields : List Field
-  -- whether a kind and one or more indexes follow
-  pub has_indexes : Bool
+  pub tail : Tail
   pub order : Order
 
 -- the command words, one a form
 pub data Verb : Type 0 where
   Livemap : Verb
   Layer : Verb
+  Index : Verb
   Add : Verb
   Seg : Verb
   Move : Verb
@@ -78,13 +90,15 @@ pub data Verb : Type 0 where
   Top : Verb
   Stab : Verb
   StabCount : Verb
+  Cross : Verb
+  CrossCount : Verb
   Get : Verb
   Size : Verb
   Recent : Verb
 
 -- a form of a name and numbers
 abbrev pub row : List ℕ → List Field → Order → Form
-row word fields order = record { word = word; has_name = true; fields = fields; has_indexes = false; order = order }
+row word fields order = record { word = word; has_name = true; fields = fields; tail = Bare; order = order }
 
 -- the corners of a rectangle
 abbrev pub corner_fields : List Field
@@ -96,8 +110,9 @@ point_fields = Id ∷ Coordinate ∷ Coordinate ∷ Weight ∷ []
 
 -- the table: each command word with the fields of the numbers after the name, and which of them are in order
 unfoldable pub form : Verb → Form
-form Livemap = record { word = codes "livemap"; has_name = false; fields = VersionNumber ∷ []; has_indexes = false; order = Free }
-form Layer = record { word = codes "layer"; has_name = true; fields = []; has_indexes = true; order = Free }
+form Livemap = record { word = codes "livemap"; has_name = false; fields = VersionNumber ∷ []; tail = Bare; order = Free }
+form Layer = record { word = codes "layer"; has_name = true; fields = []; tail = Indexes; order = Free }
+form Index = record { word = codes "index"; has_name = true; fields = []; tail = OneIndex; order = Free }
 form Add = row (codes "add") point_fields Free
 form Seg = row (codes "seg") (Id ∷ Coordinate ∷ Coordinate ∷ Coordinate ∷ []) Ends
 form Move = row (codes "move") point_fields Free
@@ -111,13 +126,15 @@ form Above = row (codes "above") (Coordinate ∷ Coordinate ∷ Coordinate ∷ [
 form Top = row (codes "top") (Coordinate ∷ Coordinate ∷ []) Ends
 form Stab = row (codes "stab") (Coordinate ∷ []) Free
 form StabCount = row (codes "stabcount") (Coordinate ∷ []) Free
+form Cross = row (codes "cross") (Coordinate ∷ Coordinate ∷ Coordinate ∷ []) Heights
+form CrossCount = row (codes "crosscount") (Coordinate ∷ Coordinate ∷ Coordinate ∷ []) Heights
 form Get = row (codes "get") (Id ∷ []) Free
 form Size = row (codes "size") [] Free
 form Recent = row (codes "recent") (Amount ∷ []) Free
 
 -- all command words
 unfoldable pub verbs : List Verb
-verbs = Livemap ∷ Layer ∷ Add ∷ Seg ∷ Move ∷ Drop ∷ Count ∷ Sum ∷ ListIds ∷ Near ∷ Nearest ∷ Above ∷ Top ∷ Stab ∷ StabCount ∷ Get ∷ Size ∷ Recent ∷ []
+verbs = Livemap ∷ Layer ∷ Index ∷ Add ∷ Seg ∷ Move ∷ Drop ∷ Count ∷ Sum ∷ ListIds ∷ Near ∷ Nearest ∷ Above ∷ Top ∷ Stab ∷ StabCount ∷ Cross ∷ CrossCount ∷ Get ∷ Size ∷ Recent ∷ []
 
 -- the verb of a command word
 abbrev pub verb_of : List ℕ → Option Verb

@@ -7,12 +7,12 @@ use Rattle.map_model.specs.Version.{Version, One, Two, negatives, kept}
 use Rattle.map_model.specs.Shape.{Rect}
 use Rattle.map_model.specs.Words.{words, is_filled, is_name, longest_line}
 use Rattle.map_model.specs.Shape.{Kind, Points, Segments, Point, Segment}
-use Rattle.map_model.specs.Index.{IndexSet, no_indexes}
+use Rattle.map_model.specs.Index.{IndexSet, Index, Range, Near, Top, no_indexes, fits}
 use Rattle.map_model.specs.Answer as questions
-use Rattle.map_model.specs.Command.{Command, Livemap, MakeLayer, Add, Move, Drop, Ask, Get, Size, Recent}
+use Rattle.map_model.specs.Command.{Command, Livemap, MakeLayer, MakeIndex, Add, Move, Drop, Ask, Get, Size, Recent}
 use Rattle.map_model.specs.LineFault.{LineFault}
 use Rattle.map_model.specs.LineFault as faults
-use Rattle.map_model.specs.Form.{Field, Id, Coordinate, Weight, Amount, VersionNumber, limits_of, Form, form, is_ordered, verb_of}
+use Rattle.map_model.specs.Form.{Field, Id, Coordinate, Weight, Amount, VersionNumber, limits_of, Tail, Bare, Indexes, OneIndex, Form, form, is_ordered, verb_of}
 use Rattle.map_model.specs.Form as verbs
 
 -- ---- bytes
@@ -74,9 +74,15 @@ all_fields test [] words = true
 all_fields test (field ∷ fields) [] = true
 all_fields test (field ∷ fields) (word ∷ words) = test field word && all_fields test fields words
 
--- one word a field, and then, where they follow, a kind and one or more indexes
+-- so many words are one a field and a tail
+abbrev pub is_tailed : Tail → ℕ → ℕ → Bool
+is_tailed Bare fields words = words == fields
+is_tailed Indexes fields words = nat_le (fields + 2) words
+is_tailed OneIndex fields words = words == (fields + 1)
+
+-- one word a field, and then a tail
 abbrev pub has_words : Form → List (List ℕ) → Bool
-has_words f words = if f.has_indexes then nat_le (length f.fields + 2) (length words) else length words == length f.fields
+has_words f words = is_tailed f.tail (length f.fields) (length words)
 
 -- ---- what the fields say
 
@@ -90,10 +96,12 @@ pub record Values : Type 0 where
   pub amount : ℕ
   pub kind : Kind
   pub indexes : IndexSet
+  -- the index of a line with one
+  pub index : Index
 
 -- a name and nothing else
 abbrev pub named : List ℕ → Values
-named name = record { version = One; name = name; id = 0; places = []; amount = 0; kind = Points; indexes = no_indexes }
+named name = record { version = One; name = name; id = 0; places = []; amount = 0; kind = Points; indexes = no_indexes; index = Range }
 
 -- the version of a number
 abbrev pub version_of : ℕ → Version
@@ -125,6 +133,7 @@ rect_of v = record { x1 = place v 0; y1 = place v 1; x2 = place v 2; y2 = place 
 unfoldable pub command_of : verbs.Verb → Values → Command
 command_of verbs.Livemap v = Livemap v.version
 command_of verbs.Layer v = MakeLayer v.name v.kind v.indexes
+command_of verbs.Index v = MakeIndex v.name v.index
 command_of verbs.Add v = Add v.name v.id (Point (place v 0) (place v 1) (place v 2))
 command_of verbs.Seg v = Add v.name v.id (Segment (place v 0) (place v 1) (place v 2))
 command_of verbs.Move v = Move v.name v.id (place v 0) (place v 1) (place v 2)
@@ -138,16 +147,19 @@ command_of verbs.Above v = Ask v.name (questions.Above (place v 0) (place v 1) (
 command_of verbs.Top v = Ask v.name (questions.Top (place v 0) (place v 1))
 command_of verbs.Stab v = Ask v.name (questions.Stab (place v 0))
 command_of verbs.StabCount v = Ask v.name (questions.StabCount (place v 0))
+command_of verbs.Cross v = Ask v.name (questions.CrossIn (place v 0) (place v 1) (place v 2))
+command_of verbs.CrossCount v = Ask v.name (questions.CrossCount (place v 0) (place v 1) (place v 2))
 command_of verbs.Get v = Get v.name v.id
 command_of verbs.Size v = Size v.name
 command_of verbs.Recent v = Recent v.name v.amount
 
 -- ---- kinds and indexes
 
--- points take `range`, `near` and `top`, segments take `stab`
-abbrev pub takes_word : Kind → List ℕ → Bool
-takes_word Points word = bytes_eq word (codes "range") || bytes_eq word (codes "near") || bytes_eq word (codes "top")
-takes_word Segments word = bytes_eq word (codes "stab")
+-- a word of an index, or that of parts that are joined at once
+abbrev pub is_index_word : List ℕ → Bool
+is_index_word word =
+    bytes_eq word (codes "range") || bytes_eq word (codes "near") || bytes_eq word (codes "top") || bytes_eq word (codes "stab")
+    || bytes_eq word (codes "cross") || bytes_eq word (codes "batch")
 
 -- no word stands twice
 abbrev pub is_distinct : List (List ℕ) → Bool
@@ -161,16 +173,25 @@ index_set words = record {
   near = list_any (λ word. bytes_eq word (codes "near")) words;
   top = list_any (λ word. bytes_eq word (codes "top")) words;
   stab = list_any (λ word. bytes_eq word (codes "stab")) words;
+  cross = list_any (λ word. bytes_eq word (codes "cross")) words;
+  batch = list_any (λ word. bytes_eq word (codes "batch")) words;
 }
+
+-- the index of points that a word names
+abbrev pub point_index : List ℕ → Option Index
+point_index word =
+    if bytes_eq word (codes "range") then Some Range
+    else (if bytes_eq word (codes "near") then Some Near
+    else (if bytes_eq word (codes "top") then Some Top else None))
 
 -- what a line says: a command, or nothing, or what is wrong with it
 abbrev pub Parsed : Type 0
 Parsed = Result (Option Command) LineFault
 
--- each index is one that the kind takes, and none stands twice
+-- the words name indexes that fit the kind, and none stands twice
 abbrev pub parse_indexes : verbs.Verb → Values → Kind → List (List ℕ) → Parsed
 parse_indexes verb v kind words =
-    if list_all (takes_word kind) words && is_distinct words then Ok (Some (command_of verb (record v { kind = kind; indexes = index_set words })))
+    if list_all is_index_word words && is_distinct words && fits kind (index_set words) then Ok (Some (command_of verb (record v { kind = kind; indexes = index_set words })))
     else Err faults.Index
 
 -- the kind and the indexes at the end of a line that makes a layer: Kind where it is neither `points` nor `segments`
@@ -179,6 +200,18 @@ parse_kind verb v [] = Err faults.Fields
 parse_kind verb v (word ∷ words) =
     if bytes_eq word (codes "points") then parse_indexes verb v Points words
     else (if bytes_eq word (codes "segments") then parse_indexes verb v Segments words else Err faults.Kind)
+
+-- the index that a layer in use is given
+abbrev pub parse_index : verbs.Verb → Values → Option Index → Parsed
+parse_index verb v None = Err faults.Index
+parse_index verb v (Some index) = Ok (Some (command_of verb (record v { index = index })))
+
+-- the words behind the numbers
+abbrev pub parse_tail : verbs.Verb → Tail → Values → List (List ℕ) → Parsed
+parse_tail verb Bare v words = Ok (Some (command_of verb v))
+parse_tail verb Indexes v words = parse_kind verb v words
+parse_tail verb OneIndex v [] = Err faults.Fields
+parse_tail verb OneIndex v (word ∷ words) = parse_index verb v (point_index word)
 
 -- ---- lines
 
@@ -190,8 +223,7 @@ parse_fields version verb f name words =
     else (if not (all_fields (is_digits version) f.fields words) then Err faults.Number
     else (if not (all_fields (is_in_range version) f.fields words) then Err faults.Range
     else (if not (is_ordered f.order (with_values version f.fields words (named name)).places) then Err faults.Order
-    else (if f.has_indexes then parse_kind verb (with_values version f.fields words (named name)) (drop (length f.fields) words)
-    else Ok (Some (command_of verb (with_values version f.fields words (named name)))))))))
+    else parse_tail verb f.tail (with_values version f.fields words (named name)) (drop (length f.fields) words)))))
 
 -- the words after the command word, in a form with a name: the first one is the name
 abbrev pub parse_named : Version → verbs.Verb → Form → List (List ℕ) → Parsed
@@ -222,6 +254,6 @@ parse_text version line = if nat_lt longest_line (length line) then Err faults.L
 -- What a line says in a version of the script. The first fault that holds is the answer, in this order: more than 256 bytes, one carriage return at the end not counted
 -- (Line); a line without a word or of a comment says nothing; a byte that isn't printable (Line); no command word (Command); another number of
 -- words than the form's (Fields); no name (Name); a number that isn't digits, after a `-` for a coordinate of version 2 (Number), or past its limits (Range); coordinates out of order
--- (Order); no kind (Kind); an index that the kind doesn't take, or that comes twice (Index).
+-- (Order); no kind (Kind); indexes that don't fit the kind, or one that comes twice; one for a layer in use that isn't of points (Index).
 abbrev pub parse : Version → List ℕ → Parsed
 parse version line = parse_text version (without_return line)

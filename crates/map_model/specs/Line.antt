@@ -4,9 +4,9 @@ use Rattle.map_model.specs.Version.{Version, One, Two, kept, greatest_coordinate
 use Rattle.map_model.specs.Shape.{Rect}
 use Rattle.map_model.specs.Words.{is_name, greatest_id, greatest_weight}
 use Rattle.map_model.specs.Shape.{Kind, Points, Segments, Shape, Point, Segment}
-use Rattle.map_model.specs.Index.{IndexSet, fits}
+use Rattle.map_model.specs.Index.{IndexSet, Index, Range, Near, Top, Stab, Cross, fits, may_be_late}
 use Rattle.map_model.specs.Answer as questions
-use Rattle.map_model.specs.Command.{Command, Livemap, MakeLayer, Add, Move, Drop, Ask, Get, Size, Recent, name_of, is_nameless}
+use Rattle.map_model.specs.Command.{Command, Livemap, MakeLayer, MakeIndex, Add, Move, Drop, Ask, Get, Size, Recent, name_of, is_nameless}
 use Rattle.map_model.specs.Form.{greatest_amount}
 
 -- a word, where something holds
@@ -18,9 +18,19 @@ abbrev pub kind_word : Kind → List ℕ
 kind_word Points = codes "points"
 kind_word Segments = codes "segments"
 
--- the words of indexes, in the order `range near top stab`
+-- the words of indexes, in the order `range near top stab cross batch`
 abbrev pub index_words : IndexSet → List (List ℕ)
-index_words s = word_if s.range (codes "range") ++ word_if s.near (codes "near") ++ word_if s.top (codes "top") ++ word_if s.stab (codes "stab")
+index_words s =
+    word_if s.range (codes "range") ++ word_if s.near (codes "near") ++ word_if s.top (codes "top") ++ word_if s.stab (codes "stab")
+    ++ word_if s.cross (codes "cross") ++ word_if s.batch (codes "batch")
+
+-- the word of an index
+abbrev pub index_word : Index → List ℕ
+index_word Range = codes "range"
+index_word Near = codes "near"
+index_word Top = codes "top"
+index_word Stab = codes "stab"
+index_word Cross = codes "cross"
 
 -- the word of a version
 abbrev pub version_word : Version → List ℕ
@@ -47,11 +57,16 @@ question_words version name (questions.Above x1 x2 y) =
 question_words version name (questions.Top x1 x2) = codes "top" ∷ name ∷ coordinate_text version x1 ∷ coordinate_text version x2 ∷ []
 question_words version name (questions.Stab x) = codes "stab" ∷ name ∷ coordinate_text version x ∷ []
 question_words version name (questions.StabCount x) = codes "stabcount" ∷ name ∷ coordinate_text version x ∷ []
+question_words version name (questions.CrossIn x y1 y2) =
+    codes "cross" ∷ name ∷ coordinate_text version x ∷ coordinate_text version y1 ∷ coordinate_text version y2 ∷ []
+question_words version name (questions.CrossCount x y1 y2) =
+    codes "crosscount" ∷ name ∷ coordinate_text version x ∷ coordinate_text version y1 ∷ coordinate_text version y2 ∷ []
 
 -- the words of a command's line
 abbrev pub command_words : Version → Command → List (List ℕ)
 command_words version (Livemap chosen) = codes "livemap" ∷ version_word chosen ∷ []
 command_words version (MakeLayer name kind indexes) = codes "layer" ∷ name ∷ kind_word kind ∷ index_words indexes
+command_words version (MakeIndex name index) = codes "index" ∷ name ∷ index_word index ∷ []
 command_words version (Add name id (Point x y w)) = codes "add" ∷ name ∷ point_words version id x y w
 command_words version (Add name id (Segment lo hi y)) =
     codes "seg" ∷ name ∷ decimal id ∷ coordinate_text version lo ∷ coordinate_text version hi ∷ coordinate_text version y ∷ []
@@ -68,7 +83,7 @@ spaced_words [] = []
 spaced_words (word ∷ []) = word
 spaced_words (word ∷ next ∷ words) = word ++ 32 ∷ spaced_words (next ∷ words)
 
--- the line that a command is written as: one space between words, numbers without leading zeros, indexes in the order `range near top stab`
+-- the line that a command is written as: one space between words, numbers without leading zeros, indexes in the order `range near top stab cross batch`
 abbrev pub command_line : Version → Command → List ℕ
 command_line version command = spaced_words (command_words version command)
 
@@ -106,11 +121,14 @@ IsQuestion version (questions.Above x1 x2 y) = (x1 ≤ x2) × IsCoordinate versi
 IsQuestion version (questions.Top x1 x2) = (x1 ≤ x2) × IsCoordinate version x2
 IsQuestion version (questions.Stab x) = IsCoordinate version x
 IsQuestion version (questions.StabCount x) = IsCoordinate version x
+IsQuestion version (questions.CrossIn x y1 y2) = IsCoordinate version x × (y1 ≤ y2) × IsCoordinate version y2
+IsQuestion version (questions.CrossCount x y1 y2) = IsCoordinate version x × (y1 ≤ y2) × IsCoordinate version y2
 
--- a command's numbers are within their limits and in order, and the indexes of a new layer fit its kind
+-- a command's numbers are within their limits and in order, the indexes of a new layer fit its kind, and a further one is of points
 abbrev pub InLimits : Version → Command → Type 0
 InLimits version (Livemap chosen) = ⊤
 InLimits version (MakeLayer name kind indexes) = fits kind indexes ≡ true
+InLimits version (MakeIndex name index) = may_be_late index ≡ true
 InLimits version (Add name id shape) = (id ≤ greatest_id) × IsShape version shape
 InLimits version (Move name id x y w) = (id ≤ greatest_id) × IsShape version (Point x y w)
 InLimits version (Drop name id) = id ≤ greatest_id

@@ -3,8 +3,8 @@ use Rattle.std.specs.Prelude.{if◌then◌else◌, ◌≡◌, ℕ, ◌<◌, Bool
 use Rattle.map_model.specs.Version.{Version}
 use Rattle.map_model.specs.State.{Layer, State, layer_named}
 use Rattle.map_model.specs.Refusal.{NoMemory, refusal_of_fault}
-use Rattle.map_model.specs.Command.{Command, Livemap, MakeLayer, Add, Move, Drop, Ask, Get, Size, Recent, name_of, takes_memory}
-use Rattle.map_model.specs.Cost.{Cost, Untold, Updating, Asking, Update, Adds, Drops, Moves, IsSpent, IsAsked}
+use Rattle.map_model.specs.Command.{Command, Livemap, MakeLayer, MakeIndex, Add, Move, Drop, Ask, Get, Size, Recent, name_of, takes_memory}
+use Rattle.map_model.specs.Cost.{Cost, Untold, Updating, Joining, Asking, Update, Adds, Drops, Moves, IsSpent, IsSpentAtOnce, IsAsked}
 use Rattle.map_model.specs.Reply.{Reply, Made, Updated, Answered, Got, Sized, Latest, Refused, is_refusal, reply_line}
 use Rattle.map_model.specs.Machine.{step}
 use Rattle.map_model.specs.Grammar.{Parsed, parse}
@@ -15,6 +15,7 @@ use Rattle.map_model.specs.Grammar.{Parsed, parse}
 abbrev pub update_of : Command → Option Update
 update_of (Livemap version) = None
 update_of (MakeLayer name kind indexes) = None
+update_of (MakeIndex name index) = None
 update_of (Add name id shape) = Some Adds
 update_of (Move name id x y w) = Some Moves
 update_of (Drop name id) = Some Drops
@@ -26,6 +27,7 @@ update_of (Recent name k) = None
 -- what an update may have spent in the layer of a name
 abbrev pub IsSpentIn : Option Layer → Option Update → Cost → Type 0
 IsSpentIn (Some layer) (Some update) (Updating spent) = IsSpent layer update spent
+IsSpentIn (Some layer) (Some update) (Joining spent) = IsSpentAtOnce layer update spent
 IsSpentIn _ update _ = ⊥
 
 -- what a question may have asked in the layer of a name

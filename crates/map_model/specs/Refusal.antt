@@ -15,7 +15,9 @@ pub data Refusal : Type 0 where
   NoLayer : Refusal
   Kind : Refusal
   Index : Refusal
-  -- a layer has the name already
+  -- the index waits for so many items
+  Building : (items : ℕ) → Refusal
+  -- a layer has the name already, or the layer the index
   Taken : Refusal
   -- there are eight layers already
   NoRoom : Refusal
@@ -42,6 +44,7 @@ refusal_text Order = codes "no order"
 refusal_text NoLayer = codes "no layer"
 refusal_text Kind = codes "no kind"
 refusal_text Index = codes "no index"
+refusal_text (Building items) = codes "no building " ++ decimal items
 refusal_text Taken = codes "no taken"
 refusal_text NoRoom = codes "no room"
 refusal_text (Duplicate id) = codes "no duplicate " ++ decimal id

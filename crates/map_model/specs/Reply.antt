@@ -3,13 +3,13 @@ use Rattle.std.specs.Prelude.{ℕ, List, [], ◌∷◌, ◌++◌, Bool, true, fa
 use Rattle.map_model.specs.Version.{Version, coordinate_text}
 use Rattle.map_model.specs.Shape.{Shape, Point, Segment}
 use Rattle.map_model.specs.Found.{Found, Peak}
-use Rattle.map_model.specs.Answer.{Answer, Counted, Summed, Listed, NearestOne, NearestOnes, ListedAbove, Highest, Stabbed, StabCounted}
+use Rattle.map_model.specs.Answer.{Answer, Counted, Summed, Listed, NearestOne, NearestOnes, ListedAbove, Highest, Stabbed, StabCounted, Crossed, CrossCounted}
 use Rattle.map_model.specs.Refusal.{Refusal, refusal_text}
 use Rattle.map_model.specs.Cost.{Cost, cost_text}
 
 -- what a command is answered
 pub data Reply : Type 0 where
-  -- a layer was made, or a version chosen
+  -- a layer or an index was made, or a version chosen
   Made : Reply
   -- an item was added, moved or dropped
   Updated : Reply
@@ -77,6 +77,8 @@ answer_text version (ListedAbove ids) = codes "above" ++ numbers_or_none ids
 answer_text version (Highest peak) = codes "top" ++ peak_or_none version peak
 answer_text version (Stabbed ids) = codes "stab" ++ numbers_or_none ids
 answer_text version (StabCounted n) = codes "stabcount" ++ spaced n
+answer_text version (Crossed ids) = codes "cross" ++ numbers_or_none ids
+answer_text version (CrossCounted n) = codes "crosscount" ++ spaced n
 
 -- a reply as words: a word or two and the numbers after it, or `none` for an empty list
 abbrev pub reply_text : Version → Reply → List ℕ

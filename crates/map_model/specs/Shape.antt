@@ -47,6 +47,11 @@ abbrev pub is_stabbed : ℕ → Shape → Bool
 is_stabbed x (Point x' y w) = false
 is_stabbed x (Segment lo hi y) = nat_le lo x && nat_le x hi
 
+-- a segment over x, its ends included, that lies from y1 to y2
+abbrev pub is_met : ℕ → ℕ → ℕ → Shape → Bool
+is_met x y1 y2 (Point x' y w) = false
+is_met x y1 y2 (Segment lo hi y) = nat_le lo x && nat_le x hi && nat_le y1 y && nat_le y y2
+
 -- the weight of a point
 abbrev pub weight_of : Shape → ℕ
 weight_of (Point x y w) = w

@@ -33,6 +33,8 @@ shifted_question dx dy (questions.Above x1 x2 y) = questions.Above (x1 + dx) (x2
 shifted_question dx dy (questions.Top x1 x2) = questions.Top (x1 + dx) (x2 + dx)
 shifted_question dx dy (questions.Stab x) = questions.Stab (x + dx)
 shifted_question dx dy (questions.StabCount x) = questions.StabCount (x + dx)
+shifted_question dx dy (questions.CrossIn x y1 y2) = questions.CrossIn (x + dx) (y1 + dy) (y2 + dy)
+shifted_question dx dy (questions.CrossCount x y1 y2) = questions.CrossCount (x + dx) (y1 + dy) (y2 + dy)
 
 -- a height moved, if there is one
 abbrev pub shifted_peak : ℕ → Option Peak → Option Peak
@@ -50,6 +52,8 @@ shifted_answer dy (questions.ListedAbove ids) = questions.ListedAbove ids
 shifted_answer dy (questions.Highest peak) = questions.Highest (shifted_peak dy peak)
 shifted_answer dy (questions.Stabbed ids) = questions.Stabbed ids
 shifted_answer dy (questions.StabCounted n) = questions.StabCounted n
+shifted_answer dy (questions.Crossed ids) = questions.Crossed ids
+shifted_answer dy (questions.CrossCounted n) = questions.CrossCounted n
 
 -- a shape moved, if there is one
 abbrev pub shifted_found : ℕ → ℕ → Option Shape → Option Shape

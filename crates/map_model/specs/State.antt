@@ -1,20 +1,29 @@
 -- What a map of layers holds.
-use Rattle.std.specs.Prelude.{◌==◌, ◌≢◌, ℕ, All, Bool, not, List, [], ◌∷◌, ◌++◌, length, Option, Some, None, bytes_eq, map, filter, if◌then◌else◌}
+use Rattle.std.specs.Prelude.{◌==◌, ◌≢◌, ℕ, ◌+◌, ◌-◌, All, Bool, true, false, not, List, [], ◌∷◌, ◌++◌, length, drop, Option, Some, None, bytes_eq, map, filter, if◌then◌else◌}
 use Rattle.std.specs.List.{list_any, AllPairs}
 use Rattle.map_model.specs.Version.{Version, One}
 use Rattle.map_model.specs.Shape.{Kind, Shape}
-use Rattle.map_model.specs.Index.{IndexSet}
+use Rattle.map_model.specs.Index.{IndexSet, Index, Range, Near, Top, Stab, Cross, one_if, with_index}
 
 -- a live identifier with its shape
 pub record Item : Type 0 where
   pub id : ℕ
   pub shape : Shape
 
--- a layer: its name, its kind, its indexes, and its live items in order of add
+-- how many items each of the indexes that may be late waits for: the last ones of its layer
+pub record Waits : Type 0 where
+  pub range : ℕ
+  pub near : ℕ
+  pub top : ℕ
+
+-- a layer: its name, its kind, its indexes with how many items they wait for, how many adds and moves there ever were, and its live items in order of
+-- add or move
 pub record Layer : Type 0 where
   pub name : List ℕ
   pub kind : Kind
   pub indexes : IndexSet
+  pub waits : Waits
+  pub inserted : ℕ
   pub items : List Item
 
 -- a map: the version of its script, as many items as a layer may have, and its layers in order of creation, at most 8
@@ -58,14 +67,9 @@ abbrev pub layer_named : List ℕ → List Layer → Option Layer
 layer_named name [] = None
 layer_named name (layer ∷ layers) = if bytes_eq layer.name name then Some layer else layer_named name layers
 
--- the layer with a change of its items
-abbrev pub changed : (List Item → List Item) → Layer → Layer
-changed change layer = record layer { items = change layer.items }
-
--- the map with a change of the items of the layer of a name
-abbrev pub with_items : List ℕ → (List Item → List Item) → State → State
-with_items name change state =
-    record state { layers = map (λ layer. if bytes_eq layer.name name then changed change layer else layer) state.layers }
+-- the map with a change of the layer of a name
+abbrev pub with_layer : List ℕ → (Layer → Layer) → State → State
+with_layer name change state = record state { layers = map (λ layer. if bytes_eq layer.name name then change layer else layer) state.layers }
 
 -- one more item, at the end
 abbrev pub with_item : Item → List Item → List Item
@@ -74,3 +78,61 @@ with_item item items = items ++ item ∷ []
 -- the items of other identifiers
 abbrev pub without_item : ℕ → List Item → List Item
 without_item id items = filter (λ item. not (item.id == id)) items
+
+-- ---- indexes that wait for items
+
+-- no index waits for any
+abbrev pub no_waits : Waits
+no_waits = record { range = 0; near = 0; top = 0 }
+
+-- how many items an index waits for; 0 where it is ready
+abbrev pub wait_of : Waits → Index → ℕ
+wait_of waits Range = waits.range
+wait_of waits Near = waits.near
+wait_of waits Top = waits.top
+wait_of waits Stab = 0
+wait_of waits Cross = 0
+
+-- an index that waits for so many
+abbrev pub with_wait : Waits → Index → ℕ → Waits
+with_wait waits Range n = record waits { range = n }
+with_wait waits Near n = record waits { near = n }
+with_wait waits Top n = record waits { top = n }
+with_wait waits Stab n = waits
+with_wait waits Cross n = waits
+
+-- as many items as an index that waits is handed by an update
+abbrev pub handed : ℕ
+handed = 4
+
+-- For how many items an index waits after an update of an identifier, by those before it. First it is handed the next four, and where these are the
+-- last it is ready. Else it waits no more for the item of the identifier, if it did, and waits for one that comes.
+abbrev pub wait_after : Bool → ℕ → List Item → ℕ → ℕ
+wait_after comes id items wait =
+    let left = wait - handed in
+    if left == 0 then 0 else (left - one_if (is_live id (drop (length items - left) items))) + one_if comes
+
+-- the same of each index of a layer
+abbrev pub waits_after : Bool → ℕ → Layer → Waits
+waits_after comes id layer =
+    let after = wait_after comes id layer.items in
+    record { range = after layer.waits.range; near = after layer.waits.near; top = after layer.waits.top }
+
+-- ---- changes of a layer
+
+-- with one more item, at the end
+abbrev pub added : Item → Layer → Layer
+added item layer = record layer { waits = waits_after true item.id layer; inserted = layer.inserted + 1; items = with_item item layer.items }
+
+-- the item of the identifier at the end, as another
+abbrev pub moved : Item → Layer → Layer
+moved item layer =
+    record layer { waits = waits_after true item.id layer; inserted = layer.inserted + 1; items = with_item item (without_item item.id layer.items) }
+
+-- without the item of an identifier
+abbrev pub dropped : ℕ → Layer → Layer
+dropped id layer = record layer { waits = waits_after false id layer; items = without_item id layer.items }
+
+-- with one more index, which waits for all items
+abbrev pub indexed : Index → Layer → Layer
+indexed index layer = record layer { indexes = with_index layer.indexes index; waits = with_wait layer.waits index (live_count layer) }

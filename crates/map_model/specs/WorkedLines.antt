@@ -1,5 +1,5 @@
 -- What each of these lines is answered, where one empty layer of points stands.
-use Rattle.std.specs.Prelude.{◌≡◌, List, [], ◌∷◌, ◌++◌, codes, replicate}
+use Rattle.std.specs.Prelude.{◌≡◌, [], ◌∷◌, ◌++◌, codes, replicate}
 use Rattle.map_model.specs.State.{empty_map}
 use Rattle.map_model.specs.Output.{machine_text}
 

@@ -8,19 +8,20 @@
 //! The definitions name no type of the program: a crate above says by a function of its `specs/` what its own types mean here
 //! (`command_of`, `reply_of`, `map_of`). An output is a relation by recursion over the lines, and no function of a script, since memory
 //! may be refused at any line that takes some. What a reply cost stands beside it, and any costs that are allowed will do: so bytes fix
-//! the map though costs differ ([`end_is_fixed`]). Points and segments are added by one command, and the nine questions are one, since
+//! the map though costs differ ([`end_is_fixed`]). Points and segments are added by one command, and the eleven questions are one, since
 //! their refusals are the same.
 #![tactic(auto)]
 
-ghost use Rattle.std.specs.Prelude.{◌≡◌, ℕ, ◌+◌, ◌*◌, ◌^◌, ◌<◌, ◌≤◌, Bool, true, false, List, [], ◌∷◌, ◌++◌, Ok, Some, None, Contains, codes, IsTrue, nat_eq};
+ghost use Rattle.std.specs.Prelude.{◌≡◌, ℕ, ◌+◌, ◌-◌, ◌*◌, ◌^◌, ◌<◌, ◌≤◌, Bool, true, false, List, [], ◌∷◌, ◌++◌, Ok, Some, None, Contains, codes, IsTrue, nat_eq};
 ghost use Rattle.std.specs.List.{starts_with};
+ghost use Rattle.map_model.specs.Index.{Index};
 ghost use Rattle.map_model.specs.Answer.{Question, answer_over};
 ghost use Rattle.map_model.specs.Shift.{shifted_items, shifted_question, shifted_answer, shifted_found};
 ghost use Rattle.map_model.specs.Text.{lines, one_line};
 ghost use Rattle.map_model.specs.Version.{Version};
-ghost use Rattle.map_model.specs.State.{Item, Layer, State, HasDistinctKeys, empty_map_of, shape_of};
+ghost use Rattle.map_model.specs.State.{Item, Layer, State, HasDistinctKeys, empty_map_of, shape_of, wait_of, added, moved, dropped};
 ghost use Rattle.map_model.specs.Machine.{step};
-ghost use Rattle.map_model.specs.Cost.{Cost, Update, Spent, QuestionCost, Updating, Asking, Fits64, IsSpent, IsAsked, greatest_level};
+ghost use Rattle.map_model.specs.Cost.{Cost, Update, Spent, SpentAtOnce, QuestionCost, Updating, Joining, Asking, Fits64, IsSpent, IsSpentAtOnce, IsAsked, greatest_level, batch_parts, batch_part_bound};
 ghost use Rattle.map_model.specs.Reply.{Reply, reply_text, reply_line, is_refusal};
 ghost use Rattle.map_model.specs.Command.{Command};
 ghost use Rattle.map_model.specs.Grammar.{parse};
@@ -89,11 +90,13 @@ pub fn replies_are_lines()
 {}
 
 /// With the ledger a reply's line tells what the reply cost: two costs that make the same line of it are the same. An update's
-/// numbers always have few enough bits for it, and so have a question's, but for its touches.
+/// numbers always have few enough bits for it, and so have a question's, but for its touches; where parts are joined at once, those of the
+/// first 2^40 updates.
 pub fn costs_are_fixed()
     ensures fixed { (version : Version) (reply : Reply) (first second : Cost) → Fits64 first → Fits64 second →
         reply_line version true reply first ≡ reply_line version true reply second → first ≡ second }
     ensures updates { (layer : Layer) (update : Update) (spent : Spent) → IsSpent layer update spent → Fits64 (Updating spent) }
+    ensures joins { (layer : Layer) (update : Update) (spent : SpentAtOnce) → layer.inserted < 2 ^ 40 → IsSpentAtOnce layer update spent → Fits64 (Joining spent) }
     ensures questions { (layer : Layer) (asked : QuestionCost) → IsAsked layer asked → asked.touches < 2 ^ 64 → Fits64 (Asking asked) }
 {}
 
@@ -121,6 +124,21 @@ pub fn greatest_level_is_greatest()
         (2 ^ greatest_level n ≤ 2 * n + 10) × (2 * n + 10 < 2 * 2 ^ greatest_level n) }
 {}
 
+/// An index that waits for items waits for three fewer at least after each update of its layer, until it waits for none, and from then on for
+/// none.
+pub fn late_indexes_catch_up()
+    ensures adds { (layer : Layer) (item : Item) (index : Index) → wait_of (added item layer).waits index ≤ wait_of layer.waits index - 3 }
+    ensures moves { (layer : Layer) (item : Item) (index : Index) → wait_of (moved item layer).waits index ≤ wait_of layer.waits index - 3 }
+    ensures drops { (layer : Layer) (id : ℕ) (index : Index) → wait_of (dropped id layer).waits index ≤ wait_of layer.waits index - 3 }
+{}
+
+/// Parts that are joined at once are at most as many as their number of inserts has digits in binary.
+pub fn batch_parts_are_ones()
+    ensures bound { (inserted : ℕ) → batch_parts inserted ≤ batch_part_bound inserted }
+    ensures digits { (inserted : ℕ) → inserted < 2 ^ 64 →
+        (inserted < 2 ^ batch_part_bound inserted) × (0 < inserted → 2 ^ batch_part_bound inserted ≤ 2 * inserted) }
+{}
+
 /// Worked rows: what these scripts are answered, without the ledger.
 pub fn worked_rows()
     ensures { WorkedRows }
@@ -131,7 +149,7 @@ pub fn worked_lines()
     ensures { WorkedLines }
 {}
 
-/// The bounds of one index, where a layer has so many live items.
+/// The bounds of one index, where a layer has so many live items, and of parts that are joined at once.
 pub fn worked_bounds()
     ensures { WorkedBounds }
 {}

@@ -26,6 +26,8 @@ point_question_of (points.Top q) = model.Top q.x1 q.x2
 abbrev pub segment_question_of : SegmentQuestion → model.Question
 segment_question_of (segments.Stab q) = model.Stab q.x
 segment_question_of (segments.StabCount q) = model.StabCount q.x
+segment_question_of (segments.CrossIn q) = model.CrossIn q.x q.y1 q.y2
+segment_question_of (segments.CrossCount q) = model.CrossCount q.x q.y1 q.y2
 
 -- any question, as the definitions have it
 abbrev pub question_of : AnyQuestion → model.Question
@@ -43,3 +45,5 @@ answer_of (answers.ListedAbove ids) = model.ListedAbove ids
 answer_of (answers.Highest peak) = model.Highest (option_map peak_of peak)
 answer_of (answers.Stabbed ids) = model.Stabbed ids
 answer_of (answers.StabCounted n) = model.StabCounted n
+answer_of (answers.Crossed ids) = model.Crossed ids
+answer_of (answers.CrossCounted n) = model.CrossCounted n

@@ -8,7 +8,7 @@ use Rattle.std.proofs.lemmas.Grind.{common_steps}
 use Rattle.std.proofs.lemmas.List.{take-map}
 use Rattle.query_laws.specs.Decomposable.{IsDecomposable}
 use Rattle.query_laws.specs.Sums.{capped_add, FitsU64, IsDecomposable-capped_sum}
-use Rattle.map_model.specs.Shape.{is_between, is_above, is_stabbed, squared_distance, height_of}
+use Rattle.map_model.specs.Shape.{is_between, is_above, is_stabbed, is_met, squared_distance, height_of}
 use Rattle.map_model.specs.Found.{insert_by, sorted_by, Found}
 use Rattle.map_shapes.specs.declared.peak.Peak.{Peak}
 use Rattle.map_shapes.specs.Found.{found_from, peak_from, nearer_le, higher_le}
@@ -20,7 +20,7 @@ use Rattle.map_shapes.specs.QuestionLaws.{IsDecomposable-filter, IsDecomposable-
 use Rattle.map_questions.specs.AnswerLaws.{IsDecomposable-same}
 use Rattle.map_questions.specs.FirstFew.{IsTotalOrder, IsFirstFew, first_few, first_few_of_both, first, first_of_both}
 use Rattle.map_questions.specs.FirstFewLaws.{IsDecomposable-first_few, IsDecomposable-first}
-use Rattle.map_questions.specs.Questions.{near, near_k, above, top, stab, stab_count}
+use Rattle.map_questions.specs.Questions.{near, near_k, above, top, stab, stab_count, crossed, cross_count}
 
 -- ---- the two orders are total
 
@@ -121,3 +121,12 @@ IsDecomposable-stab x =
 pub IsDecomposable-stab_count : (x : ℕ) → IsDecomposable (stab_count x) capped_add 0 FitsU64
 IsDecomposable-stab_count x =
     IsDecomposable-map item_of_segment (IsDecomposable-capped_sum (λ item. cond (is_stabbed x item.shape) 1 0))
+
+pub IsDecomposable-crossed : (x y1 y2 : ℕ) → IsDecomposable (crossed x y1 y2) sorted_union [] IsNonDecreasing
+IsDecomposable-crossed x y1 y2 =
+    IsDecomposable-map item_of_segment (IsDecomposable-filter (λ item. is_met x y1 y2 item.shape)
+    (IsDecomposable-map (λ item. item.id) IsDecomposable-ascending))
+
+pub IsDecomposable-cross_count : (x y1 y2 : ℕ) → IsDecomposable (cross_count x y1 y2) capped_add 0 FitsU64
+IsDecomposable-cross_count x y1 y2 =
+    IsDecomposable-map item_of_segment (IsDecomposable-capped_sum (λ item. cond (is_met x y1 y2 item.shape) 1 0))

@@ -1,7 +1,7 @@
 -- What the questions ask: the definitions' answers over the items, in the program's words.
 use Rattle.std.specs.Prelude.{ℕ, ◌-◌, ◌^◌, List, Option, min, map, take, count_by, slice_get}
 use Rattle.std.specs.Option.{option_map}
-use Rattle.map_model.specs.Shape.{is_above, is_stabbed, squared_distance}
+use Rattle.map_model.specs.Shape.{is_above, is_stabbed, is_met, squared_distance}
 use Rattle.map_model.specs.Answer.{ids_with, by_distance, by_height}
 use Rattle.map_shapes.specs.declared.point.Point.{Point}
 use Rattle.map_shapes.specs.declared.segment.Segment.{Segment}
@@ -42,3 +42,11 @@ stab x segments = ids_with (is_stabbed x) (map item_of_segment segments)
 -- how many segments are over x, at most the greatest u64
 abbrev pub stab_count : ℕ → List Segment → ℕ
 stab_count x segments = min (count_by (λ item. is_stabbed x item.shape) (map item_of_segment segments)) (2 ^ 64 - 1)
+
+-- the identifiers of the segments that one from (x, y1) to (x, y2) meets, ascending
+abbrev pub crossed : ℕ → ℕ → ℕ → List Segment → List ℕ
+crossed x y1 y2 segments = ids_with (is_met x y1 y2) (map item_of_segment segments)
+
+-- how many segments it meets, at most the greatest u64
+abbrev pub cross_count : ℕ → ℕ → ℕ → List Segment → ℕ
+cross_count x y1 y2 segments = min (count_by (λ item. is_met x y1 y2 item.shape) (map item_of_segment segments)) (2 ^ 64 - 1)

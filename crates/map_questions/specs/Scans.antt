@@ -4,15 +4,15 @@ use Rattle.std.specs.Option.{option_map}
 use Rattle.std.specs.Prelude.{count_by}
 use Rattle.std.proofs.lemmas.Grind.{common_steps}
 use Rattle.std.proofs.lemmas.List.{length-map}
-use Rattle.map_model.specs.Shape.{is_stabbed}
+use Rattle.map_model.specs.Shape.{is_stabbed, is_met}
 use Rattle.map_model.specs.State.{Item}
-use Rattle.map_model.specs.Answer.{answer_over, by_distance, by_height, Near, Nearest, Above, Top, Stab, StabCount, NearestOne, NearestOnes, ListedAbove, Highest, Stabbed, StabCounted}
+use Rattle.map_model.specs.Answer.{answer_over, by_distance, by_height, Near, Nearest, Above, Top, Stab, StabCount, CrossIn, CrossCount, NearestOne, NearestOnes, ListedAbove, Highest, Stabbed, StabCounted, Crossed, CrossCounted}
 use Rattle.map_shapes.specs.declared.point.Point.{Point}
 use Rattle.map_shapes.specs.declared.segment.Segment.{Segment}
 use Rattle.map_shapes.specs.Found.{found_of, found_from, peak_of, peak_from}
 use Rattle.map_shapes.specs.Point.{item_of}
 use Rattle.map_shapes.specs.Segment.{item_of_segment}
-use Rattle.map_questions.specs.Questions.{near, near_k, above, top, stab, stab_count}
+use Rattle.map_questions.specs.Questions.{near, near_k, above, top, stab, stab_count, crossed, cross_count}
 
 -- an entry of the definitions is the same one after a way there and back
 module _ {A B : Type 0} (to : A → B) (from : B → A) (same : (a : A) → from (to a) ≡ a) where
@@ -49,3 +49,13 @@ pub stab_count-scan : (x : ℕ) (segments : List Segment) → length segments < 
 stab_count-scan x segments few =
     let items = map item_of_segment segments in
     ap (λ n. StabCounted n) (omega (arith, few_counted (λ item. is_stabbed x item.shape) items, length-map segments item_of_segment))
+
+pub crossed-scan : (x y1 y2 : ℕ) (segments : List Segment) → Crossed (crossed x y1 y2 segments) ≡ answer_over (map item_of_segment segments) (CrossIn x y1 y2)
+crossed-scan x y1 y2 segments = refl
+
+-- this one where they are fewer than 2^64
+pub cross_count-scan : (x y1 y2 : ℕ) (segments : List Segment) → length segments < 2 ^ 64
+    → CrossCounted (cross_count x y1 y2 segments) ≡ answer_over (map item_of_segment segments) (CrossCount x y1 y2)
+cross_count-scan x y1 y2 segments few =
+    let items = map item_of_segment segments in
+    ap (λ n. CrossCounted n) (omega (arith, few_counted (λ item. is_met x y1 y2 item.shape) items, length-map segments item_of_segment))

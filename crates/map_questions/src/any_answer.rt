@@ -22,4 +22,8 @@ pub enum AnyAnswer {
     Stabbed(IdList),
     /// How many segments are over a place.
     StabCounted(u64),
+    /// The identifiers of the segments that a vertical one meets, ascending.
+    Crossed(IdList),
+    /// How many segments it meets.
+    CrossCounted(u64),
 }

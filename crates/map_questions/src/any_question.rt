@@ -1,5 +1,5 @@
 //! Every question that an index answers.
-use crate::{Above, Near, NearK, Stab, StabCount, Top};
+use crate::{Above, CrossCount, CrossIn, Near, NearK, Stab, StabCount, Top};
 use map_shapes::{CountIn, ListIn, SumIn};
 
 /// A question about the items of a layer.
@@ -26,4 +26,6 @@ pub enum PointQuestion {
 pub enum SegmentQuestion {
     Stab(Stab),
     StabCount(StabCount),
+    CrossIn(CrossIn),
+    CrossCount(CrossCount),
 }

@@ -1,17 +1,20 @@
-//! The questions for near points, for high points, and for segments over a place; and those for rectangles beside them, as one type.
+//! The questions for near points, for high points, and for segments that a place or a vertical segment meets; and those for rectangles beside
+//! them, as one type.
 //!
 //! `specs/Questions.antt` says what each one asks, in the definitions' words, and `specs/Scans.antt` that its answer is
 //! that of the definitions' scan. A question has its ranges and orders as ghost fields: no other value can be made.
 //!
 //! [`Near`], [`NearK`] and [`Top`] are one law, that of the first few of a list by a total order (`specs/FirstFewLaws.antt`). Their
 //! tallies never refuse. `offer` joins one point: one that doesn't come before `worst`, or `best`, changes nothing, so a part may
-//! leave out all points that can't. Nothing says how many comparisons an offer takes. Of the others [`Above`] and [`Stab`] list
-//! identifiers, and are refused where memory isn't given.
+//! leave out all points that can't. Nothing says how many comparisons an offer takes. Of the others [`Above`], [`Stab`] and [`CrossIn`]
+//! list identifiers, and are refused where memory isn't given.
 #![tactic(auto)]
 
 mod above;
 mod any_answer;
 mod any_question;
+mod cross_count;
+mod cross_in;
 mod kind_question;
 mod near;
 mod near_k;
@@ -26,6 +29,8 @@ mod top_tally;
 pub use above::Above;
 pub use any_answer::AnyAnswer;
 pub use any_question::{AnyQuestion, PointQuestion, SegmentQuestion};
+pub use cross_count::CrossCount;
+pub use cross_in::CrossIn;
 pub use kind_question::KindQuestion;
 pub use near::Near;
 pub use near_k::NearK;

@@ -7,8 +7,8 @@ ghost use Rattle.map_shapes.specs.Rect.{rect_of};
 ghost use Rattle.map_questions.specs.Any.{question_of, answer_of};
 
 use crate::{
-    Above, AnyAnswer, AnyQuestion, Near, NearK, PointQuestion, SegmentQuestion, Stab, StabCount,
-    Top,
+    Above, AnyAnswer, AnyQuestion, CrossCount, CrossIn, Near, NearK, PointQuestion,
+    SegmentQuestion, Stab, StabCount, Top,
 };
 use map_shapes::{CountIn, Found, FoundList, IdList, ListIn, Peak, SumIn};
 use query_laws::Question;
@@ -153,5 +153,33 @@ impl OneQuestion for StabCount {
 
     fn answer(answer: u64) -> AnyAnswer {
         AnyAnswer::StabCounted(answer)
+    }
+}
+
+impl OneQuestion for CrossIn {
+    ghost asks = { λ q. model.CrossIn q.x q.y1 q.y2 };
+
+    ghost tells = { model.Crossed };
+
+    fn question(self) -> AnyQuestion {
+        AnyQuestion::Segments(SegmentQuestion::CrossIn(self))
+    }
+
+    fn answer(answer: IdList) -> AnyAnswer {
+        AnyAnswer::Crossed(answer)
+    }
+}
+
+impl OneQuestion for CrossCount {
+    ghost asks = { λ q. model.CrossCount q.x q.y1 q.y2 };
+
+    ghost tells = { model.CrossCounted };
+
+    fn question(self) -> AnyQuestion {
+        AnyQuestion::Segments(SegmentQuestion::CrossCount(self))
+    }
+
+    fn answer(answer: u64) -> AnyAnswer {
+        AnyAnswer::CrossCounted(answer)
     }
 }

@@ -17,6 +17,10 @@ pub struct IndexSet {
     pub top: bool,
     /// The segments over a place.
     pub stab: bool,
+    /// The segments that a vertical one meets.
+    pub cross: bool,
+    /// Parts are joined at once, level after level, in place of a bounded piece with each update.
+    pub batch: bool,
 }
 
 impl IndexSet {
@@ -29,18 +33,22 @@ impl IndexSet {
             near: false,
             top: false,
             stab: false,
+            cross: false,
+            batch: false,
         }
     }
 
-    /// Whether a layer of this kind can have them: at least one is set, points have no `stab`, and segments nothing
-    /// else.
+    /// Whether a layer of this kind can have them: points have some of `range`, `near` and `top`, segments some of `stab` and `cross`;
+    /// and `batch` is for points that have `range` alone.
     pub fn fits(&self, kind: Kind) -> bool
         ensures { result ≡ fits (kind_of kind) (index_set_of self.now) }
     {
         let of_points = self.range || self.near || self.top;
+        let of_segments = self.stab || self.cross;
+        let alone = self.range && !self.near && !self.top;
         match kind {
-            Kind::Points => of_points && !self.stab,
-            Kind::Segments => self.stab && !of_points,
+            Kind::Points => of_points && !of_segments && (!self.batch || alone),
+            Kind::Segments => of_segments && !of_points && !self.batch,
         }
     }
 }

@@ -15,7 +15,7 @@ pub struct Segment {
 
 impl Segment {
     ghost use Rattle.std.specs.Prelude.{◌≡◌};
-    ghost use Rattle.map_model.specs.Shape.{is_stabbed};
+    ghost use Rattle.map_model.specs.Shape.{is_stabbed, is_met};
     ghost use Rattle.map_shapes.specs.Segment.{shape_of_segment};
 
     /// Whether it lies over `x`, its ends included.
@@ -23,5 +23,12 @@ impl Segment {
         ensures { result ≡ is_stabbed x (shape_of_segment self.now) }
     {
         self.lo <= x && x <= self.hi
+    }
+
+    /// Whether it lies over `x`, its ends included, and from `y1` to `y2`.
+    pub fn is_met(&self, x: u32, y1: u32, y2: u32) -> bool
+        ensures { result ≡ is_met x y1 y2 (shape_of_segment self.now) }
+    {
+        self.lo <= x && x <= self.hi && y1 <= self.y && self.y <= y2
     }
 }

@@ -1,5 +1,5 @@
 -- A line that says a command has printable bytes alone.
-use Rattle.std.proofs.Common.{◌≡◌, ℕ, suc, ◌+◌, ◌-◌, Bool, true, false, cond, not, ◌&&◌, ◌||◌, nat_le, nat_eq, List, [], ◌∷◌, codes, length, take, drop, filter, Option, Some, None, Result, Ok, Err, bytes_eq, arith, refl, sym, ap, ◌∙◌, ◌⊎◌, inl, inr}
+use Rattle.std.proofs.Common.{◌≡◌, ℕ, suc, ◌+◌, ◌-◌, Bool, true, false, cond, not, ◌&&◌, ◌||◌, nat_eq, length-drop, List, [], ◌∷◌, codes, length, take, drop, filter, Option, Some, None, Result, Ok, Err, bytes_eq, arith, refl, sym, ap, ◌∙◌, ◌⊎◌, inl, inr}
 use Rattle.std.specs.Prelude.{slice_index}
 use Rattle.std.specs.Result.{is_err}
 use Rattle.std.specs.List.{list_all, starts_with, slice_split, onto_first, find}
@@ -10,13 +10,14 @@ use Rattle.std.proofs.lemmas.Bool.Decides.{nat_tests}
 use Rattle.std.proofs.lemmas.Slice.Eq.{bytes_eq-Decides}
 use Rattle.map_model.specs.Words.{words, is_blank, is_filled, is_name, is_name_byte}
 use Rattle.map_model.specs.Shape.{Kind, Points, Segments}
+use Rattle.map_model.specs.Index.{Range, Near, Top, fits}
 use Rattle.map_model.specs.LineFault.{LineFault}
 use Rattle.map_model.specs.LineFault as faults
 use Rattle.map_model.specs.Command.{Command}
 use Rattle.map_model.specs.Version.{Version, One, Two}
-use Rattle.map_model.specs.Form.{Field, Id, Coordinate, Weight, Amount, VersionNumber, Form, form, is_ordered, verb_of, verbs}
+use Rattle.map_model.specs.Form.{Field, Id, Coordinate, Weight, Amount, VersionNumber, Tail, Bare, Indexes, OneIndex, Form, form, is_ordered, verb_of, verbs}
 use Rattle.map_model.specs.Form as model
-use Rattle.map_model.specs.Grammar.{is_printable, has_minus, unsigned, is_digits, is_in_range, all_fields, has_words, Values, named, with_values, command_of, takes_word, is_distinct, Parsed, parse_indexes, parse_kind, parse_fields, parse_named, parse_form, parse_verb, parse_words, without_return}
+use Rattle.map_model.specs.Grammar.{is_printable, has_minus, unsigned, is_digits, is_in_range, all_fields, is_tailed, has_words, Values, named, with_values, is_index_word, is_distinct, index_set, point_index, Parsed, parse_indexes, parse_kind, parse_index, parse_tail, parse_fields, parse_named, parse_verb, parse_words, without_return}
 use Rattle.script_lang.specs.declared.command.Command as script
 use Rattle.script_lang.specs.declared.line_fault.LineFault as errors
 use Rattle.script_lang.specs.LineFault.{fault_of}
@@ -84,6 +85,7 @@ verb_prints : (verb : model.Verb) → prints (form verb).word ≡ true
 unfolding form
 verb_prints model.Livemap = refl
 verb_prints model.Layer = refl
+verb_prints model.Index = refl
 verb_prints model.Add = refl
 verb_prints model.Seg = refl
 verb_prints model.Move = refl
@@ -97,6 +99,8 @@ verb_prints model.Above = refl
 verb_prints model.Top = refl
 verb_prints model.Stab = refl
 verb_prints model.StabCount = refl
+verb_prints model.Cross = refl
+verb_prints model.CrossCount = refl
 verb_prints model.Get = refl
 verb_prints model.Size = refl
 verb_prints model.Recent = refl
@@ -108,21 +112,29 @@ found_prints (row ∷ rows) word verb e = elim (cases_Bool (bytes_eq (form row).
   | inr other ↦ found_prints rows word verb (sym (ap (λ b. cond b (Some row) (find (λ v. bytes_eq (form v).word word) rows)) other) ∙ e)
 ]
 
-taken_prints : (kind : Kind) (word : List ℕ) → takes_word kind word ≡ true → prints word ≡ true
-taken_prints Segments word taken = same_prints word (codes "stab") taken refl
-taken_prints Points word taken = elim (cases_Bool (bytes_eq word (codes "range"))) [
-  | inl range ↦ same_prints word (codes "range") range refl
+index_prints : (word : List ℕ) → is_index_word word ≡ true → prints word ≡ true
+index_prints word is = elim (cases_Bool (bytes_eq word (codes "range"))) [
+  | inl same ↦ same_prints word (codes "range") same refl
   | inr not_range ↦ elim (cases_Bool (bytes_eq word (codes "near"))) [
-    | inl near ↦ same_prints word (codes "near") near refl
-    | inr not_near ↦ same_prints word (codes "top") (sym (λ i. not_range i || not_near i || bytes_eq word (codes "top")) ∙ taken) refl
+    | inl same ↦ same_prints word (codes "near") same refl
+    | inr not_near ↦ elim (cases_Bool (bytes_eq word (codes "top"))) [
+      | inl same ↦ same_prints word (codes "top") same refl
+      | inr not_top ↦ elim (cases_Bool (bytes_eq word (codes "stab"))) [
+        | inl same ↦ same_prints word (codes "stab") same refl
+        | inr not_stab ↦ elim (cases_Bool (bytes_eq word (codes "cross"))) [
+          | inl same ↦ same_prints word (codes "cross") same refl
+          | inr not_cross ↦ same_prints word (codes "batch") (sym (λ i. not_range i || not_near i || not_top i || not_stab i || not_cross i || bytes_eq word (codes "batch")) ∙ is) refl
+        ]
+      ]
+    ]
   ]
 ]
 
-all_taken_print : (kind : Kind) (words : List (List ℕ)) → list_all (takes_word kind) words ≡ true → list_all prints words ≡ true
-all_taken_print kind [] h = refl
-all_taken_print kind (word ∷ words) h =
-    let parts = and_parts (takes_word kind word) (list_all (takes_word kind) words) h in
-    and_from (prints word) (list_all prints words) (taken_prints kind word parts.0) (all_taken_print kind words parts.1)
+all_indexes_print : (words : List (List ℕ)) → list_all is_index_word words ≡ true → list_all prints words ≡ true
+all_indexes_print [] h = refl
+all_indexes_print (word ∷ words) h =
+    let parts = and_parts (is_index_word word) (list_all is_index_word words) h in
+    and_from (prints word) (list_all prints words) (index_prints word parts.0) (all_indexes_print words parts.1)
 
 -- a coordinate below zero
 minus_prints : (version : Version) (field : Field) (word : List ℕ) → has_minus version field word ≡ true → prints (drop 1 word) ≡ true → prints word ≡ true
@@ -165,8 +177,10 @@ holds true e = refl
 holds false e = absurd (true≢false e)
 
 indexes_print : (verb : model.Verb) (v : Values) (kind : Kind) (words : List (List ℕ)) (said : Option Command) → parse_indexes verb v kind words ≡ Ok said → list_all prints words ≡ true
-indexes_print verb v kind words said e = elim (cases_Bool (list_all (takes_word kind) words && is_distinct words)) [
-  | inl passed ↦ all_taken_print kind words (and_parts (list_all (takes_word kind) words) (is_distinct words) passed).0
+indexes_print verb v kind words said e = elim (cases_Bool (list_all is_index_word words && is_distinct words && fits kind (index_set words))) [
+  | inl passed ↦
+      all_indexes_print words
+      (and_parts (list_all is_index_word words) (is_distinct words) (and_parts (list_all is_index_word words && is_distinct words) (fits kind (index_set words)) passed).0).0
   | inr failed ↦ absurd (let never : Err faults.Index ≡ Ok said = sym (rw failed refl) ∙ e in cc)
 ]
 
@@ -194,11 +208,31 @@ none_behind n words all = ap (list_all prints) (drop_whole n words (eqb-true (le
         ends [] = refl
         ends (w ∷ ws) = ends ws
 
-end_prints : (verb : model.Verb) (v : Values) (f : Form) (words : List (List ℕ)) (said : Option Command) → has_words f words ≡ true → cond f.has_indexes (parse_kind verb v (drop (length f.fields) words)) (Ok (Some (command_of verb v))) ≡ Ok said → list_all prints (drop (length f.fields) words) ≡ true
-end_prints verb v f words said many e = elim (cases_Bool f.has_indexes) [
-  | inl follow ↦ kind_prints verb v (drop (length f.fields) words) said (sym (ap (λ b. cond b (parse_kind verb v (drop (length f.fields) words)) (Ok (Some (command_of verb v)))) follow) ∙ e)
-  | inr none ↦ none_behind (length f.fields) words (sym (ap (λ b. cond b (nat_le (length f.fields + 2) (length words)) (nat_eq (length words) (length f.fields))) none) ∙ many)
+-- the one index that is named
+named_prints : (verb : model.Verb) (v : Values) (word : List ℕ) (said : Option Command) → parse_index verb v (point_index word) ≡ Ok said → prints word ≡ true
+named_prints verb v word said e = elim (cases_Bool (bytes_eq word (codes "range"))) [
+  | inl same ↦ same_prints word (codes "range") same refl
+  | inr not_range ↦ elim (cases_Bool (bytes_eq word (codes "near"))) [
+    | inl same ↦ same_prints word (codes "near") same refl
+    | inr not_near ↦ elim (cases_Bool (bytes_eq word (codes "top"))) [
+      | inl same ↦ same_prints word (codes "top") same refl
+      | inr not_top ↦ absurd (let never : Err faults.Index ≡ Ok said =
+          sym (λ i. parse_index verb v (cond (not_range i) (Some Range) (cond (not_near i) (Some Near) (cond (not_top i) (Some Top) None)))) ∙ e in cc)
+    ]
+  ]
 ]
+
+one_prints : (verb : model.Verb) (v : Values) (words : List (List ℕ)) (said : Option Command) → length words ≡ 1 → parse_tail verb OneIndex v words ≡ Ok said → list_all prints words ≡ true
+one_prints verb v [] said one e = refl
+one_prints verb v (word ∷ []) said one e = and_from (prints word) true (named_prints verb v word said e) refl
+one_prints verb v (word ∷ next ∷ words) said one e = absurd (let none : ⊥ = omega (arith, one) in none)
+
+tail_prints : (verb : model.Verb) (v : Values) (tail : Tail) (n : ℕ) (words : List (List ℕ)) (said : Option Command) → is_tailed tail n (length words) ≡ true → parse_tail verb tail v (drop n words) ≡ Ok said
+    → list_all prints (drop n words) ≡ true
+tail_prints verb v Bare n words said many e = none_behind n words many
+tail_prints verb v Indexes n words said many e = kind_prints verb v (drop n words) said e
+tail_prints verb v OneIndex n words said many e =
+    one_prints verb v (drop n words) said (omega (arith, eqb-true (length words) (n + 1) many, length-drop n words)) e
 
 -- the words of a form, and its name, where it has one
 fields_said : (version : Version) (verb : model.Verb) (f : Form) (name : List ℕ) (words : List (List ℕ)) (said : Option Command) → parse_fields version verb f name words ≡ Ok said
@@ -209,7 +243,7 @@ fields_said version verb f name words said e =
     let digits = past (not (all_fields (is_digits version) f.fields words)) faults.Number _ said called.1 in
     let ranged = past (not (all_fields (is_in_range version) f.fields words)) faults.Range _ said digits.1 in
     let ordered = past (not (is_ordered f.order (with_values version f.fields words (named name)).places)) faults.Order _ said ranged.1 in
-    let behind = end_prints verb (with_values version f.fields words (named name)) f words said (holds (has_words f words) many.0) ordered.1 in
+    let behind = tail_prints verb (with_values version f.fields words (named name)) f.tail (length f.fields) words said (holds (has_words f words) many.0) ordered.1 in
     (called.0, fields_print version f.fields words (holds (all_fields (is_digits version) f.fields words) digits.0) behind)
 
 form_said : (version : Version) (verb : model.Verb) (f : Form) (b : Bool) → f.has_name ≡ b → (words : List (List ℕ)) (said : Option Command) → cond b (parse_named version verb f words) (parse_fields version verb f [] words) ≡ Ok said

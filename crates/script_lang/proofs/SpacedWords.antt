@@ -28,13 +28,18 @@ said_more word words false next = ap (λ ws. spaced_words (word ∷ ws)) (append
 
 -- the line of a layer
 pub layer_line : (word name kind : List ℕ) (s : IndexSet) → spaced_words (word ∷ name ∷ kind ∷ index_words s)
-    ≡ ((((spaced_words (word ∷ name ∷ []) ++ 32 ∷ kind) ++ said_if s.range (codes "range")) ++ said_if s.near (codes "near")) ++ said_if s.top (codes "top")) ++ said_if s.stab (codes "stab")
+    ≡ ((((((spaced_words (word ∷ name ∷ []) ++ 32 ∷ kind) ++ said_if s.range (codes "range")) ++ said_if s.near (codes "near")) ++ said_if s.top (codes "top")) ++ said_if s.stab (codes "stab"))
+    ++ said_if s.cross (codes "cross")) ++ said_if s.batch (codes "batch")
 layer_line word name kind s =
     let a = word_if s.range (codes "range") in
     let b = word_if s.near (codes "near") in
     let c = word_if s.top (codes "top") in
-    said_more word (name ∷ kind ∷ ((a ++ b) ++ c)) s.stab (codes "stab")
+    let d = word_if s.stab (codes "stab") in
+    let e = word_if s.cross (codes "cross") in
+    said_more word (name ∷ kind ∷ ((((a ++ b) ++ c) ++ d) ++ e)) s.batch (codes "batch")
+    ∙ ap (λ (z : List ℕ). z ++ said_if s.batch (codes "batch")) (said_more word (name ∷ kind ∷ (((a ++ b) ++ c) ++ d)) s.cross (codes "cross")
+    ∙ ap (λ (z : List ℕ). z ++ said_if s.cross (codes "cross")) (said_more word (name ∷ kind ∷ ((a ++ b) ++ c)) s.stab (codes "stab")
     ∙ ap (λ (z : List ℕ). z ++ said_if s.stab (codes "stab")) (said_more word (name ∷ kind ∷ (a ++ b)) s.top (codes "top")
     ∙ ap (λ (z : List ℕ). z ++ said_if s.top (codes "top")) (said_more word (name ∷ kind ∷ a) s.near (codes "near")
     ∙ ap (λ (z : List ℕ). z ++ said_if s.near (codes "near")) (said_more word (name ∷ kind ∷ []) s.range (codes "range")
-    ∙ ap (λ (z : List ℕ). z ++ said_if s.range (codes "range")) (spaced_more word (name ∷ []) kind))))
+    ∙ ap (λ (z : List ℕ). z ++ said_if s.range (codes "range")) (spaced_more word (name ∷ []) kind))))))

@@ -1,5 +1,5 @@
 -- One walk over the words of a form meets the first fault of its steps.
-use Rattle.std.proofs.Common.{◌≡◌, ◌⊎◌, ℕ, ◌+◌, ◌-◌, ◌^◌, ◌<◌, ◌≤◌, Bool, true, false, cond, not, ◌&&◌, nat_le, nat_lt, nat_eq, List, [], ◌∷◌, codes, length, drop, Option, Some, None, Result, Ok, Err, bytes_eq, count_by, arith, refl, sym, ap, ◌∙◌, subst, inl, inr, length-drop, length-append, get_or}
+use Rattle.std.proofs.Common.{◌≡◌, ◌⊎◌, ℕ, ◌+◌, ◌-◌, ◌^◌, ◌<◌, ◌≤◌, Bool, true, false, cond, not, ◌&&◌, ◌||◌, nat_le, nat_lt, nat_eq, List, [], ◌∷◌, codes, length, drop, Option, Some, None, Result, Ok, Err, bytes_eq, count_by, arith, refl, sym, ap, ◌∙◌, subst, inl, inr, length-drop, length-append, get_or}
 use Rattle.std.proofs.Math.Bool.{and-false, and-true}
 use Rattle.std.proofs.lemmas.List.{length-map}
 use Rattle.std.proofs.lemmas.List.Sums.{count_by-le-length, sum_by-drop_more}
@@ -7,16 +7,16 @@ use Rattle.std.specs.List.{list_all, starts_with}
 use Rattle.std.specs.Prelude.{ok_or}
 use Rattle.std.specs.Str.{all_ascii_digits}
 use Rattle.std.specs.Str.Parse.{digits_value}
-use Rattle.std.proofs.lemmas.Bool.{cases_Bool, cases_lt, eqb-true, false≢true, true≢false, and_parts}
+use Rattle.std.proofs.lemmas.Bool.{cases_Bool, cases_lt, false≢true, true≢false, and_parts}
 use Rattle.std.proofs.lemmas.Bool.Decides.{nat_tests}
 use Rattle.map_model.specs.Words.{is_name, is_filled, name_field}
 use Rattle.map_model.specs.Version.{Version, One, Two, negatives, greatest_coordinate, kept}
 use Rattle.map_model.specs.Words as grammar
 use Rattle.map_model.specs.Shape as shapes
-use Rattle.map_model.specs.Index.{IndexSet, index_count}
+use Rattle.map_model.specs.Index.{IndexSet, Index, Range, fits}
 use Rattle.map_model.specs.LineFault as faults
 use Rattle.map_model.specs.Form as model
-use Rattle.map_model.specs.Grammar.{Values, Parsed, named, has_minus, is_digits, is_within, is_in_range, kept_in, number_of, all_fields, has_words, with_value, with_values, command_of, takes_word, is_distinct, index_set, parse_indexes, parse_kind, parse_fields, parse_named, parse_form, parse_verb}
+use Rattle.map_model.specs.Grammar.{Values, Parsed, named, is_digits, is_within, is_in_range, number_of, all_fields, is_tailed, has_words, with_value, with_values, command_of, is_index_word, is_distinct, index_set, point_index, parse_indexes, parse_kind, parse_index, parse_tail, parse_fields, parse_named, parse_form, parse_verb}
 use Rattle.map_shapes.specs.declared.kind.Kind.{Kind}
 use Rattle.map_shapes.specs.declared.kind.Kind.TheVariants.{Points, Segments}
 use Rattle.map_shapes.specs.Kind.{kind_of}
@@ -29,10 +29,10 @@ use Rattle.script_lang.specs.declared.form.Form.{Form}
 use Rattle.script_lang.specs.declared.numbers.Numbers.{Numbers}
 use Rattle.script_lang.specs.declared.line_fault.LineFault.{LineFault}
 use Rattle.script_lang.specs.declared.line_fault.LineFault.TheVariants as errors
-use Rattle.script_lang.specs.Form.{field_of, fields_of, form_of, is_place, limits_of_field, verb_of}
-use Rattle.script_lang.specs.Numbers.{no_numbers, version_in, with_number, number_in, digits_below, kept_number, signed_in, coordinate_in, field_in, with_read, with_word, with_words}
-use Rattle.script_lang.specs.Read.{has_end, values_in, layered, ended, finished, walked, parse_printable, no_name, split_name}
-use Rattle.script_lang.specs.Indexes.{kind_in, no_index, with_index_words, kind_layer, layer_in}
+use Rattle.script_lang.specs.Form.{field_of, fields_of, tail_of, form_of, is_place, verb_of}
+use Rattle.script_lang.specs.Numbers.{no_numbers, with_number, kept_number, signed_in, field_in, with_read, with_word, with_words}
+use Rattle.script_lang.specs.Read.{has_end, values_in, tailed, ended, finished, walked, parse_printable, no_name, split_name}
+use Rattle.script_lang.specs.Indexes.{kind_in, no_index, with_index_words, word_count, kind_layer, ended_layer, ended_index, ending_in}
 use Rattle.script_lang.proofs.IndexWords.{set_if, indexes_by_count}
 
 -- ---- numbers
@@ -203,54 +203,73 @@ read_steps version end name (field ∷ fields) (word ∷ words) v =
 abbrev layer_values : Values → shapes.Kind → IndexSet → Values
 layer_values v kind indexes = record v { kind = kind; indexes = indexes }
 
+-- the command with indexes that fit the kind
 abbrev chosen : model.Verb → Values → shapes.Kind → Option IndexSet → Parsed
 chosen verb v kind None = Err faults.Index
-chosen verb v kind (Some s) = Ok (Some (command_of verb (layer_values v kind s)))
+chosen verb v kind (Some s) = cond (fits kind s) (Ok (Some (command_of verb (layer_values v kind s)))) (Err faults.Index)
 
-chosen_set : (verb : model.Verb) (v : Values) (kind : shapes.Kind) (b : Bool) (s : IndexSet) → cond b (Ok (Some (command_of verb (layer_values v kind s)))) (Err faults.Index) ≡ chosen verb v kind (set_if b s)
+chosen_set : (verb : model.Verb) (v : Values) (kind : shapes.Kind) (b : Bool) (s : IndexSet)
+    → cond (b && fits kind s) (Ok (Some (command_of verb (layer_values v kind s)))) (Err faults.Index) ≡ chosen verb v kind (set_if b s)
 chosen_set verb v kind true s = refl
 chosen_set verb v kind false s = refl
 
-chosen_count : (verb : model.Verb) (v : Values) (kind : shapes.Kind) (b : Bool) (s : IndexSet) → chosen verb v kind (cond b None (Some s)) ≡ cond b (Err faults.Index) (Ok (Some (command_of verb (layer_values v kind s))))
-chosen_count verb v kind true s = refl
-chosen_count verb v kind false s = refl
+chosen_count : (verb : model.Verb) (name : List ℕ) (v : Numbers) (kind : shapes.Kind) (b : Bool) (s : IndexSet)
+    → chosen verb (values_in name v) kind (cond b None (Some s)) ≡ tailed verb (values_in name v) (cond (b || not (fits kind s)) (Err faults.Index) (Ok (kind, s, Range)))
+chosen_count verb name v kind true s = refl
+chosen_count verb name v kind false s = by_fit (fits kind s)
+  where
+    by_fit : (f : Bool) → cond f (Ok (Some (command_of verb (layer_values (values_in name v) kind s)))) (Err faults.Index)
+        ≡ tailed verb (values_in name v) (cond (not f) (Err faults.Index) (Ok (kind, s, Range)))
+    by_fit true = refl
+    by_fit false = refl
 
-indexes_layered : (verb : model.Verb) (v : Values) (kind : Kind) (words : List (List ℕ)) → parse_indexes verb v (kind_of kind) words ≡ layered verb v (length words + 1) (kind_layer (Some kind) words)
-indexes_layered verb v kind words =
-    let s = index_set_of (with_index_words kind words no_index) in
-    chosen_set verb v (kind_of kind) (list_all (takes_word (kind_of kind)) words && is_distinct words) (index_set words)
-    ∙ ap (chosen verb v (kind_of kind)) (indexes_by_count kind words)
-    ∙ chosen_count verb v (kind_of kind) (nat_lt (index_count s + 1) (length words + 1)) s
+indexes_tailed : (verb : model.Verb) (name : List ℕ) (v : Numbers) (kind : Kind) (words : List (List ℕ))
+    → parse_indexes verb (values_in name v) (kind_of kind) words ≡ tailed verb (values_in name v) (ended_layer (length words + 1) (kind_layer (Some kind) words))
+indexes_tailed verb name v kind words =
+    let s = index_set_of (with_index_words words no_index) in
+    chosen_set verb (values_in name v) (kind_of kind) (list_all is_index_word words && is_distinct words) (index_set words)
+    ∙ ap (chosen verb (values_in name v) (kind_of kind)) (indexes_by_count words)
+    ∙ chosen_count verb name v (kind_of kind) (nat_lt (word_count s + 1) (length words + 1)) s
 
-kind_layered : (verb : model.Verb) (v : Values) (word : List ℕ) (words : List (List ℕ)) → parse_kind verb v (word ∷ words) ≡ layered verb v (length words + 1) (kind_layer (kind_in word) words)
-kind_layered verb v word words = elim (cases_Bool (bytes_eq word (codes "points"))) [
-  | inl points ↦ rw points (indexes_layered verb v Points words)
+kind_tailed : (verb : model.Verb) (name : List ℕ) (v : Numbers) (word : List ℕ) (words : List (List ℕ))
+    → parse_kind verb (values_in name v) (word ∷ words) ≡ tailed verb (values_in name v) (ended_layer (length words + 1) (kind_layer (kind_in word) words))
+kind_tailed verb name v word words = elim (cases_Bool (bytes_eq word (codes "points"))) [
+  | inl points ↦ rw points (indexes_tailed verb name v Points words)
   | inr not_points ↦ elim (cases_Bool (bytes_eq word (codes "segments"))) [
-    | inl segments ↦ rw (not_points, segments) (indexes_layered verb v Segments words)
+    | inl segments ↦ rw (not_points, segments) (indexes_tailed verb name v Segments words)
     | inr neither ↦ rw (not_points, neither) refl
   ]
 ]
 
-end_layered : (verb : model.Verb) (name : List ℕ) (v : Numbers) (has_indexes : Bool) (rest : List (List ℕ)) → has_end has_indexes (length rest) ≡ true → cond has_indexes (parse_kind verb (values_in name v) rest) (Ok (Some (command_of verb (values_in name v)))) ≡ layered verb (values_in name v) (length rest) (layer_in rest)
-end_layered verb name v true [] h = absurd (false≢true h)
-end_layered verb name v true (word ∷ words) h =
-    kind_layered verb (values_in name v) word words ∙ ap (λ n. layered verb (values_in name v) n (kind_layer (kind_in word) words)) (let one : length words + 1 ≡ length (word ∷ words) = omega arith in one)
-end_layered verb name v false [] h = refl
-end_layered verb name v false (word ∷ words) h = absurd (omega (arith, eqb-true (length (word ∷ words)) 0 h))
+one_tailed : (verb : model.Verb) (name : List ℕ) (v : Numbers) (found : Option Index) → parse_index verb (values_in name v) found ≡ tailed verb (values_in name v) (ended_index found)
+one_tailed verb name v None = refl
+one_tailed verb name v (Some index) = refl
 
-has_words-enough : (f : model.Form) (words : List (List ℕ)) → length f.fields ≤ length words → has_words f words ≡ has_end f.has_indexes (length (drop (length f.fields) words))
-has_words-enough f words enough = by_end f.has_indexes (length f.fields) (length words) (length (drop (length f.fields) words)) enough (length-drop (length f.fields) words)
+end_tailed : (verb : model.Verb) (name : List ℕ) (v : Numbers) (tail : model.Tail) (rest : List (List ℕ)) → has_end tail (length rest) ≡ true
+    → parse_tail verb tail (values_in name v) rest ≡ tailed verb (values_in name v) (ending_in tail (length rest) rest)
+end_tailed verb name v model.Bare rest h = refl
+end_tailed verb name v model.Indexes [] h = absurd (false≢true h)
+end_tailed verb name v model.Indexes (word ∷ words) h =
+    kind_tailed verb name v word words
+    ∙ ap (λ n. tailed verb (values_in name v) (ended_layer n (kind_layer (kind_in word) words))) (let one : length words + 1 ≡ length (word ∷ words) = omega arith in one)
+end_tailed verb name v model.OneIndex [] h = absurd (false≢true h)
+end_tailed verb name v model.OneIndex (word ∷ words) h = one_tailed verb name v (point_index word)
+
+has_words-enough : (f : model.Form) (words : List (List ℕ)) → length f.fields ≤ length words → has_words f words ≡ has_end f.tail (length (drop (length f.fields) words))
+has_words-enough f words enough = by_end f.tail (length f.fields) (length words) (length (drop (length f.fields) words)) enough (length-drop (length f.fields) words)
   where
-    by_end : (b : Bool) (n total left : ℕ) → n ≤ total → left ≡ total - n → cond b (nat_le (n + 2) total) (nat_eq total n) ≡ cond b (nat_le 2 left) (nat_eq left 0)
-    by_end true n total left enough is = grind (arith, nat_tests)
-    by_end false n total left enough is = grind (arith, nat_tests)
+    by_end : (tail : model.Tail) (n total left : ℕ) → n ≤ total → left ≡ total - n → is_tailed tail n total ≡ has_end tail left
+    by_end model.Bare n total left enough is = grind (arith, nat_tests)
+    by_end model.Indexes n total left enough is = grind (arith, nat_tests)
+    by_end model.OneIndex n total left enough is = grind (arith, nat_tests)
 
 has_words-few : (f : model.Form) (words : List (List ℕ)) → length words < length f.fields → has_words f words ≡ false
-has_words-few f words few = by_end f.has_indexes (length f.fields) (length words) few
+has_words-few f words few = by_end f.tail (length f.fields) (length words) few
   where
-    by_end : (b : Bool) (n total : ℕ) → total < n → cond b (nat_le (n + 2) total) (nat_eq total n) ≡ false
-    by_end true n total few = grind (arith, nat_tests)
-    by_end false n total few = grind (arith, nat_tests)
+    by_end : (tail : model.Tail) (n total : ℕ) → total < n → is_tailed tail n total ≡ false
+    by_end model.Bare n total few = grind (arith, nat_tests)
+    by_end model.Indexes n total few = grind (arith, nat_tests)
+    by_end model.OneIndex n total few = grind (arith, nat_tests)
 
 -- ---- the whole form
 
@@ -270,13 +289,13 @@ finished_name verb f rest v word = elim (cases_Bool (is_name word)) [
 
 -- the steps of the definition behind the name
 abbrev numbered : model.Verb → model.Form → List (List ℕ) → Bool → Bool → Values → Parsed
-numbered verb f rest d r v = steps d r (cond (not (model.is_ordered f.order v.places)) (Err faults.Order) (cond f.has_indexes (parse_kind verb v rest) (Ok (Some (command_of verb v)))))
+numbered verb f rest d r v = steps d r (cond (not (model.is_ordered f.order v.places)) (Err faults.Order) (parse_tail verb f.tail v rest))
 
-numbered_finished : (version : Version) (verb : model.Verb) (f : model.Form) (name : List ℕ) (fields : List Field) (words rest : List (List ℕ)) → has_end f.has_indexes (length rest) ≡ true
+numbered_finished : (version : Version) (verb : model.Verb) (f : model.Form) (name : List ℕ) (fields : List Field) (words rest : List (List ℕ)) → has_end f.tail (length rest) ≡ true
     → numbered verb f rest (digits version fields words) (ranges version fields words) (values_in name (with_all version fields words no_numbers)) ≡ finished verb f rest (read_all version fields words no_numbers) (Some name)
 numbered_finished version verb f name fields words rest e =
     let v = with_all version fields words no_numbers in
-    ap (λ p. steps (digits version fields words) (ranges version fields words) (cond (not (model.is_ordered f.order v.places)) (Err faults.Order) p)) (end_layered verb name v f.has_indexes rest e)
+    ap (λ p. steps (digits version fields words) (ranges version fields words) (cond (not (model.is_ordered f.order v.places)) (Err faults.Order) p)) (end_tailed verb name v f.tail rest e)
     ∙ sym (read_steps version (ended verb f rest) name fields words no_numbers)
 
 -- a form has a name, or what stands in its place is one
@@ -299,7 +318,7 @@ parse_fields-walked version verb f name words names =
     let front : Bool → Parsed → Parsed = λ b p. cond (not b) (Err faults.Fields) p in
     let asked : Bool → Bool → Values → Parsed = λ n b w. front b (cond n (Err faults.Name) (numbered verb (form_of f) rest (digits version fields words) (ranges version fields words) w)) in
     let past : Bool → Values → Parsed = asked (not (is_name name)) in
-    let ends = has_end f.has_indexes (length rest) in
+    let ends = has_end (tail_of f.tail) (length rest) in
     ap (λ n. asked n (has_words (form_of f) words) v) (name_asked f.has_name name names)
     ∙ elim (cases_lt (length words) (length fields)) [
       | inl few ↦

@@ -4,6 +4,8 @@ use Rattle.map_model.specs.Form as model
 use Rattle.script_lang.specs.declared.form.Field.{Field}
 use Rattle.script_lang.specs.declared.form.Field.TheVariants as fields
 use Rattle.script_lang.specs.declared.numbers.Limits.{Limits}
+use Rattle.script_lang.specs.declared.form.Tail.{Tail}
+use Rattle.script_lang.specs.declared.form.Tail.TheVariants as tails
 use Rattle.script_lang.specs.declared.form.Order.{Order}
 use Rattle.script_lang.specs.declared.form.Order.TheVariants as orders
 use Rattle.script_lang.specs.declared.form.Verb.{Verb}
@@ -28,7 +30,14 @@ limits_of_field field = let limits = model.limits_of (field_of field) in record 
 abbrev pub order_of : Order → model.Order
 order_of orders.Free = model.Free
 order_of orders.Ends = model.Ends
+order_of orders.Heights = model.Heights
 order_of orders.Corners = model.Corners
+
+-- what follows the numbers, as the definitions have it
+abbrev pub tail_of : Tail → model.Tail
+tail_of tails.Bare = model.Bare
+tail_of tails.Indexes = model.Indexes
+tail_of tails.OneIndex = model.OneIndex
 
 -- the command word of a question
 abbrev pub verb_of_question : Question → model.Verb
@@ -41,11 +50,14 @@ verb_of_question questions.Above = model.Above
 verb_of_question questions.Top = model.Top
 verb_of_question questions.Stab = model.Stab
 verb_of_question questions.StabCount = model.StabCount
+verb_of_question questions.Cross = model.Cross
+verb_of_question questions.CrossCount = model.CrossCount
 
 -- what a command word stands for, as the definitions have it
 abbrev pub verb_of : Verb → model.Verb
 verb_of verbs.Livemap = model.Livemap
 verb_of verbs.Layer = model.Layer
+verb_of verbs.Index = model.Index
 verb_of verbs.Add = model.Add
 verb_of verbs.Seg = model.Seg
 verb_of verbs.Move = model.Move
@@ -61,7 +73,7 @@ fields_of fs = map field_of fs
 
 -- a form as the definitions have it
 abbrev pub form_of : Form → model.Form
-form_of f = record { word = f.word.now; has_name = f.has_name; fields = fields_of f.fields.now; has_indexes = f.has_indexes; order = order_of f.order }
+form_of f = record { word = f.word.now; has_name = f.has_name; fields = fields_of f.fields.now; tail = tail_of f.tail; order = order_of f.order }
 
 -- the form is the row of its verb
 abbrev pub IsRow : Form → Type 0

@@ -1,8 +1,8 @@
 -- What is left to look at once the words of a line are read along their form.
-use Rattle.std.specs.Prelude.{ℕ, ◌+◌, ◌==◌, Bool, true, false, not, List, [], ◌∷◌, length, Option, Some, None, Result, Ok, Err, nat_le, nat_lt, codes, if◌then◌else◌}
+use Rattle.std.specs.Prelude.{ℕ, ◌==◌, Bool, true, false, not, List, [], ◌∷◌, length, Option, Some, None, Result, Ok, Err, nat_le, codes, if◌then◌else◌}
 use Rattle.std.specs.List.{starts_with}
 use Rattle.map_model.specs.Words.{words, name_field}
-use Rattle.map_model.specs.Index.{no_indexes, index_count}
+use Rattle.map_model.specs.Index.{Range, no_indexes}
 use Rattle.map_model.specs.Shape.{Points}
 use Rattle.map_model.specs.LineFault as faults
 use Rattle.map_model.specs.Form as model
@@ -14,25 +14,26 @@ use Rattle.script_lang.specs.declared.numbers.Numbers.{Numbers}
 use Rattle.script_lang.specs.declared.reading.Read.{Read}
 use Rattle.script_lang.specs.LineFault.{fault_of}
 use Rattle.script_lang.specs.Form.{verb_of, form_of}
-use Rattle.script_lang.specs.Indexes.{Layer, layer_in}
+use Rattle.script_lang.specs.Indexes.{Ended, ending_in}
 
--- a kind and one or more indexes stand there, or nothing, where none follow
-abbrev pub has_end : Bool → ℕ → Bool
-has_end has_indexes left = if has_indexes then nat_le 2 left else left == 0
+-- so many words are what follows the numbers
+abbrev pub has_end : model.Tail → ℕ → Bool
+has_end model.Bare left = left == 0
+has_end model.Indexes left = nat_le 2 left
+has_end model.OneIndex left = left == 1
 
 -- a name and numbers, as the definitions have them
 abbrev pub values_in : List ℕ → Numbers → Values
-values_in name v = record { version = version_of v.version; name = name; id = v.id; places = v.places; amount = v.amount; kind = Points; indexes = no_indexes }
+values_in name v = record { version = version_of v.version; name = name; id = v.id; places = v.places; amount = v.amount; kind = Points; indexes = no_indexes; index = Range }
 
--- with fewer indexes than words behind the kind one of these isn't an index, or stands twice
-abbrev pub layered : model.Verb → Values → ℕ → Layer → Parsed
-layered verb v left (Ok layer) =
-    if nat_lt (index_count layer.1 + 1) left then Err faults.Index else Ok (Some (command_of verb (record v { kind = layer.0; indexes = layer.1 })))
-layered verb v left (Err fault) = Err fault
+-- the command of a verb, with what stands behind the numbers
+abbrev pub tailed : model.Verb → Values → Ended → Parsed
+tailed verb v (Ok end) = Ok (Some (command_of verb (record v { kind = end.0; indexes = end.1; index = end.2 })))
+tailed verb v (Err fault) = Err fault
 
 -- the steps behind those on numbers
 abbrev pub ended : model.Verb → model.Form → List (List ℕ) → Values → Parsed
-ended verb f rest v = if not (model.is_ordered f.order v.places) then Err faults.Order else layered verb v (length rest) (layer_in rest)
+ended verb f rest v = if not (model.is_ordered f.order v.places) then Err faults.Order else tailed verb v (ending_in f.tail (length rest) rest)
 
 -- the steps behind that on the number of words: Name, Number and Range come first
 abbrev pub finished : model.Verb → model.Form → List (List ℕ) → Numbers → Option (List ℕ) → Parsed
@@ -42,7 +43,7 @@ finished verb f rest v (Some name) =
 
 -- what the words of a line say behind its command word: Fields comes first
 abbrev pub walked : model.Verb → model.Form → List ℕ → Numbers → List (List ℕ) → Parsed
-walked verb f word v rest = if not (has_end f.has_indexes (length rest)) then Err faults.Fields else finished verb f rest v (name_field word)
+walked verb f word v rest = if not (has_end f.tail (length rest)) then Err faults.Fields else finished verb f rest v (name_field word)
 
 -- what the words of a line say where all its bytes are printable
 abbrev pub parse_printable : Version → List (List ℕ) → Parsed

@@ -1,6 +1,6 @@
 // What a line asks for.
 use map_questions::AnyQuestion;
-use map_shapes::{IndexSet, Kind, Name, Version};
+use map_shapes::{IndexSet, Kind, Name, PointIndex, Version};
 
 /// What a line asks for. Coordinates are as the version of the line keeps them ([`Version`]), and weights are at most 2,147,483,647;
 /// no lower end is past its upper end; `k` is from 1 to 64; and the indexes of a layer fit its kind.
@@ -15,6 +15,11 @@ pub enum Command {
         name: Name,
         kind: Kind,
         indexes: IndexSet,
+    },
+    /// `index NAME INDEX`
+    Index {
+        name: Name,
+        index: PointIndex,
     },
     /// `add NAME ID X Y W`
     Add {
@@ -46,7 +51,7 @@ pub enum Command {
         id: u64,
     },
     /// `count`, `sum` or `list NAME X1 Y1 X2 Y2`, `near NAME X Y`, `nearest NAME K X Y`, `above NAME X1 X2 Y`,
-    /// `top NAME X1 X2`, `stab` or `stabcount NAME X`
+    /// `top NAME X1 X2`, `stab` or `stabcount NAME X`, `cross` or `crosscount NAME X Y1 Y2`
     Ask {
         name: Name,
         question: AnyQuestion,

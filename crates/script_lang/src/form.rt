@@ -43,8 +43,21 @@ pub enum Order {
     Free,
     /// The first is at most the second.
     Ends,
+    /// The second is at most the third.
+    Heights,
     /// The first is at most the third, and the second at most the fourth.
     Corners,
+}
+
+/// What follows the numbers of a line.
+#[derive(Clone, Copy)]
+pub enum Tail {
+    /// Nothing.
+    Bare,
+    /// A kind and one or more indexes.
+    Indexes,
+    /// One index.
+    OneIndex,
 }
 
 /// What a command word stands for.
@@ -52,6 +65,7 @@ pub enum Order {
 pub enum Verb {
     Livemap,
     Layer,
+    Index,
     Add,
     Seg,
     Move,
@@ -74,17 +88,19 @@ pub enum Question {
     Top,
     Stab,
     StabCount,
+    Cross,
+    CrossCount,
 }
 
-/// A row of the table: a command word, whether a name is behind it, the numbers behind these, whether a kind and indexes follow,
-/// and which coordinates are in order.
+/// A row of the table: a command word, whether a name is behind it, the numbers behind these, what follows them, and which coordinates
+/// are in order.
 #[derive(Clone, Copy)]
 pub struct Form {
     pub word: &'static [u8],
     pub verb: Verb,
     pub has_name: bool,
     pub fields: &'static [Field],
-    pub has_indexes: bool,
+    pub tail: Tail,
     pub order: Order,
 }
 
@@ -96,19 +112,19 @@ macro_rules! row {
             verb: $verb,
             has_name: true,
             fields: &[$(Field::$field),*],
-            has_indexes: false,
+            tail: Tail::Bare,
             order: Order::$order,
         }
     };
 }
 
-static FORMS: [Form; 18] = [
+static FORMS: [Form; 21] = [
     Form {
         word: b"livemap",
         verb: Verb::Livemap,
         has_name: false,
         fields: &[Field::VersionNumber],
-        has_indexes: false,
+        tail: Tail::Bare,
         order: Order::Free,
     },
     Form {
@@ -116,7 +132,15 @@ static FORMS: [Form; 18] = [
         verb: Verb::Layer,
         has_name: true,
         fields: &[],
-        has_indexes: true,
+        tail: Tail::Indexes,
+        order: Order::Free,
+    },
+    Form {
+        word: b"index",
+        verb: Verb::Index,
+        has_name: true,
+        fields: &[],
+        tail: Tail::OneIndex,
         order: Order::Free,
     },
     row!(
@@ -186,6 +210,18 @@ static FORMS: [Form; 18] = [
         Verb::Ask(Question::StabCount),
         [Coordinate],
         Free
+    ),
+    row!(
+        b"cross",
+        Verb::Ask(Question::Cross),
+        [Coordinate, Coordinate, Coordinate],
+        Heights
+    ),
+    row!(
+        b"crosscount",
+        Verb::Ask(Question::CrossCount),
+        [Coordinate, Coordinate, Coordinate],
+        Heights
     ),
     row!(b"get", Verb::Get, [Id], Free),
     row!(b"size", Verb::Size, [], Free),

@@ -1,21 +1,21 @@
 // The line that a command is written as.
 ghost use Rattle.std.specs.Prelude.{◌≡◌, [], ◌∷◌, ◌++◌, IfOk, OnOk, Ok, Some, map, codes, decimal, if◌then◌else◌};
 ghost use Rattle.map_model.specs.Grammar.{parse};
-ghost use Rattle.map_model.specs.Line.{IsCommand, spaced_words, command_line, kind_word, index_words, question_words, rect_words, point_words, version_word};
+ghost use Rattle.map_model.specs.Line.{IsCommand, spaced_words, command_line, kind_word, index_words, index_word, question_words, rect_words, point_words, version_word};
 ghost use Rattle.map_model.specs.Version.{coordinate_text};
 ghost use Rattle.map_questions.specs.Any.{point_question_of, question_of};
 ghost use Rattle.map_shapes.specs.Kind.{kind_of};
-ghost use Rattle.map_shapes.specs.IndexSet.{index_set_of};
+ghost use Rattle.map_shapes.specs.IndexSet.{index_set_of, index_of};
 ghost use Rattle.map_shapes.specs.Rect.{rect_of};
 ghost use Rattle.map_shapes.specs.Version.{version_of};
 ghost use Rattle.script_lang.specs.Command.{command_of};
 ghost use Rattle.script_lang.specs.Written.{number_text};
 
 use crate::Command;
-use crate::indexes::{NEAR, POINTS, RANGE, SEGMENTS, STAB, TOP};
+use crate::indexes::{BATCH, CROSS, NEAR, POINTS, RANGE, SEGMENTS, STAB, TOP};
 use itoa::Buffer;
 use map_questions::{AnyQuestion, PointQuestion, SegmentQuestion};
-use map_shapes::{IndexSet, Kind, Name, Rect, Version};
+use map_shapes::{IndexSet, Kind, Name, PointIndex, Rect, Version};
 use std::alloc::{AllocError, Global};
 
 /// A number of a line.
@@ -29,7 +29,7 @@ enum Number {
 
 impl Command {
     /// The line of a version that it is written as: one space between words, numbers without leading zeros, and indexes in the order
-    /// `range near top stab`.
+    /// `range near top stab cross batch`.
     ///
     /// Where the command is one that a line of the version can say, its line is read as that command.
     pub fn line(&self, version: Version, alloc: Global) -> Result<Vec<u8>, AllocError>
@@ -53,6 +53,7 @@ impl Command {
                 kind,
                 indexes,
             } => write_layer(name, kind, indexes, line),
+            Command::Index { name, index } => write_index(name, index, line),
             Command::Add { name, id, x, y, w } => {
                 write_numbers(b"add", name, &point(version, id, x, y, w), line)
             }
@@ -110,6 +111,12 @@ fn write_question(
         }
         AnyQuestion::Segments(SegmentQuestion::StabCount(q)) => {
             write_numbers(b"stabcount", name, &[place(version, q.x)], line)
+        }
+        AnyQuestion::Segments(SegmentQuestion::CrossIn(q)) => {
+            write_numbers(b"cross", name, &span(version, q.x, q.y1, q.y2), line)
+        }
+        AnyQuestion::Segments(SegmentQuestion::CrossCount(q)) => {
+            write_numbers(b"crosscount", name, &span(version, q.x, q.y1, q.y2), line)
         }
     }
 }
@@ -182,6 +189,14 @@ fn segment(version: Version, id: u64, lo: u32, hi: u32, y: u32) -> [Number; 4]
     [Number::Plain(id), lo, hi, place(version, y)]
 }
 
+/// A place and a span of heights.
+fn span(version: Version, x: u32, y1: u32, y2: u32) -> [Number; 3]
+    ensures { map number_text result ≡ coordinate_text (version_of version) x ∷ coordinate_text (version_of version) y1 ∷ coordinate_text (version_of version) y2 ∷ [] }
+{
+    let (y1, y2) = (place(version, y1), place(version, y2));
+    [place(version, x), y1, y2]
+}
+
 /// The corners of a rectangle, in the order of a line.
 fn corners(version: Version, rect: Rect) -> [Number; 4]
     ensures { map number_text result ≡ rect_words (version_of version) (rect_of rect) }
@@ -234,7 +249,29 @@ fn write_layer(
     append_word_if(indexes.range, RANGE, line)?;
     append_word_if(indexes.near, NEAR, line)?;
     append_word_if(indexes.top, TOP, line)?;
-    append_word_if(indexes.stab, STAB, line)
+    append_word_if(indexes.stab, STAB, line)?;
+    append_word_if(indexes.cross, CROSS, line)?;
+    append_word_if(indexes.batch, BATCH, line)
+}
+
+/// The line that gives a layer in use an index.
+fn write_index(name: Name, index: PointIndex, line: &mut Vec<u8>) -> Result<(), AllocError>
+    requires { line.old.items ≡ [] }
+    ensures { OnOk result (line.new.items ≡ spaced_words (codes "index" ∷ name ∷ index_word (index_of index) ∷ [])) }
+{
+    line.extend_from_slice(b"index")?;
+    append_word(name.as_bytes(), line)?;
+    append_word(index_word(index), line)
+}
+
+fn index_word(index: PointIndex) -> &'static [u8]
+    ensures { result.now ≡ index_word (index_of index) }
+{
+    match index {
+        PointIndex::Range => RANGE,
+        PointIndex::Near => NEAR,
+        PointIndex::Top => TOP,
+    }
 }
 
 fn kind_word(kind: Kind) -> &'static [u8]

@@ -14,11 +14,13 @@ ghost use Rattle.script_lang.specs.Command.{command_of, values_of};
 use crate::Command;
 use crate::coordinates::Coordinates;
 use crate::form::{Order, Question, Verb};
+use crate::indexes::Ending;
 use crate::numbers::Numbers;
 use map_questions::{
-    Above, AnyQuestion, Near, NearK, PointQuestion, SegmentQuestion, Stab, StabCount, Top,
+    Above, AnyQuestion, CrossCount, CrossIn, Near, NearK, PointQuestion, SegmentQuestion, Stab,
+    StabCount, Top,
 };
-use map_shapes::{CountIn, IndexSet, Kind, ListIn, Name, Rect, SumIn};
+use map_shapes::{CountIn, ListIn, Name, Rect, SumIn};
 
 impl Order {
     /// Whether the coordinates are in this order.
@@ -28,6 +30,7 @@ impl Order {
         match self {
             Order::Free => true,
             Order::Ends => places.get(0) <= places.get(1),
+            Order::Heights => places.get(1) <= places.get(2),
             Order::Corners => places.get(0) <= places.get(2) && places.get(1) <= places.get(3),
         }
     }
@@ -38,8 +41,7 @@ impl Order {
 pub struct Values<'a> {
     pub name: Name,
     pub numbers: &'a Numbers,
-    pub kind: Kind,
-    pub indexes: IndexSet,
+    pub ending: Ending,
 }
 
 /// The command of a verb. Whatever the version is, its numbers are within the limits of version 2.
@@ -56,8 +58,12 @@ pub fn make_command(verb: Verb, values: &Values) -> Command
         },
         Verb::Layer => Command::Layer {
             name,
-            kind: values.kind,
-            indexes: values.indexes,
+            kind: values.ending.kind,
+            indexes: values.ending.indexes,
+        },
+        Verb::Index => Command::Index {
+            name,
+            index: values.ending.index,
         },
         Verb::Add => make_add(name, values.numbers),
         Verb::Seg => make_seg(name, values.numbers),
@@ -130,6 +136,14 @@ fn make_question(question: Question, values: &Values) -> AnyQuestion
         Question::Top => AnyQuestion::Points(PointQuestion::Top(Top { x1: x, x2: y })),
         Question::Stab => AnyQuestion::Segments(SegmentQuestion::Stab(Stab { x })),
         Question::StabCount => AnyQuestion::Segments(SegmentQuestion::StabCount(StabCount { x })),
+        Question::Cross => {
+            let (y1, y2) = (y, z);
+            AnyQuestion::Segments(SegmentQuestion::CrossIn(CrossIn { x, y1, y2 }))
+        }
+        Question::CrossCount => {
+            let (y1, y2) = (y, z);
+            AnyQuestion::Segments(SegmentQuestion::CrossCount(CrossCount { x, y1, y2 }))
+        }
     }
 }
 

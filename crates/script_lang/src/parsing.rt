@@ -3,11 +3,13 @@ ghost use Rattle.std.specs.Prelude.{◌≡◌, ◌≤◌, length};
 ghost use Rattle.std.specs.List.{list_all};
 ghost use Rattle.map_model.specs.Grammar as grammar;
 ghost use Rattle.script_lang.specs.Command.{parsed};
+ghost use Rattle.script_lang.specs.Form.{tail_of};
 ghost use Rattle.map_model.specs.Words.{words, longest_line};
 ghost use Rattle.map_shapes.specs.Version.{version_of};
 ghost use Rattle.script_lang.specs.Read.{has_end, parse_printable};
 
-use crate::indexes::{index_count, read_layer};
+use crate::form::Tail;
+use crate::indexes::read_ending;
 use crate::making::{Values, make_command};
 use crate::reading::read_line;
 use crate::words::count_words;
@@ -48,7 +50,7 @@ fn parse_printable(line: &[u8], version: Version) -> Result<Option<Command>, Lin
         return Ok(None);
     };
     let left = count_words(read.rest);
-    if !has_end(read.form.has_indexes, left) {
+    if !has_end(read.form.tail, left) {
         return Err(LineFault::Fields);
     }
     let Some(name) = Name::read(read.name) else {
@@ -63,15 +65,11 @@ fn parse_printable(line: &[u8], version: Version) -> Result<Option<Command>, Lin
     if !read.form.order.holds(&read.numbers.places) {
         return Err(LineFault::Order);
     }
-    let (kind, indexes) = read_layer(read.rest)?;
-    if index_count(indexes) + 1 < left {
-        return Err(LineFault::Index);
-    }
+    let ending = read_ending(read.form.tail, left, read.rest)?;
     let values = Values {
         name,
         numbers: &read.numbers,
-        kind,
-        indexes,
+        ending,
     };
     Ok(Some(make_command(read.form.verb, &values)))
 }
@@ -96,9 +94,13 @@ fn is_printable(line: &[u8]) -> bool
         .all(|byte| *byte == b'\t' || (b' ' <= *byte && *byte <= b'~'))
 }
 
-/// Whether so many words are a kind and one or more indexes, or none, where none follow.
-fn has_end(has_indexes: bool, left: usize) -> bool
-    ensures { result ≡ has_end has_indexes left }
+/// Whether so many words are what follows the numbers.
+fn has_end(tail: Tail, left: usize) -> bool
+    ensures { result ≡ has_end (tail_of tail) left }
 {
-    if has_indexes { left >= 2 } else { left == 0 }
+    match tail {
+        Tail::Bare => left == 0,
+        Tail::Indexes => left >= 2,
+        Tail::OneIndex => left == 1,
+    }
 }
