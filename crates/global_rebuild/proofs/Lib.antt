@@ -1,7 +1,4 @@
-pub mod Walking
-pub mod Forgetting
 pub mod Owning
-pub mod Lending
 pub mod Taking
 pub mod Stocking
 pub mod Weights
