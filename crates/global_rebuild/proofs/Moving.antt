@@ -172,9 +172,11 @@ module _ {P Item : Type 0} {contents : P → Contents Item} {stamp : Item → �
     moved_at at r' same goes =
         let cursor = first_or (after handle es) (Some handle) in
         let moved : IsSoundThen store (Some (record r { cursor = cursor })) =
-        goes_on store (record r { cursor = cursor }) (owns-moved owned_then r there cursor) (in_time_at cursor) (renewed_at contents stamp r es handle gone item (h m.dropped).rise (h m.dropped).differ m.dropped.is (own m.dropped r there) at) in
+        goes_on store (record r { cursor = cursor }) (owns-moved owned_then r there cursor) (in_time_at cursor)
+        (renewed_at contents stamp r es handle gone item (h m.dropped).rise (h m.dropped).differ m.dropped.is (own m.dropped r there) at) in
         subst (λ s. IsSoundThen store (Some (record { stack = s; cursor = r'.cursor }))) (sym same)
         (subst (λ k. IsSoundThen store (Some (record { stack = r.stack; cursor = k }))) (sym goes) moved)
+
     -- one more is left after it where it was handed over, or else as many
     module _ (old : Shadow P Item) (was : now.shadow ≡ Some old) where
       pub more_left : (stack : Stacked P Item) → is_linked handle (before_cursor r.cursor es) ≡ true

@@ -513,11 +513,7 @@ fn free_spare<B: Builder>(
 
 /// The highest level of which something is kept, where that is above the greatest of an index of so many items, and more is kept than the
 /// next two ticks may take.
-fn too_high<B: Builder>(
-    main: &Stack<B>,
-    shadow: &Option<Walk<B>>,
-    store: &Store<B>,
-) -> Option<u32>
+fn too_high<B: Builder>(main: &Stack<B>, shadow: &Option<Walk<B>>, store: &Store<B>) -> Option<u32>
     ensures high { IfSome result (λ level. 2 * live_in B.Part.Part.contents main.now + 10 < 2 ^ level) }
     ensures some { IfSome result (λ level. 0 < kept_in level store.now) }
     ensures unwanted { IfSome result (λ level. (in_both (wanted_at 2 level) main.now shadow.now ≡ 0)
