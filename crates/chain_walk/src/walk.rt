@@ -8,7 +8,7 @@ ghost use Rattle.id_chain.specs.StampsRise.{StampsRise};
 ghost use Rattle.log_levels.specs.Slots.{IsPartOf};
 ghost use Rattle.log_levels.specs.Levels.{weight_of, waiting_of, live_items, all_items};
 ghost use Rattle.log_levels.specs.Cost.{IsWithin, quotas};
-ghost use Rattle.log_levels.specs.Trades.{used_at, wanted_at, AreLent, Ticks};
+ghost use Rattle.log_levels.specs.Trades.{used_at, wanted_at, AreLent, IsStocked, Ticks};
 ghost use Rattle.log_method.specs.Stack.{MayTick, Deletes};
 ghost use Rattle.log_method.specs.Preparing.{AreKept, AreEnough};
 ghost use Rattle.log_method.specs.Few.{HaveFew};
@@ -159,6 +159,17 @@ impl<B: Builder> Walk<B> {
         ensures enough { IfOk result (λ _. weight_of self.new.stack.levels < 2 ^ 31 → AreEnough self.new.stack.levels) }
     {
         self.stack.add_levels()
+    }
+
+    /// Takes the memory that the next two ticks may want, where a store that serves no other stack doesn't keep it.
+    ///
+    /// `NoMemory` where some isn't given; what was taken is kept.
+    pub fn prepare(&mut self, store: &mut Store<B>) -> Result<(), NoMemory>
+        ensures kept { IsKept B.Part.Part.contents self.old self.new }
+        ensures memory { LendsFew self.old.stack.levels store.old self.new.stack.levels store.new }
+        ensures stocked { IfOk result (λ _. weight_of self.new.stack.levels < 2 ^ 31 → IsStocked self.new.stack.levels store.new 2) }
+    {
+        self.stack.prepare(store)
     }
 
     /// How many builders of a level the next two ticks may take.

@@ -8,3 +8,4 @@ pub mod Swapping
 pub mod Retiring
 pub mod Freeing
 pub mod Moving
+pub mod Adopting

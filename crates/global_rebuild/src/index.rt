@@ -4,19 +4,20 @@ ghost use Rattle.std.specs.Option.{option_map};
 ghost use Rattle.query_laws.specs.StepLedger.{Consults};
 ghost use Rattle.query_laws.specs.declared.item.Order.TheVariants.{First};
 ghost use Rattle.id_chain.specs.Chain.{Entry, HandlesDiffer, is_linked, item_at, after, first_or, IsCursor, before_cursor, without_handle};
+ghost use Rattle.id_chain.specs.StampsRise.{StampsRise};
 ghost use Rattle.log_levels.specs.Slots.{Slots};
 ghost use Rattle.log_levels.specs.Levels.{live_items, all_items, waiting_of, weight_of, parts_of, touches_of};
 ghost use Rattle.part_store.specs.Shelves.{one_if, kept_at, lent_at};
 ghost use Rattle.part_store.specs.Store.{kept_in, HasRooms, StocksUpTo};
-ghost use Rattle.log_levels.specs.Trades.{used_at, built_at, wanted_at};
+ghost use Rattle.log_levels.specs.Trades.{used_at, built_at, wanted_at, IsStocked};
 ghost use Rattle.log_method.specs.Retired.{used_of};
-ghost use Rattle.log_method.specs.Preparing.{AreKept, AreEnough, HasTaken, HasRoomsBelow};
+ghost use Rattle.log_method.specs.Preparing.{AreKept, AreEnough, HasTaken, HasRoomsBelow, LendsOnly};
 ghost use Rattle.log_method.specs.Few.{HaveFew};
 ghost use Rattle.log_method.specs.Height.{HaveAtMost, AreFew, size_of};
 ghost use Rattle.log_levels.specs.Cost.{IsWithin, quotas};
 ghost use Rattle.log_levels.specs.Towers.{AreOnTime, TakeTicks};
-ghost use Rattle.chain_walk.specs.Walk.{Walked, live_in, renewed, IsKept};
-ghost use Rattle.global_rebuild.specs.Index.{unwalked, to_walk, shadow_weight, is_heavy, IsInTime, IsIndex, IsIndexOf, IsPrepared, AreStocked, OwnsMemory, HoldsAsMuch, IsWalkedOn, HasPaused, FreesOne, IsCleared, Clears, in_both, in_retired, waiting_of_both, asked_of_both};
+ghost use Rattle.chain_walk.specs.Walk.{Walked, live_in, renewed, IsKept, IsWalkOf};
+ghost use Rattle.global_rebuild.specs.Index.{unwalked, to_walk, shadow_weight, is_heavy, IsQuiet, IsInTime, IsIndex, IsIndexOf, IsPrepared, AreStocked, OwnsMemory, HoldsAsMuch, IsWalkedOn, HasPaused, FreesOne, IsCleared, Clears, in_both, in_retired, waiting_of_both, asked_of_both};
 ghost use Rattle.global_rebuild.specs.Retiring.{with_retired, GivesBack, FreesSpare, FreesUnwanted, TakeMemory};
 
 use builder_trait::{Answers, Asking, Builder, Part, Profiled};
@@ -74,6 +75,25 @@ impl<B: Builder> Index<B> {
             alloc,
             store: Store::new(alloc),
             main: Stack::new(alloc),
+            shadow: None,
+            retired: Vec::new(alloc),
+        }
+    }
+
+    /// An index of a stack that has the items of a chain already, with the store that has its memory. No rebuild runs. It takes no memory.
+    pub fn adopt(alloc: Global, stack: Stack<B>, store: Store<B>) -> Index<B>
+        requires quiet { IsQuiet B.Part.Part.contents stack }
+        requires lent { LendsOnly stack.levels store }
+        requires few { (k : ℕ) → kept_at k store.builders + used_at k stack.levels ≤ 10 }
+        ensures adopted { result ≡ record { store = store; main = stack; shadow = None; retired = [] } }
+        ensures chain { (es : List (Entry B.Item)) (stamps : ℕ) → IsWalkOf B.Part.Part.contents B.Item.stamp (record { stack = stack; cursor = None }) es stamps
+            → StampsRise B.Item.stamp 0 es stamps → HandlesDiffer es → length es < 2 ^ 29 → IsIndexOf B.Part.Part.contents B.Item.stamp result es stamps }
+        ensures prepared { IsStocked stack.levels store 2 → IsPrepared B.Part.Part.contents result }
+    {
+        Index {
+            alloc,
+            store,
+            main: stack,
             shadow: None,
             retired: Vec::new(alloc),
         }
