@@ -12,25 +12,12 @@ use Rattle.log_levels.specs.Levels.{live_items, all_items, weight_of}
 use Rattle.log_levels.specs.Trades.{Trades}
 use Rattle.log_method.specs.Stack.{Stacked}
 use Rattle.part_store.specs.Store.{Stored}
-use Rattle.global_rebuild.specs.Index.{Shadow, Indexed, IsShadowOf, IsIndexOf, IsIndex, IsPrepared}
+use Rattle.chain_walk.specs.Walk.{Walked as Shadow, IsWalkOf as IsShadowOf}
+use Rattle.global_rebuild.specs.Index.{Indexed, IsIndexOf, IsIndex, IsPrepared}
+use Rattle.chain_walk.proofs.Appending.{IsWalkOf-appended}
 use Rattle.global_rebuild.proofs.Owning.{owns-main}
-use Rattle.global_rebuild.proofs.Walking.{Permuted-appended, below-appended, stamp_at-item}
+use Rattle.chain_walk.proofs.Walking.{Permuted-appended, below-appended, stamp_at-item}
 use Rattle.global_rebuild.proofs.Weights.{IsSoundOf, ended_all}
-
--- a shadow with the cursor at an entry has the items before it where another entry comes last
-pub IsShadowOf-appended : {P Item : Type 0} (contents : P → Contents Item) (stamp : Item → ℕ) (r : Shadow P Item) (front : List (Entry Item)) (e : Entry Item)
-    (handle : ℕ) → r.cursor ≡ Some handle → IsShadowOf contents stamp r front (stamp e.item) → IsShadowOf contents stamp r (front ++ e ∷ []) (stamp e.item + 1)
-IsShadowOf-appended contents stamp r front e handle stands own =
-    let linked = subst (λ c. IsCursor c front) stands own.cursor in
-    let there = item_at-linked handle front linked in
-    let kept = others-append handle front e linked in
-    let here = stamp_at-item stamp r.cursor handle there.0 front (stamp e.item) stands there.1 in
-    let now = stamp_at-item stamp r.cursor handle there.0 (front ++ e ∷ []) (stamp e.item + 1) stands (kept.1 ∙ there.1) in
-    record {
-      cursor = subst (λ c. IsCursor c (front ++ e ∷ [])) (sym stands) kept.0;
-      live = rw (stands, before-append handle front e linked) (rw stands at own.live);
-      below = subst (λ n. All (λ x. stamp x < n) (all_items contents r.stack.levels)) (here ∙ sym now) own.below;
-    }
 
 module _ {P Item : Type 0} (contents : P → Contents Item) (stamp : Item → ℕ) (i : Indexed P Item) (front : List (Entry Item)) (e : Entry Item)
     (h : IsIndexOf contents stamp i front (stamp e.item)) (v : IsIndex contents i) (p : IsPrepared contents i) where
@@ -43,7 +30,7 @@ module _ {P Item : Type 0} (contents : P → Contents Item) (stamp : Item → �
 
       at : (cursor : Option ℕ) → r.cursor ≡ cursor → IsShadowOf contents stamp r (front ++ e ∷ []) (stamp e.item + 1)
       at None ended = let all = ended_all contents stamp i front h r own ended in absurd (omega (arith, all, (p.shadow r is).1))
-      at (Some handle) stands = IsShadowOf-appended contents stamp r front e handle stands own
+      at (Some handle) stands = IsWalkOf-appended contents stamp r front e handle stands own
 
   pub appended : (main : Stacked P Item) (store : Stored) → Trades i.main.levels i.store main.levels store → Permuted (live_items contents main.levels) (e.item ∷ live_items contents i.main.levels)
       → IsPartOf (all_items contents main.levels) (e.item ∷ all_items contents i.main.levels) → weight_of main.levels ≡ weight_of i.main.levels + 1
@@ -74,12 +61,3 @@ module _ {P Item : Type 0} (contents : P → Contents Item) (stamp : Item → �
           few = few;
         },
       )
-
--- the item under the handle of the last entry
-pub last_item : {Item : Type 0} (handle : ℕ) (item other : Item) (front es : List (Entry Item)) → es ≡ front ++ record { handle = handle; item = other } ∷ [] → HandlesDiffer es
-    → item_at handle es ≡ Some item → item ≡ other
-last_item {Item = Item} handle item other front es is differ at =
-    let e : Entry Item = record { handle = handle; item = other } in
-    let apart = Apart-parts front (e ∷ []) (subst HandlesDiffer is differ) in
-    let there = ap (item_at handle) is ∙ item_at-split handle other front [] (apart.back_only handle (linked_head e [])) in
-    let same : Some item ≡ Some other = sym at ∙ there in cc

@@ -19,30 +19,17 @@ use Rattle.log_method.specs.Stack.{Stacked, Deletes}
 use Rattle.part_store.specs.Store.{Stored}
 use Rattle.log_levels.specs.Cost.{IsWithin}
 use Rattle.log_levels.proofs.Spending.{IsWithin-more, IsWithin-then}
-use Rattle.global_rebuild.specs.Index.{Shadow, Indexed, OwnsMemory, IsShadowOf, IsIndexOf, IsIndex, IsPrepared, IsInTime, IsQuiet, live_in, stamp_at, unwalked}
-use Rattle.global_rebuild.proofs.Walking.{item_of, All-part}
-use Rattle.global_rebuild.proofs.Forgetting.{items_without, length-without_handle, IsShadowOf-deleted, IsShadowOf-moved, IsShadowOf-after, one_fewer, walked_live}
+use Rattle.chain_walk.specs.Walk.{Walked as Shadow, IsWalkOf as IsShadowOf, live_in, stamp_at}
+use Rattle.global_rebuild.specs.Index.{Indexed, OwnsMemory, IsIndexOf, IsIndex, IsPrepared, IsInTime, IsQuiet, unwalked}
+use Rattle.chain_walk.proofs.Walking.{item_of, All-part}
+use Rattle.chain_walk.proofs.Forgetting.{items_without, length-without_handle, IsWalkOf-deleted, IsWalkOf-moved, IsWalkOf-after, one_fewer, walked_live}
+use Rattle.chain_walk.proofs.Renewing.{HandlesDiffer-without, rise_without}
 use Rattle.global_rebuild.proofs.Weights.{IsSoundOf, as_many, shadow_light}
 use Rattle.global_rebuild.proofs.Owning.{owns-main, owns-fresh, owns-shadow, owns-moved}
 
 -- more is dead than half of what is live, and eight
 pub is_over : (weight live : ℕ) → 3 * live + 16 < 2 * weight → nat_lt (live + 16) (2 * (weight - live)) ≡ true
 is_over weight live more = let dead : live + 16 < 2 * (weight - live) = omega (arith, more) in grind (arith, nat_tests, dead)
-
-module _ {Item : Type 0} (handle : ℕ) (item : Item) (es : List (Entry Item)) (is : item_at handle es ≡ Some item) where
-  abbrev entry : Entry Item
-  entry = record { handle = handle; item = item }
-
-  pub HandlesDiffer-without : HandlesDiffer es → HandlesDiffer (without_handle handle es)
-  HandlesDiffer-without differ =
-      HandlesDiffer-append (before handle es) (after handle es)
-      (Apart-without (before handle es) entry (after handle es)
-      (Apart-parts (before handle es) (entry ∷ after handle es) (subst HandlesDiffer (split_at handle item es is) differ)))
-
-  pub rise_without : (stamp : Item → ℕ) (stamps : ℕ) → StampsRise stamp 0 es stamps → StampsRise stamp 0 (without_handle handle es) stamps
-  rise_without stamp stamps rise =
-      StampsRise-without stamp 0 (before handle es) entry (after handle es) stamps
-      (subst (λ l. StampsRise stamp 0 l stamps) (split_at handle item es is) rise)
 
 -- an index is in order wherever the cursor of its shadow is
 module _ {P Item : Type 0} (contents : P → Contents Item) (i : Indexed P Item) (r : Shadow P Item)
@@ -172,7 +159,7 @@ module _ {P Item : Type 0} {contents : P → Contents Item} {stamp : Item → �
           few = omega (arith, ahead.few, one, one_dropped);
           main_light = omega (arith, ahead.few, ahead.main_light, one, one_dropped, f.deletes.weight);
           shadow_light = omega (arith, ahead.few, ahead.shadow_light, one, one_dropped, d.weight);
-        }) (IsShadowOf-deleted contents stamp r es stamps handle item h.rise own f.is r'.stack walked d.live d.items))
+        }) (IsWalkOf-deleted contents stamp r es stamps handle item h.rise own f.is r'.stack walked d.live d.items))
 
     in_time_at : (cursor : Option ℕ) → IsInTime contents 0 main (record r { cursor = cursor })
     in_time_at cursor =
@@ -191,12 +178,12 @@ module _ {P Item : Type 0} {contents : P → Contents Item} {stamp : Item → �
     pub goes_on_moved : r.cursor ≡ Some handle → IsSoundWith store (Some (record r { cursor = first_handle (after handle es) }))
     goes_on_moved at =
         goes_on store (record r { cursor = first_handle (after handle es) }) (owns-moved owned r there (first_handle (after handle es))) (in_time_at (first_handle (after handle es)))
-        (IsShadowOf-moved contents stamp r es stamps handle item h.rise own f.is h.differ at)
+        (IsWalkOf-moved contents stamp r es stamps handle item h.rise own f.is h.differ at)
 
     -- it comes after the cursor
     pub goes_on_after : is_linked handle (before_cursor r.cursor es) ≡ false → r.cursor ≢ Some handle → IsSoundWith store (Some r)
     goes_on_after later other =
-        goes_on store r (owns-moved owned r there r.cursor) (in_time_at r.cursor) (IsShadowOf-after contents stamp r es stamps handle item h.rise own f.is later other)
+        goes_on store r (owns-moved owned r there r.cursor) (in_time_at r.cursor) (IsWalkOf-after contents stamp r es stamps handle item h.rise own f.is later other)
 
     -- as many are left after it is dropped, or one fewer
     module _ (old : Shadow P Item) (was : now.shadow ≡ Some old) where
@@ -216,10 +203,7 @@ module _ {P Item : Type 0} {contents : P → Contents Item} {stamp : Item → �
           ≡ option_map (λ w. if is_linked handle (before_cursor old.cursor es) then w else w - 1) (unwalked contents now)
       left_after later = rw (was, ← same, later) (ap Some (omega (arith, one_dropped, ap (λ j. live_in contents j.main) f.view)))
 
--- what one delete costs, and what two do
-pub one_delete : {turns a touches : ℕ} (g : ℕ) {old new : Counts} → IsWithin turns (2 * g + a) touches old new → a ≤ 3 * (g + 1) → IsWithin turns (5 * g + 3) touches old new
-one_delete g h few = IsWithin-more h (omega arith) (omega (arith, few)) (omega arith)
-
+-- what two deletes cost
 pub at_most_two : {turns marks touches : ℕ} {old new : Counts} → IsWithin turns marks touches old new → IsWithin (2 * turns) (2 * marks) touches old new
 at_most_two h = IsWithin-more h (omega arith) (omega arith) (omega arith)
 

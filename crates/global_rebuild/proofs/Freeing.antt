@@ -7,8 +7,10 @@ use Rattle.part_store.specs.Shelves.{one_if, kept_at, lent_at, held_at}
 use Rattle.part_store.specs.Store.{Stored, KeepsBoth, FreesOne, tables_for, kept_in}
 use Rattle.log_levels.specs.Trades.{wanted_at}
 use Rattle.log_method.specs.Stack.{Stacked}
-use Rattle.global_rebuild.specs.Index.{Shadow, Indexed, HasPaused, in_both, live_in, IsSpare, enough, too_high, FreesOne as Frees, none as frees_none, one as frees_one, IsCleared, Clears, fewer, fewer_tables, cleared}
-use Rattle.global_rebuild.specs.Memory.{HoldsNoLess, FreesOneAt}
+use Rattle.chain_walk.specs.Walk.{Walked as Shadow, live_in}
+use Rattle.global_rebuild.specs.Index.{Indexed, HasPaused, in_both, IsSpare, enough, too_high, FreesOne as Frees, none as frees_none, one as frees_one, IsCleared, Clears, fewer, fewer_tables, cleared}
+use Rattle.chain_walk.specs.Memory.{HoldsNoLess}
+use Rattle.global_rebuild.specs.Memory.{FreesOneAt}
 use Rattle.global_rebuild.specs.Retiring.{FreesSpare, none, one, FreesUnwanted, crowded, one_builder, one_tables, cleared_before, TakeMemory}
 
 pub anyway_ok : {A E p : Type 0} (r : Result A E) → p → IfOk r (λ _. p)

@@ -1,7 +1,4 @@
-pub mod Walking
-pub mod Forgetting
 pub mod Owning
-pub mod Lending
 pub mod Taking
 pub mod Stocking
 pub mod Weights
@@ -11,3 +8,4 @@ pub mod Swapping
 pub mod Retiring
 pub mod Freeing
 pub mod Moving
+pub mod Adopting

@@ -17,32 +17,18 @@ use Rattle.log_levels.specs.Cost.{IsWithin}
 use Rattle.log_levels.specs.Trades.{Trades, Ticks}
 use Rattle.log_method.specs.Stack.{Stacked, Inserts, Deletes}
 use Rattle.part_store.specs.Store.{Stored, KeepsBoth}
-use Rattle.global_rebuild.specs.Index.{Shadow, Indexed, OwnsMemory, IsShadowOf, IsIndex, IsInTime, IsQuiet, live_in, stamp_at, unwalked, renewed}
-use Rattle.global_rebuild.proofs.Walking.{item_of, All-part, Permuted-appended, below-appended, stamp_at-item, item_at-below}
-use Rattle.global_rebuild.proofs.Forgetting.{length-without_handle, IsShadowOf-deleted, IsShadowOf-moved, IsShadowOf-after, one_fewer}
-use Rattle.global_rebuild.proofs.Appending.{IsShadowOf-appended}
-use Rattle.global_rebuild.proofs.Dropping.{IsDropped, in_order, HandlesDiffer-without, rise_without, h, p, others_left, one_dropped, owned, own, ahead, same}
+use Rattle.chain_walk.specs.Walk.{Walked as Shadow, IsWalkOf as IsShadowOf, live_in, stamp_at, renewed}
+use Rattle.global_rebuild.specs.Index.{Indexed, OwnsMemory, IsIndex, IsInTime, IsQuiet, unwalked}
+use Rattle.chain_walk.proofs.Walking.{item_of, All-part, Permuted-appended, below-appended, stamp_at-item, item_at-below}
+use Rattle.chain_walk.proofs.Forgetting.{length-without_handle, IsWalkOf-deleted, IsWalkOf-moved, IsWalkOf-after, one_fewer}
+use Rattle.chain_walk.proofs.Appending.{IsWalkOf-appended}
+use Rattle.chain_walk.proofs.Renewing.{HandlesDiffer-without, rise_without}
+use Rattle.global_rebuild.proofs.Dropping.{IsDropped, in_order, h, p, others_left, one_dropped, owned, own, ahead, same}
+use Rattle.chain_walk.proofs.Renewing.{renewed_differ, renewed_at}
 use Rattle.global_rebuild.proofs.Weights.{IsSoundOf, as_many, ended_all}
 use Rattle.global_rebuild.proofs.Owning.{owns-main, owns-fresh, owns-shadow, owns-moved}
 
 module _ {Item : Type 0} (handle : ℕ) (es : List (Entry Item)) (item : Item) where
-  renewed_differ : (gone : Item) → item_at handle es ≡ Some gone → HandlesDiffer es → HandlesDiffer (renewed handle item es)
-  renewed_differ gone is differ =
-      let e : Entry Item = record { handle = handle; item = item } in
-      let none = unlinked-without handle es differ in
-      HandlesDiffer-append (without_handle handle es) (e ∷ []) (record {
-        front = HandlesDiffer-without handle gone es is differ;
-        back = (refl, tt);
-        front_only = λ k there. elim (cases_eq handle k) [
-          | inl same ↦ let unlinked : is_linked k (without_handle handle es) ≡ false = subst (λ j. is_linked j (without_handle handle es) ≡ false) same none in absurd (cc)
-          | inr apart ↦ unlinked_more k e [] apart refl
-        ];
-        back_only = λ k there. elim (cases_eq handle k) [
-          | inl same ↦ subst (λ j. is_linked j (without_handle handle es) ≡ false) same none
-          | inr apart ↦ let unlinked : is_linked k (e ∷ []) ≡ false = unlinked_more k e [] apart refl in absurd (cc)
-        ];
-      })
-
   -- the first of the others, or else the renewed one
   pub first_of : (c : ℕ) → IsCursor (Some c) (without_handle handle es) → before_cursor (Some c) (without_handle handle es) ≡ []
       → IsCursor (Some c) (renewed handle item es) × (before_cursor (Some c) (renewed handle item es) ≡ [])
@@ -57,18 +43,9 @@ module _ {Item : Type 0} (handle : ℕ) (es : List (Entry Item)) (item : Item) w
         ap (λ l. before handle (l ++ e ∷ [])) none ∙ before-split handle item [] [] refl,
       )
 
-  pub at_renewed : HandlesDiffer es → (before handle (renewed handle item es) ≡ without_handle handle es) × (item_at handle (renewed handle item es) ≡ Some item)
-  at_renewed differ =
-      let none = unlinked-without handle es differ in
-      (before-split handle item (without_handle handle es) [] none, item_at-split handle item (without_handle handle es) [] none)
-
 -- what is in memory stays through two ticks
 pub keeps_then : {a b c : Stored} → KeepsBoth a b → KeepsBoth b c → KeepsBoth a c
 keeps_then h k = record { builders = λ n. k.builders n ∙ h.builders n; tables = λ n. k.tables n ∙ h.tables n }
-
--- turns are counted up
-pub turns_rise : {turns marks touches : ℕ} {old new : Counts} → IsWithin turns marks touches old new → old.turns ≤ new.turns
-turns_rise h = omega (arith, h.spent.turns_spent)
 
 -- a prepared index of a chain with an item, what is seen of it, and its main stack without the item, and then with the one that is put in its place
 pub record IsMoved {P Item : Type 0} (contents : P → Contents Item) (stamp : Item → ℕ) (i now : Indexed P Item) (es : List (Entry Item)) (handle : ℕ)
@@ -166,8 +143,8 @@ module _ {P Item : Type 0} {contents : P → Contents Item} {stamp : Item → �
           few = omega (arith, t.few, one, as_live);
           main_light = omega (arith, t.few, t.main_light, one, as_live, heavier);
           shadow_light = omega (arith, t.few, t.shadow_light, one, as_live, d.weight);
-        }) (IsShadowOf-appended contents stamp (record r { stack = r'.stack }) (without_handle handle es) e stands.0 stands.1
-        (IsShadowOf-deleted contents stamp r es (stamp item) handle gone (h m.dropped).rise (own m.dropped r there) m.dropped.is r'.stack walked d.live d.items)))
+        }) (IsWalkOf-appended contents stamp (record r { stack = r'.stack }) (without_handle handle es) e stands.0 stands.1
+        (IsWalkOf-deleted contents stamp r es (stamp item) handle gone (h m.dropped).rise (own m.dropped r there) m.dropped.is r'.stack walked d.live d.items)))
 
     in_time_at : (cursor : Option ℕ) → IsInTime contents 0 main (record r { cursor = cursor })
     in_time_at cursor =
@@ -182,24 +159,8 @@ module _ {P Item : Type 0} {contents : P → Contents Item} {stamp : Item → �
     pub moved_after : is_linked handle (before_cursor r.cursor es) ≡ false → r.cursor ≢ Some handle → IsSoundThen store (Some r)
     moved_after later other =
         goes_on store r (owns-moved owned_then r there r.cursor) (in_time_at r.cursor)
-        (IsShadowOf-appended contents stamp r (without_handle handle es) e stands.0 stands.1
-        (IsShadowOf-after contents stamp r es (stamp item) handle gone (h m.dropped).rise (own m.dropped r there) m.dropped.is later other))
-
-    -- the cursor was at it, and it was the last
-    at_last : r.cursor ≡ Some handle → after handle es ≡ [] → IsShadowOf contents stamp (record r { cursor = Some handle }) (renewed handle item es) (stamp item + 1)
-    at_last at last =
-        let mine = own m.dropped r there in
-        let back = at_renewed handle es item (h m.dropped).differ in
-        let all : without_handle handle es ≡ before handle es = ap (λ l. before handle es ++ l) last ∙ append-nil (before handle es) in
-        let was = stamp_at-item stamp r.cursor handle gone es (stamp item) at m.dropped.is in
-        let now = stamp_at-item stamp (Some handle) handle item (renewed handle item es) (stamp item + 1) refl back.1 in
-        let less = item_at-below stamp handle 0 gone es (stamp item) (h m.dropped).rise m.dropped.is in
-        record {
-          cursor = linked-append (without_handle handle es) e;
-          live = subst (λ l. Permuted (live_items contents r.stack.levels) (map item_of l)) (sym (back.0 ∙ all))
-              (subst (λ c. Permuted (live_items contents r.stack.levels) (map item_of (before_cursor c es))) at mine.live);
-          below = λ k d within. let low = mine.below k d within in omega (arith, low, was, now, less);
-        }
+        (IsWalkOf-appended contents stamp r (without_handle handle es) e stands.0 stands.1
+        (IsWalkOf-after contents stamp r es (stamp item) handle gone (h m.dropped).rise (own m.dropped r there) m.dropped.is later other))
 
     -- wherever the walk goes on, the index is in order
     pub in_order_at : (r' : Shadow P Item) → r'.stack ≡ r.stack → IsIndex contents (record i { store = store; main = main; shadow = Some r' })
@@ -211,16 +172,10 @@ module _ {P Item : Type 0} {contents : P → Contents Item} {stamp : Item → �
     moved_at at r' same goes =
         let cursor = first_or (after handle es) (Some handle) in
         let moved : IsSoundThen store (Some (record r { cursor = cursor })) =
-        goes_on store (record r { cursor = cursor }) (owns-moved owned_then r there cursor) (in_time_at cursor) (cases (after handle es) refl) in
+        goes_on store (record r { cursor = cursor }) (owns-moved owned_then r there cursor) (in_time_at cursor)
+        (renewed_at contents stamp r es handle gone item (h m.dropped).rise (h m.dropped).differ m.dropped.is (own m.dropped r there) at) in
         subst (λ s. IsSoundThen store (Some (record { stack = s; cursor = r'.cursor }))) (sym same)
         (subst (λ k. IsSoundThen store (Some (record { stack = r.stack; cursor = k }))) (sym goes) moved)
-      where
-        cases : (l : List (Entry Item)) → after handle es ≡ l
-            → IsShadowOf contents stamp (record r { cursor = first_or l (Some handle) }) (renewed handle item es) (stamp item + 1)
-        cases [] last = at_last at last
-        cases (x ∷ rest) next = IsShadowOf-appended contents stamp (record r { cursor = Some x.handle }) (without_handle handle es) e x.handle refl
-            (subst (λ l. IsShadowOf contents stamp (record r { cursor = first_handle l }) (without_handle handle es) (stamp item)) next
-            (IsShadowOf-moved contents stamp r es (stamp item) handle gone (h m.dropped).rise (own m.dropped r there) m.dropped.is (h m.dropped).differ at))
 
     -- one more is left after it where it was handed over, or else as many
     module _ (old : Shadow P Item) (was : now.shadow ≡ Some old) where

@@ -7,8 +7,9 @@ use Rattle.log_levels.specs.Slots.{Slots}
 use Rattle.log_levels.specs.Trades.{used_at, built_at, wanted_at, AreLent, Trades}
 use Rattle.log_method.specs.Stack.{Stacked}
 use Rattle.log_method.specs.Few.{HaveFew}
-use Rattle.global_rebuild.specs.Index.{Shadow, Indexed, in_both, in_retired, OwnsMemory}
-use Rattle.global_rebuild.specs.Memory.{LendsFew}
+use Rattle.chain_walk.specs.Walk.{Walked as Shadow}
+use Rattle.global_rebuild.specs.Index.{Indexed, in_both, in_retired, OwnsMemory}
+use Rattle.chain_walk.specs.Memory.{LendsFew}
 use Rattle.global_rebuild.specs.Retiring.{GivesBack, TakeMemory}
 
 module _ {P Item : Type 0} where

@@ -10,7 +10,8 @@ use Rattle.log_levels.specs.Slots.{Slots}
 use Rattle.log_levels.specs.Trades.{used_at, built_at}
 use Rattle.log_method.specs.Stack.{Stacked}
 use Rattle.log_method.specs.Retired.{used_of}
-use Rattle.global_rebuild.specs.Index.{Shadow, Indexed, HandsOver, IsKept, IsIndexOf, IsIndex, IsInTime, live_in, to_walk, in_both, in_retired, OwnsMemory, retired_parts, IsWalkedOn, HasPaused}
+use Rattle.chain_walk.specs.Walk.{Walked as Shadow, HandsOver, IsKept, live_in}
+use Rattle.global_rebuild.specs.Index.{Indexed, IsIndexOf, IsIndex, IsInTime, to_walk, in_both, in_retired, OwnsMemory, retired_parts, IsWalkedOn, HasPaused}
 use Rattle.global_rebuild.specs.Retiring.{with_retired}
 use Rattle.global_rebuild.proofs.Owning.{in_shadow}
 use Rattle.global_rebuild.proofs.Retiring.{with_both, used_none, built_none}

@@ -13,7 +13,8 @@ use Rattle.log_method.specs.Stack.{Stacked}
 use Rattle.log_method.specs.Few.{HaveFew}
 use Rattle.log_method.specs.Preparing.{AreKept, HasTaken}
 use Rattle.log_method.proofs.Taking.{used_kept, built_kept}
-use Rattle.global_rebuild.specs.Index.{Shadow, in_both}
+use Rattle.chain_walk.specs.Walk.{Walked as Shadow}
+use Rattle.global_rebuild.specs.Index.{in_both}
 use Rattle.global_rebuild.specs.Retiring.{TakeMemory}
 use Rattle.global_rebuild.proofs.Owning.{in_shadow, shadow_few}
 

@@ -15,22 +15,13 @@ use Rattle.log_levels.proofs.Spending.{IsWithin-times}
 use Rattle.log_method.specs.Stack.{Stacked}
 use Rattle.log_method.specs.Retired.{used_of}
 use Rattle.part_store.specs.Store.{Stored}
-use Rattle.global_rebuild.specs.Index.{Shadow, Indexed, HandsOver, HasPaused, IsShadowOf, IsIndexOf, IsIndex, IsInTime, live_in}
+use Rattle.chain_walk.proofs.Handing.{few_before, as_walked as walked_by}
+use Rattle.chain_walk.specs.Walk.{Walked as Shadow, HandsOver, IsWalkOf as IsShadowOf, live_in}
+use Rattle.global_rebuild.specs.Index.{Indexed, HasPaused, IsIndexOf, IsIndex, IsInTime}
 use Rattle.global_rebuild.specs.Index.{OwnsMemory}
-use Rattle.global_rebuild.specs.Memory.{HoldsNoLess}
+use Rattle.chain_walk.specs.Memory.{HoldsNoLess}
 use Rattle.global_rebuild.proofs.Owning.{owns-empty}
-use Rattle.global_rebuild.proofs.Walking.{item_of}
-
-module _ {Item : Type 0} where
-  length-before : (handle : ℕ) (es : List (Entry Item)) → is_linked handle es ≡ true → length (before handle es) < length es
-  length-before handle [] linked = absurd cc
-  length-before handle (e ∷ es) linked = grind (arith, nat_tests, common_steps, length-before handle es)
-
-  -- a cursor has an entry to come exactly where it isn't past the last
-  few_before : (cursor : Option ℕ) (es : List (Entry Item)) → IsCursor cursor es
-      → ((cursor ≡ None) × (length (before_cursor cursor es) ≡ length es)) ⊎ ((cursor ≢ None) × (length (before_cursor cursor es) < length es))
-  few_before None es linked = inl (refl, refl)
-  few_before (Some handle) es linked = inr ((λ none. absurd cc), length-before handle es linked)
+use Rattle.chain_walk.proofs.Walking.{item_of}
 
 module _ {P Item : Type 0} (contents : P → Contents Item) where
   pub IsIndex-empty : IsIndex contents (record { store = record { builders = []; tables = [] }; main = record { levels = [] }; shadow = None; retired = [] })
@@ -79,7 +70,7 @@ module _ {P Item : Type 0} (contents : P → Contents Item) (stamp : Item → �
 
     module _ (r : Shadow P Item) (own : IsShadowOf contents stamp r es stamps) where
       as_walked : live_in contents r.stack ≡ length (before_cursor r.cursor es)
-      as_walked = Permuted-length own.live ∙ length-map (before_cursor r.cursor es) item_of
+      as_walked = walked_by contents stamp r es own
 
       -- where the cursor is at an item, fewer are live in the shadow
       pub walked_few : r.cursor ≢ None → live_in contents r.stack < live_in contents i.main
@@ -100,19 +91,6 @@ module _ {P Item : Type 0} (contents : P → Contents Item) (stamp : Item → �
 pub four_ticks : (n turns marks : ℕ) {touches : ℕ} {old new : Counts} → IsWithin (min 4 n * turns) (min 4 n * marks) touches old new
     → IsWithin (4 * turns) (4 * marks) touches old new
 four_ticks n turns marks h = IsWithin-times (min 4 n) 4 turns marks (omega arith) h
-
-module _ {P Item : Type 0} {contents : P → Contents Item} {r r' : Shadow P Item} {most : ℕ} where
-  pub handed_over : (n : ℕ) → live_in contents r'.stack ≡ live_in contents r.stack + n → weight_of r'.stack.levels ≡ weight_of r.stack.levels + n
-      → n ≤ most → HandsOver contents most r r'
-  handed_over n live weight few = record { no_fewer = omega arith; at_most = omega arith; weight = omega arith }
-
-  -- a stack that gets items weighs no less
-  pub lighter : {bound : ℕ} → HandsOver contents most r r' → weight_of r'.stack.levels < bound → weight_of r.stack.levels < bound
-  lighter h light = omega arith
-
-  -- some items, and then some more
-  pub handed_then : {a b : ℕ} {mid : Shadow P Item} → HandsOver contents a r mid → HandsOver contents b mid r' → a + b ≤ most → HandsOver contents most r r'
-  handed_then first second few = record { no_fewer = omega arith; at_most = omega arith; weight = omega arith }
 
 -- a shadow that is in time
 module _ {P Item : Type 0} {contents : P → Contents Item} {main : Stacked P Item} {r : Shadow P Item} (t : IsInTime contents 0 main r) where

@@ -3,22 +3,18 @@ use Rattle.std.specs.Prelude.{◌≡◌, ℕ, ◌+◌, ◌-◌, ◌*◌, ◌^◌
 use Rattle.std.specs.Option.{option_map, option_map_or}
 use Rattle.query_laws.specs.Permuted.{Permuted}
 use Rattle.builder_trait.specs.Parts.{Contents}
-use Rattle.id_chain.specs.Chain.{Entry, HandlesDiffer, is_linked, item_at, IsCursor, before_cursor, without_handle}
+use Rattle.id_chain.specs.Chain.{Entry, HandlesDiffer, is_linked, before_cursor}
 use Rattle.id_chain.specs.StampsRise.{StampsRise}
 use Rattle.part_store.specs.Shelves.{kept_at, lent_at, held_at}
 use Rattle.part_store.specs.Store.{Stored, KeepsBoth, kept_in}
 use Rattle.log_levels.specs.Slots.{Slots}
-use Rattle.log_levels.specs.Levels.{live_items, all_items, weight_of, waiting_of, parts_asked}
-use Rattle.log_levels.specs.Marking.{noted}
+use Rattle.log_levels.specs.Levels.{live_items, all_items, weight_of, waiting_of}
 use Rattle.log_levels.specs.Trades.{used_at, built_at, due_at, wanted_at, IsQuiet as StaysQuiet}
 use Rattle.log_method.specs.Stack.{Stacked}
 use Rattle.log_method.specs.Retired.{used_of}
-use Rattle.global_rebuild.specs.Memory.{HoldsNoLess, FreesOneOf}
-
--- the stack that is being made, and the cursor of the walk along the chain: the handle of the item that comes next
-pub record Shadow (P Item : Type 0) : Type 0 where
-  pub stack : Stacked P Item
-  pub cursor : Option ℕ
+use Rattle.chain_walk.specs.Walk.{Walked as Shadow, IsWalkOf as IsShadowOf, HandsOver, live_in, asked_of}
+use Rattle.chain_walk.specs.Memory.{HoldsNoLess}
+use Rattle.global_rebuild.specs.Memory.{FreesOneOf}
 
 -- An index: the store that has all its memory; the stack that answers; the shadow, while a rebuild runs; and what is left of the stacks that earlier
 -- rebuilds put out of use, oldest first.
@@ -32,16 +28,6 @@ pub record Indexed (P Item : Type 0) : Type 0 where
 abbrev pub walked_on : Option ℕ → Option ℕ
 walked_on None = None
 walked_on (Some w) = if nat_le w 4 then None else Some (w - 4)
-
-module _ {Item : Type 0} (stamp : Item → ℕ) where
-  -- the stamp of the item at a cursor, and a number above all past the last
-  abbrev pub stamp_at : Option ℕ → List (Entry Item) → ℕ → ℕ
-  stamp_at None es stamps = stamps
-  stamp_at (Some handle) es stamps = option_map_or stamp (item_at handle es) stamps
-
--- the entries where one is renewed: another item is under its handle, and it comes last
-abbrev pub renewed : {Item : Type 0} → ℕ → Item → List (Entry Item) → List (Entry Item)
-renewed handle item es = without_handle handle es ++ record { handle = handle; item = item } ∷ []
 
 module _ {P Item : Type 0} where
   -- how much the main stack and the shadow have of something
@@ -95,34 +81,17 @@ abbrev pub waiting_of_both : {P Item : Type 0} → Indexed P Item → ℕ
 waiting_of_both i = waiting_of i.main.levels + option_map_or (λ r. waiting_of r.stack.levels) i.shadow 0
 
 module _ {P Item : Type 0} (contents : P → Contents Item) where
-  -- how many items are live in a stack
-  abbrev pub live_in : Stacked P Item → ℕ
-  live_in s = length (live_items contents s.levels)
-
-  -- a shadow holds what it held, and the walk is where it was
-  pub record IsKept (r r' : Shadow P Item) : Type 0 where
-    pub cursor : r'.cursor ≡ r.cursor
-    pub live : live_items contents r'.stack.levels ≡ live_items contents r.stack.levels
-    pub items : all_items contents r'.stack.levels ≡ all_items contents r.stack.levels
-    pub weight : weight_of r'.stack.levels ≡ weight_of r.stack.levels
-
-  -- a walk handed over so many items at most: each is live and weighs one
-  pub record HandsOver (most : ℕ) (old new : Shadow P Item) : Type 0 where
-    pub no_fewer : live_in old.stack ≤ live_in new.stack
-    pub at_most : live_in new.stack ≤ live_in old.stack + most
-    pub weight : weight_of new.stack.levels + live_in old.stack ≡ weight_of old.stack.levels + live_in new.stack
-
   -- how much of the weight is dead
   abbrev pub dead_in : Stacked P Item → ℕ
-  dead_in s = weight_of s.levels - live_in s
+  dead_in s = weight_of s.levels - live_in contents s
 
   -- how many items the walk hasn't come by, while a rebuild runs
   abbrev pub unwalked : Indexed P Item → Option ℕ
-  unwalked i = option_map (λ r. live_in i.main - live_in r.stack) i.shadow
+  unwalked i = option_map (λ r. live_in contents i.main - live_in contents r.stack) i.shadow
 
   -- the same, and 0 where none runs
   abbrev pub to_walk : Indexed P Item → ℕ
-  to_walk i = option_map_or (λ r. live_in i.main - live_in r.stack) i.shadow 0
+  to_walk i = option_map_or (λ r. live_in contents i.main - live_in contents r.stack) i.shadow 0
 
   -- the weights of the two stacks after a walk by four: the shadow weighs as much more as items were handed over, and is the main stack
   -- where it has all
@@ -150,12 +119,12 @@ module _ {P Item : Type 0} (contents : P → Contents Item) where
     pub retired : new.retired ≡ old.retired
     pub no_less : HoldsNoLess old.store new.store
     pub none : old.shadow ≡ None → new.shadow ≡ None
-    pub going : (r : Shadow P Item) → old.shadow ≡ Some r → (r' : Shadow P Item) × (new.shadow ≡ Some r') × HandsOver most r r'
+    pub going : (r : Shadow P Item) → old.shadow ≡ Some r → (r' : Shadow P Item) × (new.shadow ≡ Some r') × HandsOver contents most r r'
 
   -- memory of a level may be freed: as much is there as both stacks may have at once, or the level is above the greatest of an index of its size
   pub data IsSpare (level : ℕ) (main : Stacked P Item) (shadow : Option (Shadow P Item)) (store : Stored) : Type 0 where
     enough : 10 ≤ kept_at level store.builders + in_both (used_at level) main shadow → IsSpare level main shadow store
-    too_high : 2 * live_in main + 10 < 2 ^ level → IsSpare level main shadow store
+    too_high : 2 * live_in contents main + 10 < 2 ^ level → IsSpare level main shadow store
 
   -- of each level no less is in memory; or a builder or tables of one level were freed, which were spare
   pub data FreesOne (old : Stored) (main : Stacked P Item) (shadow : Option (Shadow P Item)) (new : Stored) : Type 0 where
@@ -164,7 +133,7 @@ module _ {P Item : Type 0} (contents : P → Contents Item) where
 
   -- nothing is kept of a level above the greatest of an index of its size, unless of it or of a higher one some may be taken by two ticks
   abbrev pub IsCleared : Stacked P Item → Option (Shadow P Item) → Stored → Type 0
-  IsCleared main shadow store = (k : ℕ) → 2 * live_in main + 10 < 2 ^ k
+  IsCleared main shadow store = (k : ℕ) → 2 * live_in contents main + 10 < 2 ^ k
       → (kept_in k store ≡ 0) ⊎ ((j : ℕ) × (k ≤ j) × (0 < in_both (wanted_at 2 j) main shadow))
 
   -- a builder of a level less is in memory, or the tables of a construction less; or no such level has any left
@@ -175,22 +144,22 @@ module _ {P Item : Type 0} (contents : P → Contents Item) where
 
   -- more of a stack's weight is dead than half of what is live, and eight
   abbrev pub is_heavy : Stacked P Item → Bool
-  is_heavy main = nat_lt (live_in main + 16) (2 * dead_in main)
+  is_heavy main = nat_lt (live_in contents main + 16) (2 * dead_in main)
 
   -- the rebuild is in time, with so many ticks more than it needs
   pub record IsInTime (ahead : ℕ) (main : Stacked P Item) (r : Shadow P Item) : Type 0 where
-    pub few : live_in r.stack ≤ live_in main
-    pub main_light : 2 * dead_in main + (live_in main - live_in r.stack) + ahead ≤ 2 * live_in main + 19
-    pub shadow_light : 3 * dead_in r.stack + (live_in main - live_in r.stack) + ahead ≤ live_in main
+    pub few : live_in contents r.stack ≤ live_in contents main
+    pub main_light : 2 * dead_in main + (live_in contents main - live_in contents r.stack) + ahead ≤ 2 * live_in contents main + 19
+    pub shadow_light : 3 * dead_in r.stack + (live_in contents main - live_in contents r.stack) + ahead ≤ live_in contents main
 
   -- no rebuild runs, and little is dead
   abbrev pub IsQuiet : Stacked P Item → Type 0
-  IsQuiet main = 2 * dead_in main ≤ live_in main + 16
+  IsQuiet main = 2 * dead_in main ≤ live_in contents main + 16
 
   -- an index that is ready for an update: memory is there for a delete and an insert, and while a rebuild runs it is four items ahead, and some are left
   pub record IsPrepared (i : Indexed P Item) : Type 0 where
     pub stocked : AreStocked 2 i.main i.shadow i.store
-    pub shadow : (r : Shadow P Item) → i.shadow ≡ Some r → IsInTime 4 i.main r × (1 ≤ live_in i.main - live_in r.stack)
+    pub shadow : (r : Shadow P Item) → i.shadow ≡ Some r → IsInTime 4 i.main r × (1 ≤ live_in contents i.main - live_in contents r.stack)
 
   -- What holds of an index between any two calls: the inequalities at the head of src/lib.rt.
   pub record IsIndex (i : Indexed P Item) : Type 0 where
@@ -200,27 +169,17 @@ module _ {P Item : Type 0} (contents : P → Contents Item) where
     pub memory : OwnsMemory i
 
   module _ (stamp : Item → ℕ) where
-    -- what a delete asks of a stack that has the item: a mark of each part up to the one in which it lives, and of each construction in which it comes to wait
-    abbrev pub asked_of : (Item → Item → Bool) → Item → Stacked P Item → ℕ
-    asked_of first x s = parts_asked contents stamp (stamp x) s.levels + noted first x contents stamp s.levels
-
     -- what a delete asks of both stacks: of the shadow where the item was handed over, since it stands before the cursor
     abbrev pub asked_of_both : (Item → Item → Bool) → Item → ℕ → List (Entry Item) → Indexed P Item → ℕ
-    asked_of_both first x handle es i = asked_of first x i.main
-        + option_map_or (λ r. if is_linked handle (before_cursor r.cursor es) then asked_of first x r.stack else 0) i.shadow 0
-
-    -- a shadow has the items of a chain before the cursor; those that are dead in it were before the cursor too
-    pub record IsShadowOf (r : Shadow P Item) (es : List (Entry Item)) (stamps : ℕ) : Type 0 where
-      pub cursor : IsCursor r.cursor es
-      pub live : Permuted (live_items contents r.stack.levels) (map (λ e. e.item) (before_cursor r.cursor es))
-      pub below : All (λ x. stamp x < stamp_at stamp r.cursor es stamps) (all_items contents r.stack.levels)
+    asked_of_both first x handle es i = asked_of contents stamp first x i.main
+        + option_map_or (λ r. if is_linked handle (before_cursor r.cursor es) then asked_of contents stamp first x r.stack else 0) i.shadow 0
 
     -- The index is that of the items of a chain, whose stamps rise: these are live in the main stack, and those before the cursor in the shadow. The
     -- stamps of all its items, dead ones included, are below a number.
     pub record IsIndexOf (i : Indexed P Item) (es : List (Entry Item)) (stamps : ℕ) : Type 0 where
       pub live : Permuted (live_items contents i.main.levels) (map (λ e. e.item) es)
       pub below : All (λ x. stamp x < stamps) (all_items contents i.main.levels)
-      pub shadow : (r : Shadow P Item) → i.shadow ≡ Some r → IsShadowOf r es stamps
+      pub shadow : (r : Shadow P Item) → i.shadow ≡ Some r → IsShadowOf contents stamp r es stamps
       pub rise : StampsRise stamp 0 es stamps
       pub differ : HandlesDiffer es
       pub few : length es < 2 ^ 29

@@ -6,7 +6,8 @@ use Rattle.builder_trait.specs.Parts.{Contents}
 use Rattle.log_levels.specs.Trades.{used_at, built_at, wanted_at}
 use Rattle.log_method.specs.Stack.{Stacked}
 use Rattle.log_method.specs.Retired.{used_of}
-use Rattle.global_rebuild.specs.Index.{Shadow, in_both, in_retired, live_in, IsSpare, IsCleared}
+use Rattle.chain_walk.specs.Walk.{Walked as Shadow, live_in}
+use Rattle.global_rebuild.specs.Index.{in_both, in_retired, IsSpare, IsCleared}
 use Rattle.global_rebuild.specs.Memory.{FreesOneAt}
 
 module _ {P Item : Type 0} where

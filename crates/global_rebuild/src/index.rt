@@ -4,22 +4,24 @@ ghost use Rattle.std.specs.Option.{option_map};
 ghost use Rattle.query_laws.specs.StepLedger.{Consults};
 ghost use Rattle.query_laws.specs.declared.item.Order.TheVariants.{First};
 ghost use Rattle.id_chain.specs.Chain.{Entry, HandlesDiffer, is_linked, item_at, after, first_or, IsCursor, before_cursor, without_handle};
+ghost use Rattle.id_chain.specs.StampsRise.{StampsRise};
 ghost use Rattle.log_levels.specs.Slots.{Slots};
 ghost use Rattle.log_levels.specs.Levels.{live_items, all_items, waiting_of, weight_of, parts_of, touches_of};
 ghost use Rattle.part_store.specs.Shelves.{one_if, kept_at, lent_at};
 ghost use Rattle.part_store.specs.Store.{kept_in, HasRooms, StocksUpTo};
-ghost use Rattle.log_levels.specs.Trades.{used_at, built_at, wanted_at};
+ghost use Rattle.log_levels.specs.Trades.{used_at, built_at, wanted_at, IsStocked};
 ghost use Rattle.log_method.specs.Retired.{used_of};
-ghost use Rattle.log_method.specs.Preparing.{AreKept, AreEnough, HasTaken, HasRoomsBelow};
+ghost use Rattle.log_method.specs.Preparing.{AreKept, AreEnough, HasTaken, HasRoomsBelow, LendsOnly};
 ghost use Rattle.log_method.specs.Few.{HaveFew};
 ghost use Rattle.log_method.specs.Height.{HaveAtMost, AreFew, size_of};
 ghost use Rattle.log_levels.specs.Cost.{IsWithin, quotas};
 ghost use Rattle.log_levels.specs.Towers.{AreOnTime, TakeTicks};
-ghost use Rattle.global_rebuild.specs.Index.{Shadow as Walked, live_in, renewed, unwalked, to_walk, shadow_weight, is_heavy, IsKept, IsInTime, IsIndex, IsIndexOf, IsPrepared, AreStocked, OwnsMemory, HoldsAsMuch, IsWalkedOn, HasPaused, FreesOne, IsCleared, Clears, in_both, in_retired, waiting_of_both, asked_of_both};
+ghost use Rattle.chain_walk.specs.Walk.{Walked, live_in, renewed, IsKept, IsWalkOf};
+ghost use Rattle.global_rebuild.specs.Index.{unwalked, to_walk, shadow_weight, is_heavy, IsQuiet, IsInTime, IsIndex, IsIndexOf, IsPrepared, AreStocked, OwnsMemory, HoldsAsMuch, IsWalkedOn, HasPaused, FreesOne, IsCleared, Clears, in_both, in_retired, waiting_of_both, asked_of_both};
 ghost use Rattle.global_rebuild.specs.Retiring.{with_retired, GivesBack, FreesSpare, FreesUnwanted, TakeMemory};
 
-use crate::shadow::Shadow;
 use builder_trait::{Answers, Asking, Builder, Part, Profiled};
+use chain_walk::{Walk, next_renewed};
 use id_chain::{Chain, Handle};
 use log_method::{Retired, Stack};
 use part_store::Store;
@@ -49,7 +51,7 @@ pub struct Index<B: Builder> {
     alloc: Global,
     store: Store<B>,
     main: Stack<B>,
-    shadow: Option<Shadow<B>>,
+    shadow: Option<Walk<B>>,
     retired: Vec<Retired<B>>,
 }
 
@@ -73,6 +75,25 @@ impl<B: Builder> Index<B> {
             alloc,
             store: Store::new(alloc),
             main: Stack::new(alloc),
+            shadow: None,
+            retired: Vec::new(alloc),
+        }
+    }
+
+    /// An index of a stack that has the items of a chain already, with the store that has its memory. No rebuild runs. It takes no memory.
+    pub fn adopt(alloc: Global, stack: Stack<B>, store: Store<B>) -> Index<B>
+        requires quiet { IsQuiet B.Part.Part.contents stack }
+        requires lent { LendsOnly stack.levels store }
+        requires few { (k : ℕ) → kept_at k store.builders + used_at k stack.levels ≤ 10 }
+        ensures adopted { result ≡ record { store = store; main = stack; shadow = None; retired = [] } }
+        ensures chain { (es : List (Entry B.Item)) (stamps : ℕ) → IsWalkOf B.Part.Part.contents B.Item.stamp (record { stack = stack; cursor = None }) es stamps
+            → StampsRise B.Item.stamp 0 es stamps → HandlesDiffer es → length es < 2 ^ 29 → IsIndexOf B.Part.Part.contents B.Item.stamp result es stamps }
+        ensures prepared { IsStocked stack.levels store 2 → IsPrepared B.Part.Part.contents result }
+    {
+        Index {
+            alloc,
+            store,
+            main: stack,
             shadow: None,
             retired: Vec::new(alloc),
         }
@@ -188,7 +209,7 @@ impl<B: Builder> Index<B> {
             if 2 * self.main.weight() > 3 * self.main.live() + 16 {
                 start(
                     &mut self.shadow,
-                    Shadow::new(self.alloc, first_but(chain, handle)),
+                    Walk::new(self.alloc, first_but(chain, handle)),
                 );
             }
             return;
@@ -240,7 +261,7 @@ impl<B: Builder> Index<B> {
             if 2 * self.main.weight() > 3 * self.main.live() + 16 {
                 start(
                     &mut self.shadow,
-                    Shadow::new(self.alloc, first_renewed(chain, handle)),
+                    Walk::new(self.alloc, first_renewed(chain, handle)),
                 );
             }
             return;
@@ -387,7 +408,7 @@ impl<B: Builder> Index<B> {
 /// Puts a shadow, where there is one, in the place of a stack, which is retired.
 fn swap<B: Builder>(
     main: &mut Stack<B>,
-    shadow: &mut Option<Shadow<B>>,
+    shadow: &mut Option<Walk<B>>,
     retired: &mut Vec<Retired<B>>,
 )
     requires room { length retired.old.items < vec_capacity retired.old }
@@ -410,7 +431,7 @@ fn swap<B: Builder>(
 /// `NoMemory` where some isn't given; what was taken is kept.
 fn settle<B: Builder>(
     main: &mut Stack<B>,
-    shadow: &mut Option<Shadow<B>>,
+    shadow: &mut Option<Walk<B>>,
     retired: &mut Vec<Retired<B>>,
     store: &mut Store<B>,
     alloc: Global,
@@ -456,7 +477,7 @@ fn give_back<B: Builder>(retired: &mut Vec<Retired<B>>, store: &mut Store<B>) ->
 }
 
 /// How many builders of a level both stacks have.
-fn used<B: Builder>(main: &Stack<B>, shadow: &Option<Shadow<B>>, level: u32) -> usize
+fn used<B: Builder>(main: &Stack<B>, shadow: &Option<Walk<B>>, level: u32) -> usize
     ensures value { result ≡ in_both (used_at level) main.now shadow.now }
     ensures few { result ≤ 10 }
 {
@@ -467,7 +488,7 @@ fn used<B: Builder>(main: &Stack<B>, shadow: &Option<Shadow<B>>, level: u32) -> 
 }
 
 /// How many builders of a level the next two ticks of both stacks may take.
-fn wanted<B: Builder>(main: &Stack<B>, shadow: &Option<Shadow<B>>, level: u32) -> usize
+fn wanted<B: Builder>(main: &Stack<B>, shadow: &Option<Walk<B>>, level: u32) -> usize
     ensures value { result ≡ in_both (wanted_at 2 level) main.now shadow.now }
 {
     match shadow {
@@ -477,7 +498,7 @@ fn wanted<B: Builder>(main: &Stack<B>, shadow: &Option<Shadow<B>>, level: u32) -
 }
 
 /// A number above every level of which the next two ticks of both stacks may take a builder.
-fn wanted_below<B: Builder>(main: &Stack<B>, shadow: &Option<Shadow<B>>) -> u32
+fn wanted_below<B: Builder>(main: &Stack<B>, shadow: &Option<Walk<B>>) -> u32
     ensures { (k : ℕ) → result ≤ k → in_both (wanted_at 2 k) main.now shadow.now ≡ 0 }
 {
     match shadow {
@@ -491,7 +512,7 @@ fn wanted_below<B: Builder>(main: &Stack<B>, shadow: &Option<Shadow<B>>) -> u32
 fn free_spare<B: Builder>(
     back: u32,
     main: &Stack<B>,
-    shadow: &Option<Shadow<B>>,
+    shadow: &Option<Walk<B>>,
     store: &mut Store<B>,
 )
     requires { (k : ℕ) → kept_at k store.old.builders + in_both (used_at k) main.now shadow.now ≤ 10 + one_if (k == back) }
@@ -512,11 +533,7 @@ fn free_spare<B: Builder>(
 
 /// The highest level of which something is kept, where that is above the greatest of an index of so many items, and more is kept than the
 /// next two ticks may take.
-fn too_high<B: Builder>(
-    main: &Stack<B>,
-    shadow: &Option<Shadow<B>>,
-    store: &Store<B>,
-) -> Option<u32>
+fn too_high<B: Builder>(main: &Stack<B>, shadow: &Option<Walk<B>>, store: &Store<B>) -> Option<u32>
     ensures high { IfSome result (λ level. 2 * live_in B.Part.Part.contents main.now + 10 < 2 ^ level) }
     ensures some { IfSome result (λ level. 0 < kept_in level store.now) }
     ensures unwanted { IfSome result (λ level. (in_both (wanted_at 2 level) main.now shadow.now ≡ 0)
@@ -540,7 +557,7 @@ fn too_high<B: Builder>(
 /// `NoMemory` where some isn't given; what was taken is kept.
 fn take_memory<B: Builder>(
     main: &mut Stack<B>,
-    shadow: &mut Option<Shadow<B>>,
+    shadow: &mut Option<Walk<B>>,
     store: &mut Store<B>,
     alloc: Global,
 ) -> Result<(), NoMemory>
@@ -560,7 +577,7 @@ fn take_memory<B: Builder>(
 }
 
 /// Makes the levels that the next two ticks of a shadow may want, where there is one.
-fn add_levels<B: Builder>(shadow: &mut Option<Shadow<B>>) -> Result<(), NoMemory>
+fn add_levels<B: Builder>(shadow: &mut Option<Walk<B>>) -> Result<(), NoMemory>
     ensures none { shadow.old ≡ None → shadow.new ≡ None }
     ensures some { (r : Walked B.Part B.Item) → shadow.old ≡ Some r → (r' : Walked B.Part B.Item) × (shadow.new ≡ Some r')
         × IsKept B.Part.Part.contents r r' × AreKept r.stack.levels r'.stack.levels }
@@ -579,7 +596,7 @@ fn add_levels<B: Builder>(shadow: &mut Option<Shadow<B>>) -> Result<(), NoMemory
 /// `NoMemory` where some isn't given; what was taken is kept.
 fn stock<B: Builder>(
     main: &Stack<B>,
-    shadow: &Option<Shadow<B>>,
+    shadow: &Option<Walk<B>>,
     store: &mut Store<B>,
     alloc: Global,
 ) -> Result<(), NoMemory>
@@ -597,7 +614,7 @@ fn stock<B: Builder>(
 /// `NoMemory` where some isn't given; what was taken is kept.
 fn stock_level<B: Builder>(
     main: &Stack<B>,
-    shadow: &Option<Shadow<B>>,
+    shadow: &Option<Walk<B>>,
     level: u32,
     store: &mut Store<B>,
     alloc: Global,
@@ -614,7 +631,7 @@ fn stock_level<B: Builder>(
 }
 
 /// Starts a rebuild, where none runs.
-fn start<B: Builder>(shadow: &mut Option<Shadow<B>>, fresh: Shadow<B>)
+fn start<B: Builder>(shadow: &mut Option<Walk<B>>, fresh: Walk<B>)
     requires none { shadow.old ≡ None }
     ensures started { shadow.new ≡ Some fresh }
 {
@@ -644,17 +661,6 @@ fn first_renewed<I: Copy>(chain: &Chain<I>, handle: Handle) -> Option<Handle>
 {
     match first_but(chain, handle) {
         Some(first) => Some(first),
-        None => Some(handle),
-    }
-}
-
-/// The item after one, or else the one that is put in its place.
-fn next_renewed<I: Copy>(chain: &Chain<I>, handle: Handle) -> Option<Handle>
-    requires { IsTrue (is_linked handle chain.now.entries) }
-    ensures { result ≡ first_or (after handle chain.now.entries) (Some handle) }
-{
-    match chain.next(handle) {
-        Some(next) => Some(next),
         None => Some(handle),
     }
 }

@@ -55,6 +55,5 @@
 #![tactic(auto)]
 
 mod index;
-mod shadow;
 
 pub use index::Index;

@@ -7,7 +7,8 @@ use Rattle.std.proofs.lemmas.Bool.{leb-true}
 use Rattle.builder_trait.specs.Parts.{Contents}
 use Rattle.part_store.specs.Shelves.{held_at}
 use Rattle.log_method.specs.Stack.{Stacked}
-use Rattle.global_rebuild.specs.Index.{Shadow, Indexed, live_in, unwalked, walked_on, HoldsAsMuch, HandsOver, IsWalkedOn, HasPaused, FreesOne, none, one}
+use Rattle.chain_walk.specs.Walk.{Walked as Shadow, live_in, HandsOver}
+use Rattle.global_rebuild.specs.Index.{Indexed, unwalked, walked_on, HoldsAsMuch, IsWalkedOn, HasPaused, FreesOne, none, one}
 use Rattle.layer_kinds.specs.declared.faults.UpdateFault.{UpdateFault}
 use Rattle.layer_kinds.specs.declared.faults.UpdateFault.TheVariants as faults
 use Rattle.layer_kinds.specs.Memory.{Memory, parts_of_level, memory_in, memories_of, KeepsAll, LosesOne, GoesOn, IsReadied, Each, KeepsMemory}

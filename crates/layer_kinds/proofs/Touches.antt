@@ -15,7 +15,8 @@ use Rattle.log_levels.specs.Slots.{Slots}
 use Rattle.log_levels.specs.Slots as slots
 use Rattle.log_levels.specs.Levels.{parts_of, live_items, touches_of}
 use Rattle.log_method.specs.Height.{HaveAtMost, AreFew, size_of}
-use Rattle.global_rebuild.specs.Index.{Indexed, IsIndexOf, live_in}
+use Rattle.chain_walk.specs.Walk.{live_in}
+use Rattle.global_rebuild.specs.Index.{Indexed, IsIndexOf}
 use Rattle.global_rebuild.proofs.Weights.{as_many}
 use Rattle.map_structures.specs.Touches.{PartTouches}
 use Rattle.map_structures.specs.Touches as kinds

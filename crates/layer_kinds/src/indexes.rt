@@ -5,7 +5,7 @@ mod has;
 ghost use Rattle.std.specs.Prelude.{◌≡◌, ℕ, ◌+◌, ◌*◌, ◌^◌, ◌<◌, ◌≤◌, ◌++◌, ◌∷◌, [], List, IsTrue, OnOk, length};
 ghost use Rattle.std.specs.Option.{is_some};
 ghost use Rattle.id_chain.specs.Chain.{Entry, HandlesDiffer, is_linked, without_handle};
-ghost use Rattle.global_rebuild.specs.Index.{renewed};
+ghost use Rattle.chain_walk.specs.Walk.{renewed};
 ghost use Rattle.layer_kinds.specs.Shares.{Rates, AreLow, count_of, CostsShares, prepare_turns, prepare_marks, insert_turns, insert_marks, delete_turns, delete_marks, move_turns, move_marks};
 ghost use Rattle.layer_kinds.specs.SharesLaws.{AreLow-one, AreLow-both};
 ghost use Rattle.layer_kinds.specs.Indexing.{rates_of, IsOf, IsReady};

@@ -6,7 +6,7 @@ use Rattle.query_laws.proofs.Permutations.{Permuted-append_comm, Permuted-filter
 use Rattle.builder_trait.specs.Parts.{Contents, without}
 use Rattle.log_levels.specs.Slots.{Slots, IsPartOf}
 use Rattle.log_levels.specs.Levels.{live_items, all_items, weight_of}
-use Rattle.global_rebuild.proofs.Walking.{All-part, below-appended}
+use Rattle.chain_walk.proofs.Walking.{All-part, below-appended}
 use Rattle.trials.specs.Stacks.{IsStackOf}
 
 module _ {P Item : Type 0} {contents : P → Contents Item} {stamp : Item → ℕ} {levels levels' : List (Slots P Item)} {items : List Item} where

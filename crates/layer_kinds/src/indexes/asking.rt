@@ -4,7 +4,7 @@ ghost use Rattle.query_laws.specs.StepLedger.{Consults};
 ghost use Rattle.id_chain.specs.Chain.{Entry};
 ghost use Rattle.log_levels.specs.Levels.{parts_of, touches_of};
 ghost use Rattle.log_method.specs.Height.{AreFew};
-ghost use Rattle.global_rebuild.specs.Index.{live_in};
+ghost use Rattle.chain_walk.specs.Walk.{live_in};
 ghost use Rattle.layer_kinds.specs.Indexing.{IsOf};
 ghost use Rattle.layer_kinds.specs.Layered.{IsAskRefusal};
 

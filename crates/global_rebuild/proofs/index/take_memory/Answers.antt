@@ -1,7 +1,7 @@
 use Rattle.std.proofs.Common.{◌≡◌, Some}
 use Rattle.log_method.specs.Few.{HaveFew}
 use Rattle.log_method.proofs.Forecasting.{when_ok}
-use Rattle.global_rebuild.specs.Index.{Shadow}
+use Rattle.chain_walk.specs.Walk.{Walked as Shadow}
 use Rattle.global_rebuild.proofs.Stocking.{stocked_both}
 use Rattle.global_rebuild.proofs.Taking.{IsKeptToo, same_too, takes-levels, takes-wanted}
 use Rattle.global_rebuild.proofs.index.take_memory.Given.{Over}

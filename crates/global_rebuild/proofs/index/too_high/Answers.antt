@@ -1,7 +1,8 @@
 use Rattle.std.proofs.Common.{ℕ, ◌+◌, ◌*◌, ◌^◌, ◌≤◌, ⊎_elim, inl, inr, pow_mono, arith}
 use Rattle.std.proofs.lemmas.Bool.{cases_lt}
 use Rattle.std.proofs.lemmas.Nat.{one_shl}
-use Rattle.global_rebuild.specs.Index.{live_in, IsCleared}
+use Rattle.chain_walk.specs.Walk.{live_in}
+use Rattle.global_rebuild.specs.Index.{IsCleared}
 use Rattle.global_rebuild.proofs.Freeing.{anyway_none}
 use Rattle.global_rebuild.proofs.index.too_high.Goals.{else-level-lt-BITS-via-then-level-lt-BITS+else-level-most, else-level-lt-BITS-via-else-level-lt-BITS}
 use Rattle.global_rebuild.proofs.index.too_high.Goals as goal

@@ -4,7 +4,7 @@ use Rattle.log_method.proofs.Forecasting.{when_ok}
 use Rattle.log_levels.specs.Levels.{live_items, parts_of}
 use Rattle.log_method.specs.Height.{AreFew}
 use Rattle.log_method.proofs.FewParts.{parts-small}
-use Rattle.global_rebuild.specs.Index.{live_in}
+use Rattle.chain_walk.specs.Walk.{live_in}
 use Rattle.global_rebuild.proofs.Weights.{as_many, main_within}
 use Rattle.global_rebuild.proofs.index.Index.ask.Goals as goal
 

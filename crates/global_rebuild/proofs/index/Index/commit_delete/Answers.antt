@@ -3,11 +3,13 @@ use Rattle.id_chain.specs.Chain.{is_linked, before_cursor}
 use Rattle.part_store.specs.Store.{KeepsBoth}
 use Rattle.log_levels.specs.Levels.{weight_of}
 use Rattle.log_levels.specs.Cost.{IsWithin, quotas}
-use Rattle.global_rebuild.specs.Index.{IsIndexOf, live_in, is_heavy}
-use Rattle.global_rebuild.proofs.Forgetting.{live_item}
+use Rattle.chain_walk.specs.Walk.{live_in}
+use Rattle.global_rebuild.specs.Index.{IsIndexOf, is_heavy}
+use Rattle.chain_walk.proofs.Forgetting.{live_item}
 use Rattle.global_rebuild.proofs.Stocking.{stocked_less, main_ticks, shadow_ticks}
 use Rattle.global_rebuild.proofs.Weights.{main_few, main_light}
-use Rattle.global_rebuild.proofs.Dropping.{is_over, IsDropped, few_left, walked_light, walked_few_enough, walked_item, starts, stays_quiet, in_order_at, goes_on_without, goes_on_moved, goes_on_after, left_without, left_after, one_delete, at_most_two, both_deletes}
+use Rattle.chain_walk.proofs.Renewing.{one_delete}
+use Rattle.global_rebuild.proofs.Dropping.{is_over, IsDropped, few_left, walked_light, walked_few_enough, walked_item, starts, stays_quiet, in_order_at, goes_on_without, goes_on_moved, goes_on_after, left_without, left_after, at_most_two, both_deletes}
 use Rattle.global_rebuild.proofs.index.Index.commit_delete.Given.{Over}
 use Rattle.global_rebuild.proofs.index.Index.commit_delete.Goals.{After-delete}
 use Rattle.global_rebuild.proofs.index.Index.commit_delete.Goals as goal

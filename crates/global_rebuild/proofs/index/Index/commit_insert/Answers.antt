@@ -6,7 +6,8 @@ use Rattle.log_levels.specs.Levels.{waiting_of}
 use Rattle.log_levels.specs.Trades.{Trades}
 use Rattle.log_method.specs.Stack.{Stacked, Inserts}
 use Rattle.global_rebuild.specs.Index.{Indexed, IsIndex}
-use Rattle.global_rebuild.proofs.Appending.{appended, last_item}
+use Rattle.chain_walk.proofs.Appending.{last_item}
+use Rattle.global_rebuild.proofs.Appending.{appended}
 use Rattle.global_rebuild.proofs.Stocking.{stocked_less, main_ticks}
 use Rattle.global_rebuild.proofs.Weights.{IsSoundOf, main_few, main_light}
 use Rattle.global_rebuild.proofs.index.Index.commit_insert.Given.{Over}

@@ -6,13 +6,16 @@ use Rattle.log_levels.specs.Levels.{all_items, weight_of}
 use Rattle.log_levels.specs.Cost.{IsWithin, quotas}
 use Rattle.log_levels.specs.Towers.{TakeTicks}
 use Rattle.log_levels.proofs.Spending.{IsWithin-more, IsWithin-then, below_power}
-use Rattle.global_rebuild.specs.Index.{live_in, is_heavy}
-use Rattle.global_rebuild.proofs.Forgetting.{live_item}
+use Rattle.chain_walk.specs.Walk.{live_in}
+use Rattle.global_rebuild.specs.Index.{is_heavy}
+use Rattle.chain_walk.proofs.Forgetting.{live_item}
 use Rattle.global_rebuild.proofs.Stocking.{stocked_less, main_ticks, main_ticks_again, shadow_ticks_after}
-use Rattle.global_rebuild.proofs.Walking.{All-part}
+use Rattle.chain_walk.proofs.Walking.{All-part}
 use Rattle.global_rebuild.proofs.Weights.{main_few, main_light}
-use Rattle.global_rebuild.proofs.Dropping.{is_over, IsDropped, walked_light, walked_few_enough, walked_item, one_delete}
-use Rattle.global_rebuild.proofs.Moving.{IsMoved, keeps_then, turns_rise, few_then, heavier, moved_quiet, moved_starts, moved_without, in_order_at, moved_at, moved_after, more_left, as_many_left}
+use Rattle.chain_walk.proofs.Renewing.{one_delete}
+use Rattle.global_rebuild.proofs.Dropping.{is_over, IsDropped, walked_light, walked_few_enough, walked_item}
+use Rattle.chain_walk.proofs.Renewing.{turns_rise}
+use Rattle.global_rebuild.proofs.Moving.{IsMoved, keeps_then, few_then, heavier, moved_quiet, moved_starts, moved_without, in_order_at, moved_at, moved_after, more_left, as_many_left}
 use Rattle.global_rebuild.proofs.index.Index.commit_move.Given.{Over}
 use Rattle.global_rebuild.proofs.index.Index.commit_move.Goals.{After-insert}
 use Rattle.global_rebuild.proofs.index.Index.commit_move.Goals as goal

@@ -2,7 +2,8 @@ use Rattle.std.proofs.Common.{rules, ◌≡◌, ℕ, ◌-◌, ◌*◌, min, None
 use Rattle.query_laws.specs.StepLedger.{Counts}
 use Rattle.log_levels.specs.Cost.{IsWithin, quotas}
 use Rattle.log_method.proofs.Forecasting.{when_ok}
-use Rattle.global_rebuild.specs.Index.{Shadow, IsIndex, AreStocked, OwnsMemory, FreesOne, Clears, to_walk}
+use Rattle.chain_walk.specs.Walk.{Walked as Shadow}
+use Rattle.global_rebuild.specs.Index.{IsIndex, AreStocked, OwnsMemory, FreesOne, Clears, to_walk}
 use Rattle.global_rebuild.specs.Retiring.{with_retired}
 use Rattle.global_rebuild.proofs.Freeing.{walked_frees, anyway_ok, anyway_err}
 use Rattle.global_rebuild.proofs.Swapping.{IsSwapped, ended, not_swapped, owns-swapped, settled_light, settled_light_too, as_far, IsMade, made}

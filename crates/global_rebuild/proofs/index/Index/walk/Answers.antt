@@ -1,7 +1,8 @@
 use Rattle.std.proofs.Common.{◌≡◌, ◌≢◌, ℕ, ◌-◌, ◌*◌, min, None, Some, ◌∙◌, ⊎_elim, ap, sym, subst, arith}
 use Rattle.log_levels.specs.Cost.{IsWithin, quotas}
 use Rattle.log_method.proofs.Forecasting.{when_ok}
-use Rattle.global_rebuild.specs.Index.{IsInTime, live_in, to_walk}
+use Rattle.chain_walk.specs.Walk.{live_in}
+use Rattle.global_rebuild.specs.Index.{IsInTime, to_walk}
 use Rattle.global_rebuild.proofs.Weights.{IsIndex-shadow, paused, as_many, walked_few, live-walked, shadow_light, shadow_within, in_time-ahead, in_time-walked}
 use Rattle.global_rebuild.proofs.Owning.{lent_to_shadow, owns-walked}
 use Rattle.global_rebuild.proofs.index.Index.walk.Given.{Over}
@@ -13,8 +14,8 @@ walk-requires-clause-light g c =
     let light = shadow_light (c.self.invariant.in_time c.in-Some.shadow c.in-Some.is) (omega (arith, as_many _ _ _ _ h, h.few)) in
     omega (arith, light, c.requires.few)
 
-pub walk-requires-clause-shadow : goal.walk-requires-clause-shadow
-walk-requires-clause-shadow g c =
+pub walk-requires-clause-chain : goal.walk-requires-clause-chain
+walk-requires-clause-chain g c =
     let h = rw (← c.self.view_is) at c.requires.chain.1 in (c.requires.chain.0, h.shadow c.in-Some.shadow c.in-Some.is, h.rise)
 
 pub walk-requires-clause-lent : goal.walk-requires-clause-lent
@@ -25,7 +26,7 @@ walked : (g : Over) (c : goal.After-walk g) → live_in g.B.Part.Part.contents c
     ≡ to_walk g.B.Part.Part.contents c.args.self.now - (live_in g.B.Part.Part.contents c.self.inside.main - live_in g.B.Part.Part.contents c.walk.new.self.stack)
 walked g c =
     let h = rw (← c.self.view_is) at c.requires.chain.1 in
-    let own = c.walk.ensures.shadow c.requires.chain.0 h.rise (h.shadow c.in-Some.shadow c.in-Some.is) in
+    let own = c.walk.ensures.chain c.requires.chain.0 h.rise (h.shadow c.in-Some.shadow c.in-Some.is) in
     rw (← c.self.view_is, c.in-Some.is) (omega (arith, live-walked _ _ _ _ h c.walk.new.self own, c.walk.ensures.handed.no_fewer))
 
 pub returns-clause-some_turns : goal.returns-clause-some_turns
@@ -48,7 +49,7 @@ returns-clause-paused g c = rw (← c.self.view_is) (paused _ _ c.in-Some.shadow
 pub returns-clause-in_time : goal.returns-clause-in_time
 returns-clause-in_time g c =
     let h = rw (← c.self.view_is) at c.requires.chain.1 in
-    let own = c.walk.ensures.shadow c.requires.chain.0 h.rise (h.shadow c.in-Some.shadow c.in-Some.is) in
+    let own = c.walk.ensures.chain c.requires.chain.0 h.rise (h.shadow c.in-Some.shadow c.in-Some.is) in
     let t = c.self.invariant.in_time c.in-Some.shadow c.in-Some.is in
     when_ok c.walk.result
     (λ taken r' is' going.
@@ -61,7 +62,7 @@ returns-clause-in_time g c =
 pub invariant_of-self-2 : goal.invariant_of-self-2
 invariant_of-self-2 g c =
     let h = rw (← c.self.view_is) at c.requires.chain.1 in
-    let own = c.walk.ensures.shadow c.requires.chain.0 h.rise (h.shadow c.in-Some.shadow c.in-Some.is) in
+    let own = c.walk.ensures.chain c.requires.chain.0 h.rise (h.shadow c.in-Some.shadow c.in-Some.is) in
     IsIndex-shadow _ _ c.walk.new.self c.walk.new.store c.self.invariant
     (in_time-walked (c.self.invariant.in_time c.in-Some.shadow c.in-Some.is) c.walk.ensures.handed (live-walked _ _ _ _ h c.walk.new.self own))
     (owns-walked c.self.invariant.memory c.in-Some.shadow c.in-Some.is c.walk.new.self c.walk.new.store c.tell_few.ensures c.walk.ensures.memory)

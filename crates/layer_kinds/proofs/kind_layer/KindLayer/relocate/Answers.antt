@@ -4,7 +4,7 @@ use Rattle.std.proofs.lemmas.List.{length-append}
 use Rattle.id_chain.specs.Chain.{HandlesDiffer}
 use Rattle.id_directory.specs.Directory.{handle_of, without, IdsDiffer}
 use Rattle.id_directory.proofs.Identifiers.{same_by_handle}
-use Rattle.global_rebuild.specs.Index.{renewed}
+use Rattle.chain_walk.specs.Walk.{renewed}
 use Rattle.map_model.specs.Cost.{Moves, greatest_level}
 use Rattle.layer_kinds.specs.declared.faults.UpdateFault.TheVariants as faults
 use Rattle.layer_kinds.specs.Shares.{count_of, IsShared, move_turns, move_marks}

@@ -1,19 +1,19 @@
-//! The stack that is being made.
-ghost use Rattle.std.specs.Prelude.{◌≡◌, ℕ, ◌+◌, ◌-◌, ◌*◌, ◌^◌, ◌<◌, ◌≤◌, [], None, ◌⊎◌, IfOk, IsTrue, Contains, true, false};
+//! The walk.
+ghost use Rattle.std.specs.Prelude.{◌≡◌, ℕ, ◌+◌, ◌-◌, ◌*◌, ◌^◌, ◌<◌, ◌≤◌, [], Some, None, ◌⊎◌, IfOk, IsTrue, Contains, true, false};
 ghost use Rattle.query_laws.specs.Permuted.{Permuted};
 ghost use Rattle.query_laws.specs.declared.item.Order.TheVariants.{First};
 ghost use Rattle.builder_trait.specs.Parts.{without};
-ghost use Rattle.id_chain.specs.Chain.{is_linked, IsCursor, before_cursor};
+ghost use Rattle.id_chain.specs.Chain.{is_linked, after, first_or, IsCursor, before_cursor};
 ghost use Rattle.id_chain.specs.StampsRise.{StampsRise};
 ghost use Rattle.log_levels.specs.Slots.{IsPartOf};
 ghost use Rattle.log_levels.specs.Levels.{weight_of, waiting_of, live_items, all_items};
 ghost use Rattle.log_levels.specs.Cost.{IsWithin, quotas};
-ghost use Rattle.log_levels.specs.Trades.{used_at, wanted_at, AreLent, Ticks};
+ghost use Rattle.log_levels.specs.Trades.{used_at, wanted_at, AreLent, IsStocked, Ticks};
 ghost use Rattle.log_method.specs.Stack.{MayTick, Deletes};
 ghost use Rattle.log_method.specs.Preparing.{AreKept, AreEnough};
 ghost use Rattle.log_method.specs.Few.{HaveFew};
-ghost use Rattle.global_rebuild.specs.Index.{live_in, IsKept, HandsOver, IsShadowOf, asked_of};
-ghost use Rattle.global_rebuild.specs.Memory.{LendsFew};
+ghost use Rattle.chain_walk.specs.Walk.{live_in, IsKept, HandsOver, IsWalkOf, asked_of};
+ghost use Rattle.chain_walk.specs.Memory.{LendsFew};
 
 use builder_trait::{Builder, Part};
 use id_chain::{Chain, Handle};
@@ -27,25 +27,25 @@ use std::sync::ledger::Ledger;
 
 /// A stack that gets the items of a chain, one after another, and where the next one is.
 #[derive(Drop)]
-pub struct Shadow<B: Builder> {
+pub struct Walk<B: Builder> {
     stack: Stack<B>,
     cursor: Option<Handle>,
 }
 
-impl<B: Builder> Model for Shadow<B> {
-    ghost use Rattle.global_rebuild.specs.Index.{Shadow as Walked};
+impl<B: Builder> Model for Walk<B> {
+    ghost use Rattle.chain_walk.specs.Walk.{Walked};
 
     ghost Value = { Walked B.Part B.Item };
 
     ghost view = { λ s. record { stack = s.stack; cursor = s.cursor } };
 }
 
-impl<B: Builder> Shadow<B> {
+impl<B: Builder> Walk<B> {
     /// An empty stack, and the walk at a cursor. It takes no memory.
-    pub fn new(alloc: Global, cursor: Option<Handle>) -> Shadow<B>
+    pub fn new(alloc: Global, cursor: Option<Handle>) -> Walk<B>
         ensures { result ≡ record { stack = record { levels = [] }; cursor = cursor } }
     {
-        Shadow {
+        Walk {
             stack: Stack::new(alloc),
             cursor,
         }
@@ -62,11 +62,11 @@ impl<B: Builder> Shadow<B> {
     ) -> Result<(), NoMemory>
         requires lent { AreLent self.old.stack.levels store.old }
         requires light { weight_of self.old.stack.levels < 2 ^ 31 }
-        requires shadow { (stamps : ℕ) × IsShadowOf B.Part.Part.contents B.Item.stamp self.old chain.now.entries stamps
+        requires chain { (stamps : ℕ) × IsWalkOf B.Part.Part.contents B.Item.stamp self.old chain.now.entries stamps
             × StampsRise B.Item.stamp 0 chain.now.entries stamps }
-        ensures shadow { (stamps : ℕ) → StampsRise B.Item.stamp 0 chain.now.entries stamps
-            → IsShadowOf B.Part.Part.contents B.Item.stamp self.old chain.now.entries stamps
-            → IsShadowOf B.Part.Part.contents B.Item.stamp self.new chain.now.entries stamps }
+        ensures chain { (stamps : ℕ) → StampsRise B.Item.stamp 0 chain.now.entries stamps
+            → IsWalkOf B.Part.Part.contents B.Item.stamp self.old chain.now.entries stamps
+            → IsWalkOf B.Part.Part.contents B.Item.stamp self.new chain.now.entries stamps }
         ensures ended { self.old.cursor ≡ None → self.new ≡ self.old }
         ensures memory { LendsFew self.old.stack.levels store.old self.new.stack.levels store.new }
         ensures taken { IfOk result (λ _. (self.new.cursor ≡ None) ⊎ (live_in B.Part.Part.contents self.new.stack
@@ -99,11 +99,11 @@ impl<B: Builder> Shadow<B> {
     ) -> Result<(), NoMemory>
         requires lent { AreLent self.old.stack.levels store.old }
         requires light { weight_of self.old.stack.levels + most ≤ 2 ^ 31 }
-        requires shadow { (stamps : ℕ) × IsShadowOf B.Part.Part.contents B.Item.stamp self.old chain.now.entries stamps
+        requires chain { (stamps : ℕ) × IsWalkOf B.Part.Part.contents B.Item.stamp self.old chain.now.entries stamps
             × StampsRise B.Item.stamp 0 chain.now.entries stamps }
-        ensures shadow { (stamps : ℕ) → StampsRise B.Item.stamp 0 chain.now.entries stamps
-            → IsShadowOf B.Part.Part.contents B.Item.stamp self.old chain.now.entries stamps
-            → IsShadowOf B.Part.Part.contents B.Item.stamp self.new chain.now.entries stamps }
+        ensures chain { (stamps : ℕ) → StampsRise B.Item.stamp 0 chain.now.entries stamps
+            → IsWalkOf B.Part.Part.contents B.Item.stamp self.old chain.now.entries stamps
+            → IsWalkOf B.Part.Part.contents B.Item.stamp self.new chain.now.entries stamps }
         ensures taken { IfOk result (λ _. (self.new.cursor ≡ None) ⊎ (live_in B.Part.Part.contents self.new.stack
             ≡ live_in B.Part.Part.contents self.old.stack + most)) }
         ensures handed { HandsOver B.Part.Part.contents most self.old self.new }
@@ -159,6 +159,17 @@ impl<B: Builder> Shadow<B> {
         ensures enough { IfOk result (λ _. weight_of self.new.stack.levels < 2 ^ 31 → AreEnough self.new.stack.levels) }
     {
         self.stack.add_levels()
+    }
+
+    /// Takes the memory that the next two ticks may want, where a store that serves no other stack doesn't keep it.
+    ///
+    /// `NoMemory` where some isn't given; what was taken is kept.
+    pub fn prepare(&mut self, store: &mut Store<B>) -> Result<(), NoMemory>
+        ensures kept { IsKept B.Part.Part.contents self.old self.new }
+        ensures memory { LendsFew self.old.stack.levels store.old self.new.stack.levels store.new }
+        ensures stocked { IfOk result (λ _. weight_of self.new.stack.levels < 2 ^ 31 → IsStocked self.new.stack.levels store.new 2) }
+    {
+        self.stack.prepare(store)
     }
 
     /// How many builders of a level the next two ticks may take.
@@ -224,5 +235,16 @@ impl<B: Builder> Shadow<B> {
             Some(at) => chain.item(handle).stamp() < chain.item(at).stamp(),
             None => true,
         }
+    }
+}
+
+/// The item after one, or else the one that is put in its place.
+pub fn next_renewed<I: Copy>(chain: &Chain<I>, handle: Handle) -> Option<Handle>
+    requires { IsTrue (is_linked handle chain.now.entries) }
+    ensures { result ≡ first_or (after handle chain.now.entries) (Some handle) }
+{
+    match chain.next(handle) {
+        Some(next) => Some(next),
+        None => Some(handle),
     }
 }

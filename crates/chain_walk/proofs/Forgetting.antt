@@ -1,4 +1,4 @@
--- A shadow beside a chain from which an item is to be unlinked.
+-- A walk along a chain from which an item is to be unlinked.
 use Rattle.std.proofs.Common.{◌≡◌, ◌≢◌, ℕ, suc, ◌+◌, ◌<◌, ◌≤◌, ◌==◌, ◌∙◌, true, false, not, List, [], ◌∷◌, ◌++◌, Option, Some, None, All, Contains, inl, inr, length, map, refl, sym, ap, subst, arith}
 use Rattle.std.specs.Option.{option_map_or}
 use Rattle.std.proofs.lemmas.Bool.{cases_eq}
@@ -16,8 +16,8 @@ use Rattle.id_chain.proofs.Cursors.{before-without, before_cursor_next, IsCursor
 use Rattle.log_levels.specs.Slots.{IsPartOf}
 use Rattle.log_levels.specs.Levels.{live_items, all_items}
 use Rattle.log_method.specs.Stack.{Stacked}
-use Rattle.global_rebuild.specs.Index.{Shadow, IsShadowOf, live_in, stamp_at}
-use Rattle.global_rebuild.proofs.Walking.{item_of, All-part, stamp_at-item, stamp_at-next}
+use Rattle.chain_walk.specs.Walk.{Walked, IsWalkOf, live_in, stamp_at}
+use Rattle.chain_walk.proofs.Walking.{item_of, All-part, stamp_at-item, stamp_at-next}
 
 module _ {Item : Type 0} where
   not_before_itself : (handle : ℕ) (es : List (Entry Item)) → is_linked handle (before handle es) ≡ false
@@ -107,19 +107,19 @@ module _ {Item : Type 0} (stamp : Item → ℕ) where
       rise_front stamp 0 (before at es) (record { handle = at; item = there.0 } ∷ after at es) stamps
       (subst (λ l. StampsRise stamp 0 l stamps) (split_at at there.0 es there.1) rise)
 
-module _ {P Item : Type 0} (contents : P → Contents Item) (stamp : Item → ℕ) (r : Shadow P Item) (es : List (Entry Item)) (stamps handle : ℕ) (item : Item)
-    (rise : StampsRise stamp 0 es stamps) (h : IsShadowOf contents stamp r es stamps) (is : item_at handle es ≡ Some item) where
-  -- the live items of the shadow without an item that was handed over
+module _ {P Item : Type 0} (contents : P → Contents Item) (stamp : Item → ℕ) (r : Walked P Item) (es : List (Entry Item)) (stamps handle : ℕ) (item : Item)
+    (rise : StampsRise stamp 0 es stamps) (h : IsWalkOf contents stamp r es stamps) (is : item_at handle es ≡ Some item) where
+  -- the live items of the stack without an item that was handed over
   without_walked : is_linked handle (before_cursor r.cursor es) ≡ true
       → without stamp (stamp item) (map item_of (before_cursor r.cursor es)) ≡ map item_of (without_handle handle (before_cursor r.cursor es))
   without_walked walked =
       let front = rise_walked stamp es stamps r.cursor rise h.cursor in
       items_without stamp handle 0 item (before_cursor r.cursor es) front.0 front.1 (item_at-walked handle es r.cursor walked ∙ is)
 
-  pub IsShadowOf-deleted : (stack : Stacked P Item) → is_linked handle (before_cursor r.cursor es) ≡ true
+  pub IsWalkOf-deleted : (stack : Stacked P Item) → is_linked handle (before_cursor r.cursor es) ≡ true
       → Permuted (live_items contents stack.levels) (without stamp (stamp item) (live_items contents r.stack.levels))
-      → IsPartOf (all_items contents stack.levels) (all_items contents r.stack.levels) → IsShadowOf contents stamp (record r { stack = stack }) (without_handle handle es) stamps
-  IsShadowOf-deleted stack walked live items =
+      → IsPartOf (all_items contents stack.levels) (all_items contents r.stack.levels) → IsWalkOf contents stamp (record r { stack = stack }) (without_handle handle es) stamps
+  IsWalkOf-deleted stack walked live items =
       let other = not_at handle es r.cursor walked in
       record {
         cursor = IsCursor-without handle es r.cursor other h.cursor;
@@ -130,17 +130,17 @@ module _ {P Item : Type 0} (contents : P → Contents Item) (stamp : Item → �
             (All-part (λ x. stamp x < stamp_at stamp r.cursor es stamps) (all_items contents stack.levels) (all_items contents r.stack.levels) items h.below);
       }
 
-  pub IsShadowOf-after : is_linked handle (before_cursor r.cursor es) ≡ false → r.cursor ≢ Some handle → IsShadowOf contents stamp r (without_handle handle es) stamps
-  IsShadowOf-after later other = record {
+  pub IsWalkOf-after : is_linked handle (before_cursor r.cursor es) ≡ false → r.cursor ≢ Some handle → IsWalkOf contents stamp r (without_handle handle es) stamps
+  IsWalkOf-after later other = record {
     cursor = IsCursor-without handle es r.cursor other h.cursor;
     live = subst (λ l. Permuted (live_items contents r.stack.levels) (map item_of l))
         (sym (before_cursor-without handle es r.cursor other ∙ without_handle-other handle (before_cursor r.cursor es) later)) h.live;
     below = subst (λ n. All (λ x. stamp x < n) (all_items contents r.stack.levels)) (sym (stamp_at-without handle es stamp stamps r.cursor other)) h.below;
   }
 
-  pub IsShadowOf-moved : HandlesDiffer es → r.cursor ≡ Some handle
-      → IsShadowOf contents stamp (record r { cursor = first_handle (after handle es) }) (without_handle handle es) stamps
-  IsShadowOf-moved differ at =
+  pub IsWalkOf-moved : HandlesDiffer es → r.cursor ≡ Some handle
+      → IsWalkOf contents stamp (record r { cursor = first_handle (after handle es) }) (without_handle handle es) stamps
+  IsWalkOf-moved differ at =
       let next = first_handle (after handle es) in
       let moved = next-without handle es differ in
       let later = stamp_at-next stamp handle stamps item es next rise is (IsCursor_next handle es next refl)

@@ -6,14 +6,14 @@ use Rattle.log_levels.specs.Levels.{live_items, all_items, weight_of}
 use Rattle.log_levels.specs.Cost.{IsWithin, quotas}
 use Rattle.log_levels.proofs.Spending.{IsWithin-more}
 use Rattle.log_method.proofs.Taking.{lent_prepared}
-use Rattle.global_rebuild.specs.Index.{live_in}
-use Rattle.global_rebuild.specs.Memory.{LendsFew}
-use Rattle.global_rebuild.proofs.Lending.{lends-none, lends-then, lends-prepared, lends-ticked}
-use Rattle.global_rebuild.proofs.Stocking.{ticks_less}
-use Rattle.global_rebuild.proofs.Walking.{IsShadowOf-next}
-use Rattle.global_rebuild.proofs.Weights.{handed_over}
-use Rattle.global_rebuild.proofs.shadow.Shadow.take_next.Given.{Over}
-use Rattle.global_rebuild.proofs.shadow.Shadow.take_next.Goals as goal
+use Rattle.chain_walk.specs.Walk.{live_in}
+use Rattle.chain_walk.specs.Memory.{LendsFew}
+use Rattle.chain_walk.proofs.Lending.{lends-none, lends-then, lends-prepared, lends-ticked}
+use Rattle.chain_walk.proofs.Stocking.{ticks_less}
+use Rattle.chain_walk.proofs.Walking.{IsWalkOf-next}
+use Rattle.chain_walk.proofs.Handing.{handed_over}
+use Rattle.chain_walk.proofs.walk.Walk.take_next.Given.{Over}
+use Rattle.chain_walk.proofs.walk.Walk.take_next.Goals as goal
 
 pub insert-requires-clause-ready : goal.insert-requires-clause-ready
 insert-requires-clause-ready g c =
@@ -62,10 +62,10 @@ returns-in_err-prepare-clause-handed g c =
     (omega (arith, same.weight, ap (λ r. weight_of r.stack.levels) c.self.view_is))
     (omega arith)
 
-pub returns-clause-shadow : goal.returns-clause-shadow
-returns-clause-shadow g c stamps rise h =
+pub returns-clause-chain : goal.returns-clause-chain
+returns-clause-chain g c stamps rise h =
     let contents = g.B.Part.Part.contents in
-    IsShadowOf-next contents g.B.Item.Item.stamp c.args.self.now (record { stack = c.insert.new.self; cursor = c.next-self-inside.result }) c.args.chain.now.entries
+    IsWalkOf-next contents g.B.Item.Item.stamp c.args.self.now (record { stack = c.insert.new.self; cursor = c.next-self-inside.result }) c.args.chain.now.entries
     stamps c.in-Some.handle c.item.result rise h (sym (ap (λ r. r.cursor) c.self.view_is) ∙ c.in-Some.is) c.item.ensures.item c.next-self-inside.ensures.linked
     (c.next-self-inside.ensures.before ∙ c.item.ensures.up_to)
     (subst (λ l. Permuted (live_items contents c.insert.new.self.levels) (c.item.result ∷ l)) (c.in_ok-prepare.ensures.same.live ∙ ap (λ r. live_items contents r.stack.levels) c.self.view_is) c.insert.ensures.inserts.live)

@@ -2,9 +2,9 @@ use Rattle.std.proofs.Common.{◌≡◌, ℕ, ◌+◌, ◌-◌, ◌*◌, ◌≤�
 use Rattle.log_levels.specs.Cost.{IsWithin, quotas}
 use Rattle.query_laws.specs.StepLedger.{Counts}
 use Rattle.log_levels.proofs.Spending.{IsWithin-ticks}
-use Rattle.global_rebuild.proofs.Lending.{lends-then, lent_after}
-use Rattle.global_rebuild.proofs.Weights.{handed_then, lighter}
-use Rattle.global_rebuild.proofs.shadow.Shadow.walk.Goals as goal
+use Rattle.chain_walk.proofs.Lending.{lends-then, lent_after}
+use Rattle.chain_walk.proofs.Handing.{handed_then, lighter}
+use Rattle.chain_walk.proofs.walk.Walk.walk.Goals as goal
 
 -- some items are handed over, and then some more
 within_then : (l m n turns marks : ℕ) {touches : ℕ} {old mid new : Counts} → l ≤ m → m ≤ n → IsWithin ((m - l) * turns) ((m - l) * marks) touches old mid
@@ -21,7 +21,7 @@ loop-taken-preserved g c =
     let before = c.loop-taken.invariant in
     let e = c.take_next.ensures in
     record {
-      shadow = λ stamps rise h. e.shadow stamps rise (before.shadow stamps rise h);
+      chain = λ stamps rise h. e.chain stamps rise (before.chain stamps rise h);
       taken = ⊎_elim (λ none. inl (ap (λ r. r.cursor) (e.ended none) ∙ none))
           (λ so_far. ⊎_elim (λ none. inl none) (λ one. inr (omega (arith, one, so_far))) c.in_ok-take_next.ensures.taken) before.taken;
       handed = handed_then before.handed e.handed (omega arith);

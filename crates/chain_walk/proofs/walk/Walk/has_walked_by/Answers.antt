@@ -1,7 +1,7 @@
 use Rattle.std.proofs.Common.{◌∙◌, nat_lt, sym, ap, ap₂}
 use Rattle.id_chain.specs.Chain.{is_linked, before_cursor}
 use Rattle.id_chain.proofs.Stamps.{is_before-by_stamp}
-use Rattle.global_rebuild.proofs.shadow.Shadow.has_walked_by.Goals as goal
+use Rattle.chain_walk.proofs.walk.Walk.has_walked_by.Goals as goal
 
 pub returns-in-Some : goal.returns-in-Some
 returns-in-Some g c =

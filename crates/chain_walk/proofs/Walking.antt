@@ -16,7 +16,7 @@ use Rattle.builder_trait.specs.Parts.{Contents}
 use Rattle.log_levels.specs.Slots.{IsPartOf}
 use Rattle.log_levels.specs.Levels.{live_items, all_items}
 use Rattle.log_levels.proofs.Marks.{All-first}
-use Rattle.global_rebuild.specs.Index.{Shadow, IsShadowOf, stamp_at}
+use Rattle.chain_walk.specs.Walk.{Walked, IsWalkOf, stamp_at}
 
 abbrev pub item_of : {Item : Type 0} → Entry Item → Item
 item_of e = e.item
@@ -70,13 +70,13 @@ module _ {Item : Type 0} (stamp : Item → ℕ) where
       (All-cons (λ x. stamp x < high) item ys less (λ k d within. let old = each k d within in omega (arith, old, later, less)))
 
 module _ {P Item : Type 0} (contents : P → Contents Item) (stamp : Item → ℕ) where
-  -- the shadow takes the item at the cursor
-  pub IsShadowOf-next : (r r' : Shadow P Item) (es : List (Entry Item)) (stamps handle : ℕ) (item : Item) → StampsRise stamp 0 es stamps
-      → IsShadowOf contents stamp r es stamps → r.cursor ≡ Some handle → item_at handle es ≡ Some item → IsCursor r'.cursor es
+  -- the stack takes the item at the cursor
+  pub IsWalkOf-next : (r r' : Walked P Item) (es : List (Entry Item)) (stamps handle : ℕ) (item : Item) → StampsRise stamp 0 es stamps
+      → IsWalkOf contents stamp r es stamps → r.cursor ≡ Some handle → item_at handle es ≡ Some item → IsCursor r'.cursor es
       → before_cursor r'.cursor es ≡ before handle es ++ record { handle = handle; item = item } ∷ []
       → Permuted (live_items contents r'.stack.levels) (item ∷ live_items contents r.stack.levels)
-      → IsPartOf (all_items contents r'.stack.levels) (item ∷ all_items contents r.stack.levels) → IsShadowOf contents stamp r' es stamps
-  IsShadowOf-next r r' es stamps handle item rise h at is cursor walked live items =
+      → IsPartOf (all_items contents r'.stack.levels) (item ∷ all_items contents r.stack.levels) → IsWalkOf contents stamp r' es stamps
+  IsWalkOf-next r r' es stamps handle item rise h at is cursor walked live items =
       let later = stamp_at-next stamp handle stamps item es r'.cursor rise is cursor walked in
       let here = stamp_at-item stamp r.cursor handle item es stamps at is in
       record {

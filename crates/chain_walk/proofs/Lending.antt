@@ -6,7 +6,7 @@ use Rattle.log_levels.specs.Trades.{wanted_at, AreLent, Trades}
 use Rattle.log_method.specs.Few.{HaveFew}
 use Rattle.log_method.specs.Preparing.{AreKept, HasTaken}
 use Rattle.log_method.proofs.Taking.{used_kept, built_kept}
-use Rattle.global_rebuild.specs.Memory.{LendsFew}
+use Rattle.chain_walk.specs.Memory.{LendsFew}
 
 module _ {P Item : Type 0} where
   pub lends-none : (levels : List (Slots P Item)) (store : Stored) → LendsFew levels store levels store

@@ -1,0 +1,149 @@
+-- A late index that gets the items of a chain.
+use Rattle.std.proofs.Common.{◌≡◌, ◌≢◌, ℕ, ◌+◌, ◌-◌, ◌*◌, ◌^◌, ◌<◌, ◌≤◌, ◌⊎◌, ⊎_elim, List, [], ◌∷◌, ◌++◌, Option, Some, None, length, map, refl, sym, ap, subst, arith}
+use Rattle.std.proofs.lemmas.List.{length-append}
+use Rattle.std.proofs.lemmas.List.Elements.{All-nil}
+use Rattle.query_laws.specs.Permuted.{Permuted, nothing}
+use Rattle.builder_trait.specs.Parts.{Contents}
+use Rattle.id_chain.specs.Chain.{Entry, HandlesDiffer, IsCursor, before_cursor}
+use Rattle.id_chain.specs.StampsRise.{StampsRise}
+use Rattle.id_chain.proofs.Stamps.{StampsRise-append}
+use Rattle.part_store.specs.Store.{Stored}
+use Rattle.log_levels.specs.Levels.{weight_of}
+use Rattle.log_levels.specs.Trades.{AreLent}
+use Rattle.log_method.specs.Stack.{Stacked}
+use Rattle.chain_walk.specs.Walk.{Walked, IsWalkOf, IsKept, HandsOver, live_in, stamp_at}
+use Rattle.chain_walk.specs.Memory.{LendsFew}
+use Rattle.chain_walk.proofs.Walking.{item_of}
+use Rattle.chain_walk.proofs.Handing.{few_before, as_walked}
+use Rattle.chain_walk.proofs.Appending.{IsWalkOf-appended}
+use Rattle.late_index.specs.Late.{LateState, goal_of, OwnsMemory, IsShortOf, IsPrepared, IsLateOf}
+
+module _ {P Item : Type 0} {contents : P → Contents Item} {stamp : Item → ℕ} where
+  module _ {l : LateState P Item} {es : List (Entry Item)} {stamps : ℕ} (h : IsLateOf contents stamp l es stamps) where
+    -- the stack weighs a third more than all items at most
+    pub weighs : 3 * weight_of l.walk.stack.levels ≤ 4 * length es
+    weighs = omega (arith, h.light, h.at_least)
+
+    pub light : weight_of l.walk.stack.levels + 4 ≤ 2 ^ 31
+    light = omega (arith, weighs, h.few)
+
+    pub light_within : (g : ℕ) → 2 * length es + 10 < 2 ^ (g + 1) → weight_of l.walk.stack.levels < 2 ^ (g + 1)
+    light_within g few = omega (arith, weighs, few)
+
+    -- where the walk hasn't ended, some items wait in the next update
+    pub some_wait : IsPrepared contents l es → l.walk.cursor ≢ None → 1 ≤ goal_of l
+    some_wait p going = elim (few_before l.walk.cursor es h.walk.cursor) [
+      | inl all ↦ absurd (going all.0)
+      | inr some ↦ omega (arith, as_walked contents stamp l.walk es h.walk, some.1, p.short)
+    ]
+
+    -- where it has, all items are in the stack
+    pub all_walked : l.walk.cursor ≡ None → live_in contents l.walk.stack ≡ length es
+    all_walked ended = elim (few_before l.walk.cursor es h.walk.cursor) [
+      | inl all ↦ omega (arith, as_walked contents stamp l.walk es h.walk, all.1)
+      | inr some ↦ absurd (some.0 ended)
+    ]
+
+    -- the walk goes on, no further than the goal
+    pub walks : (r' : Walked P Item) (store : Stored) {most : ℕ} → IsWalkOf contents stamp r' es stamps → HandsOver contents most l.walk r'
+        → live_in contents l.walk.stack + most + goal_of l ≡ length es → IsLateOf contents stamp (record { store = store; walk = r'; waiting = l.waiting }) es stamps
+    walks r' store own handed far = record {
+      walk = own;
+      at_most = omega (arith, h.at_most, handed.no_fewer);
+      at_least = omega (arith, handed.at_most, far);
+      light = omega (arith, h.light, handed.weight, handed.no_fewer);
+      rise = h.rise;
+      differ = h.differ;
+      few = h.few;
+    }
+
+  -- a walk that took as many as it was to, or came past the end, is at the goal
+  pub reaches : {l' : LateState P Item} {es : List (Entry Item)} {stamps live most : ℕ} → IsLateOf contents stamp l' es stamps
+      → (l'.walk.cursor ≡ None) ⊎ (live_in contents l'.walk.stack ≡ live + most) → live + most + goal_of l' ≡ length es
+      → IsShortOf contents (goal_of l') l' es
+  reaches h taken far =
+      ⊎_elim (λ none. omega (arith, all_walked h none, h.at_least)) (λ all. omega (arith, all, far)) taken
+
+  -- memory is taken
+  pub kept : {r r' : Walked P Item} {es : List (Entry Item)} {stamps : ℕ} → IsKept contents r r' → IsWalkOf contents stamp r es stamps
+      → IsWalkOf contents stamp r' es stamps
+  kept {r} {r'} {es} {stamps} k h = record {
+    cursor = subst (λ c. IsCursor c es) (sym k.cursor) h.cursor;
+    live = rw (k.live, k.cursor) h.live;
+    below = rw (k.items, k.cursor) h.below;
+  }
+
+  pub handed_kept : {r r' r'' : Walked P Item} {most : ℕ} → HandsOver contents most r r' → IsKept contents r' r'' → HandsOver contents most r r''
+  handed_kept h k = record {
+    no_fewer = omega (arith, h.no_fewer, ap length k.live);
+    at_most = omega (arith, h.at_most, ap length k.live);
+    weight = omega (arith, h.weight, ap length k.live, k.weight);
+  }
+
+  -- as many at most
+  pub handed_more : {r r' : Walked P Item} {few most : ℕ} → few ≤ most → HandsOver contents few r r' → HandsOver contents most r r'
+  handed_more less h = record { no_fewer = h.no_fewer; at_most = omega (arith, h.at_most, less); weight = h.weight }
+
+  -- the walk starts
+  pub starts : (es : List (Entry Item)) (stamps : ℕ) (cursor : Option ℕ) → IsCursor cursor es → before_cursor cursor es ≡ [] → HandlesDiffer es
+      → length es < 2 ^ 29 → StampsRise stamp 0 es stamps
+      → IsLateOf contents stamp (record {
+        store = record { builders = []; tables = [] };
+        walk = record { stack = record { levels = [] }; cursor = cursor };
+        waiting = length es;
+      }) es stamps
+  starts es stamps cursor at first differ few rise = record {
+    walk = record {
+      cursor = at;
+      live = subst (λ l. Permuted [] (map item_of l)) (sym first) nothing;
+      below = All-nil (λ x. stamp x < stamp_at stamp cursor es stamps);
+    };
+    at_most = omega arith;
+    at_least = omega arith;
+    light = omega arith;
+    rise = rise;
+    differ = differ;
+    few = few;
+  }
+
+  -- an item is appended
+  pub appends : (l : LateState P Item) (front : List (Entry Item)) (e : Entry Item) → l.walk.cursor ≢ None → HandlesDiffer (front ++ e ∷ [])
+      → length (front ++ e ∷ []) < 2 ^ 29 → IsPrepared contents l front → IsLateOf contents stamp l front (stamp e.item)
+      → IsLateOf contents stamp (record l { waiting = goal_of l + 1 }) (front ++ e ∷ []) (stamp e.item + 1)
+  appends l front e going differ few p h =
+      let more = length-append front (e ∷ []) in
+      let some = some_wait h p going in
+      record {
+        walk = at l.walk.cursor refl;
+        at_most = omega (arith, more, p.short);
+        at_least = omega (arith, more, p.short);
+        light = omega (arith, more, some, h.light);
+        rise = StampsRise-append stamp 0 front (stamp e.item) e (omega arith) h.rise;
+        differ = differ;
+        few = few;
+      }
+    where
+      at : (cursor : Option ℕ) → l.walk.cursor ≡ cursor → IsWalkOf contents stamp l.walk (front ++ e ∷ []) (stamp e.item + 1)
+      at None ended = absurd (going ended)
+      at (Some handle) stands = IsWalkOf-appended contents stamp l.walk front e handle stands h.walk
+
+  pub short_appended : (l : LateState P Item) (front : List (Entry Item)) (e : Entry Item) → IsPrepared contents l front
+      → IsShortOf contents (goal_of l + 1) l (front ++ e ∷ [])
+  short_appended l front e p = omega (arith, length-append front (e ∷ []), p.short)
+
+pub owns_none : {P Item : Type 0} → OwnsMemory {P = P} {Item = Item} (record { levels = [] }) (record { builders = []; tables = [] })
+owns_none = record { lends = record { builders = λ k. refl; tables = λ k. refl }; few = λ k. omega arith }
+
+module _ {P Item : Type 0} {stack : Stacked P Item} {store : Stored} (o : OwnsMemory stack store) where
+  pub lent : AreLent stack.levels store
+  lent = record { builders = λ k. omega (arith, o.lends.builders k); tables = λ k. omega (arith, o.lends.tables k) }
+
+  -- the stack takes items, and memory is taken for it
+  pub owns_more : (stack' : Stacked P Item) (store' : Stored) → LendsFew stack.levels store stack'.levels store' → OwnsMemory stack' store'
+  owns_more stack' store' m = record {
+    lends = record {
+      builders = λ k. omega (arith, o.lends.builders k, m.lent k);
+      tables = λ k. omega (arith, o.lends.tables k, m.lent_tables k);
+    };
+    few = λ k. omega (arith, o.few k, m.few k);
+  }

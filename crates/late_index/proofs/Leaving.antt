@@ -1,0 +1,229 @@
+-- A late index beside a chain from which an item goes, or in which another one is put in its place.
+use Rattle.std.proofs.Common.{◌≡◌, ◌≢◌, ℕ, ◌+◌, ◌-◌, ◌*◌, ◌^◌, ◌<◌, ◌≤◌, ◌∙◌, ◌⊎◌, Bool, true, false, List, [], ◌∷◌, Option, Some, None, inl, inr, length, refl, sym, ap, subst, arith}
+use Rattle.std.proofs.lemmas.Bool.{cases_eq}
+use Rattle.std.proofs.lemmas.List.{length-append}
+use Rattle.builder_trait.specs.Parts.{Contents}
+use Rattle.id_chain.specs.Chain.{Entry, is_linked, item_at, after, first_handle, first_or, before_cursor, without_handle}
+use Rattle.id_chain.proofs.Stamps.{StampsRise-append}
+use Rattle.part_store.specs.Store.{Stored}
+use Rattle.log_levels.specs.Levels.{live_items, weight_of}
+use Rattle.log_levels.specs.Trades.{Trades, IsStocked}
+use Rattle.log_method.specs.Stack.{Stacked, Deletes, MayTick}
+use Rattle.chain_walk.specs.Walk.{Walked, IsWalkOf, live_in, renewed}
+use Rattle.chain_walk.proofs.Forgetting.{length-without_handle, IsWalkOf-deleted, IsWalkOf-moved, IsWalkOf-after, one_fewer}
+use Rattle.chain_walk.proofs.Appending.{IsWalkOf-appended}
+use Rattle.chain_walk.proofs.Stocking.{ticks_less}
+use Rattle.chain_walk.proofs.Renewing.{HandlesDiffer-without, rise_without, renewed_differ, renewed_at}
+use Rattle.late_index.specs.Late.{LateState, goal_of, OwnsMemory, IsShortOf, IsPrepared, IsLateOf, LetsGo}
+use Rattle.late_index.proofs.Catching.{lent, some_wait}
+
+-- it has memory for a tick
+pub ticks : {P Item : Type 0} {stack : Stacked P Item} {store : Stored} → OwnsMemory stack store → IsStocked stack.levels store 2
+    → weight_of stack.levels < 2 ^ 31 → MayTick stack.levels store
+ticks o stocked few = record { stocked = ticks_less _ _ stocked; lent = lent o; light = few }
+
+-- what is lent after a tick
+pub owns_ticked : {P Item : Type 0} {stack : Stacked P Item} {store : Stored} (stack' : Stacked P Item) (store' : Stored) → OwnsMemory stack store
+    → Trades stack.levels store stack'.levels store' → OwnsMemory stack' store'
+owns_ticked stack' store' o t = record {
+  lends = record {
+    builders = λ k. omega (arith, o.lends.builders k, t.builders k);
+    tables = λ k. omega (arith, o.lends.tables k, t.tables k);
+  };
+  few = λ k. omega (arith, o.few k, t.builders k, t.keeps.builders k);
+}
+
+at_or_not : (cursor : Option ℕ) (handle : ℕ) → (cursor ≡ Some handle) ⊎ (cursor ≢ Some handle)
+at_or_not None handle = inr (λ none. absurd cc)
+at_or_not (Some at) handle = elim (cases_eq at handle) [ inl same ↦ inl (ap Some same) | inr apart ↦ inr (λ same. apart cc) ]
+
+-- an item that wasn't handed over leaves the stack as it is
+pub stays : {P Item : Type 0} {contents : P → Contents Item} {stamp : Item → ℕ} {handle : ℕ} {gone : Item} {next : Option ℕ} {es : List (Entry Item)} {was : Bool}
+    {r r' : Walked P Item} → LetsGo contents stamp handle gone next es was r r' → was ≡ false → r'.stack ≡ r.stack
+stays {handle = handle} {r = r} o no = elim (at_or_not r.cursor handle) [
+  | inl at ↦ ap (λ x. x.stack) (o.at no at)
+  | inr other ↦ ap (λ x. x.stack) (o.elsewhere no other)
+]
+
+-- a prepared late index that hasn't ended, and an item of its chain
+pub record IsLeft {P Item : Type 0} (contents : P → Contents Item) (stamp : Item → ℕ) (l : LateState P Item) (es : List (Entry Item)) (stamps handle : ℕ)
+    (gone : Item) : Type 0 where
+  pub late : IsLateOf contents stamp l es stamps
+  pub prepared : IsPrepared contents l es
+  pub going : l.walk.cursor ≢ None
+  pub linked : is_linked handle es ≡ true
+  pub is : item_at handle es ≡ Some gone
+
+module _ {P Item : Type 0} {contents : P → Contents Item} {stamp : Item → ℕ} {l : LateState P Item} {es : List (Entry Item)} {stamps handle : ℕ} {gone : Item}
+    (f : IsLeft contents stamp l es stamps handle gone) where
+  abbrev others : List (Entry Item)
+  others = without_handle handle es
+
+  fewer : length others + 1 ≡ length es
+  fewer = length-without_handle handle es f.linked
+
+  -- the late index of the others, with another walk and as many that wait
+  others_of : (r' : Walked P Item) (store : Stored) (waiting : ℕ) → IsWalkOf contents stamp r' others stamps
+      → live_in contents r'.stack + waiting ≡ length others
+      → 3 * (weight_of r'.stack.levels - live_in contents r'.stack) + waiting ≤ length others
+      → IsLateOf contents stamp (record { store = store; walk = r'; waiting = waiting }) others stamps
+  others_of r' store waiting own short light = record {
+    walk = own;
+    at_most = omega (arith, short);
+    at_least = omega (arith, short);
+    light = light;
+    rise = rise_without handle gone es f.is stamp stamps f.late.rise;
+    differ = HandlesDiffer-without handle gone es f.is f.late.differ;
+    few = omega (arith, fewer, f.late.few);
+  }
+
+  one_less : (r' : Walked P Item) → is_linked handle (before_cursor l.walk.cursor es) ≡ true
+      → Deletes contents stamp (stamp gone) l.walk.stack.levels r'.stack.levels → live_in contents r'.stack + 1 ≡ live_in contents l.walk.stack
+  one_less r' walked d =
+      one_fewer contents stamp l.walk es stamps handle gone f.late.rise f.late.walk f.is (live_items contents r'.stack.levels) walked d.live
+
+  walk_deleted : (r' : Walked P Item) → r'.cursor ≡ l.walk.cursor → is_linked handle (before_cursor l.walk.cursor es) ≡ true
+      → Deletes contents stamp (stamp gone) l.walk.stack.levels r'.stack.levels → IsWalkOf contents stamp r' others stamps
+  walk_deleted r' same walked d =
+      subst (λ k. IsWalkOf contents stamp (record { stack = r'.stack; cursor = k }) others stamps) (sym same)
+      (IsWalkOf-deleted contents stamp l.walk es stamps handle gone f.late.rise f.late.walk f.is r'.stack walked d.live d.items)
+
+  -- how many are in the stack and wait then
+  pub short_deleted : (r' : Walked P Item) → is_linked handle (before_cursor l.walk.cursor es) ≡ true
+      → Deletes contents stamp (stamp gone) l.walk.stack.levels r'.stack.levels → live_in contents r'.stack + goal_of l ≡ length others
+  short_deleted r' walked d = omega (arith, fewer, f.prepared.short, one_less r' walked d)
+
+  pub short_left : live_in contents l.walk.stack + (goal_of l - 1) ≡ length others
+  short_left = omega (arith, fewer, f.prepared.short, some_wait f.late f.prepared f.going)
+
+  -- it is deleted from the stack
+  pub deleted : (r' : Walked P Item) (store : Stored) → r'.cursor ≡ l.walk.cursor → is_linked handle (before_cursor l.walk.cursor es) ≡ true
+      → Deletes contents stamp (stamp gone) l.walk.stack.levels r'.stack.levels
+      → IsLateOf contents stamp (record { store = store; walk = r'; waiting = goal_of l }) others stamps
+  deleted r' store same walked d =
+      others_of r' store (goal_of l) (walk_deleted r' same walked d) (short_deleted r' walked d)
+      (omega (arith, fewer, f.late.light, one_less r' walked d, d.weight, some_wait f.late f.prepared f.going))
+
+  light_left : 3 * (weight_of l.walk.stack.levels - live_in contents l.walk.stack) + (goal_of l - 1) ≤ length others
+  light_left = omega (arith, fewer, f.late.light, some_wait f.late f.prepared f.going)
+
+  -- the cursor was at it, and goes on
+  pub left_at : l.walk.cursor ≡ Some handle → (store : Stored)
+      → IsLateOf contents stamp (record {
+        store = store;
+        walk = record { stack = l.walk.stack; cursor = first_handle (after handle es) };
+        waiting = goal_of l - 1;
+      }) others stamps
+  left_at at store =
+      others_of (record { stack = l.walk.stack; cursor = first_handle (after handle es) }) store (goal_of l - 1)
+      (IsWalkOf-moved contents stamp l.walk es stamps handle gone f.late.rise f.late.walk f.is f.late.differ at) short_left light_left
+
+  -- it comes after the cursor
+  pub left_after : is_linked handle (before_cursor l.walk.cursor es) ≡ false → l.walk.cursor ≢ Some handle → (store : Stored)
+      → IsLateOf contents stamp (record { store = store; walk = l.walk; waiting = goal_of l - 1 }) others stamps
+  left_after later other store =
+      others_of l.walk store (goal_of l - 1) (IsWalkOf-after contents stamp l.walk es stamps handle gone f.late.rise f.late.walk f.is later other) short_left light_left
+
+  -- what was let go of is gone
+  module _ (r' : Walked P Item) (store : Stored) {was : Bool} (o : LetsGo contents stamp handle gone (first_handle (after handle es)) es was l.walk r') where
+    pub dropped_walked : was ≡ true → IsLateOf contents stamp (record { store = store; walk = r'; waiting = goal_of l }) others stamps
+    dropped_walked yes = deleted r' store (o.deleted yes).0 (sym o.handed_over ∙ yes) (o.deleted yes).1
+
+    pub short_walked : was ≡ true → live_in contents r'.stack + goal_of l ≡ length others
+    short_walked yes = short_deleted r' (sym o.handed_over ∙ yes) (o.deleted yes).1
+
+    pub short_other : was ≡ false → live_in contents r'.stack + (goal_of l - 1) ≡ length others
+    short_other no = rw (stays o no) short_left
+
+    pub dropped_other : was ≡ false → IsLateOf contents stamp (record { store = store; walk = r'; waiting = goal_of l - 1 }) others stamps
+    dropped_other no = elim (at_or_not l.walk.cursor handle) [
+      | inl at ↦ rw (o.at no at) (left_at at store)
+      | inr other ↦ rw (o.elsewhere no other) (left_after (sym o.handed_over ∙ no) other store)
+    ]
+
+module _ {P Item : Type 0} {contents : P → Contents Item} {stamp : Item → ℕ} {l : LateState P Item} {es : List (Entry Item)} {handle : ℕ} {gone item : Item}
+    (f : IsLeft contents stamp l es (stamp item) handle gone) where
+  abbrev e : Entry Item
+  e = record { handle = handle; item = item }
+
+  abbrev now : List (Entry Item)
+  now = renewed handle item es
+
+  as_long : length now ≡ length es
+  as_long = omega (arith, length-append (without_handle handle es) (e ∷ []), length-without_handle handle es f.linked)
+
+  -- a walk of the others with the cursor at one of them is one of these and the one put in the place
+  renewed_after : (r' : Walked P Item) → r'.cursor ≢ None → IsWalkOf contents stamp r' (without_handle handle es) (stamp item)
+      → IsWalkOf contents stamp r' now (stamp item + 1)
+  renewed_after r' going own = at r'.cursor refl
+    where
+      at : (cursor : Option ℕ) → r'.cursor ≡ cursor → IsWalkOf contents stamp r' now (stamp item + 1)
+      at None ended = absurd (going ended)
+      at (Some c) stands = IsWalkOf-appended contents stamp r' (without_handle handle es) e c stands own
+
+  now_of : (r' : Walked P Item) (store : Stored) (waiting : ℕ) → IsWalkOf contents stamp r' now (stamp item + 1)
+      → live_in contents r'.stack + waiting ≡ length now
+      → 3 * (weight_of r'.stack.levels - live_in contents r'.stack) + waiting ≤ length now
+      → IsLateOf contents stamp (record { store = store; walk = r'; waiting = waiting }) now (stamp item + 1)
+  now_of r' store waiting own short light = record {
+    walk = own;
+    at_most = omega (arith, short);
+    at_least = omega (arith, short);
+    light = light;
+    rise = StampsRise-append stamp 0 (without_handle handle es) (stamp item) e (omega arith) (rise_without handle gone es f.is stamp (stamp item) f.late.rise);
+    differ = renewed_differ handle es item gone f.is f.late.differ;
+    few = omega (arith, as_long, f.late.few);
+  }
+
+  pub short_moved : (r' : Walked P Item) → is_linked handle (before_cursor l.walk.cursor es) ≡ true
+      → Deletes contents stamp (stamp gone) l.walk.stack.levels r'.stack.levels → live_in contents r'.stack + (goal_of l + 1) ≡ length now
+  short_moved r' walked d = omega (arith, as_long, f.prepared.short, one_less f r' walked d)
+
+  pub short_stays : live_in contents l.walk.stack + goal_of l ≡ length now
+  short_stays = omega (arith, as_long, f.prepared.short)
+
+  -- it is deleted from the stack, and the other one waits
+  pub moved_deleted : (r' : Walked P Item) (store : Stored) → r'.cursor ≡ l.walk.cursor → is_linked handle (before_cursor l.walk.cursor es) ≡ true
+      → Deletes contents stamp (stamp gone) l.walk.stack.levels r'.stack.levels
+      → IsLateOf contents stamp (record { store = store; walk = r'; waiting = goal_of l + 1 }) now (stamp item + 1)
+  moved_deleted r' store same walked d =
+      now_of r' store (goal_of l + 1) (renewed_after r' (λ none. f.going (sym same ∙ none)) (walk_deleted f r' same walked d)) (short_moved r' walked d)
+      (omega (arith, as_long, f.late.light, one_less f r' walked d, d.weight, some_wait f.late f.prepared f.going))
+
+  light_stays : 3 * (weight_of l.walk.stack.levels - live_in contents l.walk.stack) + goal_of l ≤ length now
+  light_stays = omega (arith, as_long, f.late.light)
+
+  -- the cursor was at it, and goes on, to the one in its place where it was the last
+  pub moved_at : l.walk.cursor ≡ Some handle → (store : Stored)
+      → IsLateOf contents stamp (record {
+        store = store;
+        walk = record { stack = l.walk.stack; cursor = first_or (after handle es) (Some handle) };
+        waiting = goal_of l;
+      }) now (stamp item + 1)
+  moved_at at store =
+      now_of (record { stack = l.walk.stack; cursor = first_or (after handle es) (Some handle) }) store (goal_of l)
+      (renewed_at contents stamp l.walk es handle gone item f.late.rise f.late.differ f.is f.late.walk at) short_stays light_stays
+
+  -- it comes after the cursor
+  pub moved_after : is_linked handle (before_cursor l.walk.cursor es) ≡ false → l.walk.cursor ≢ Some handle → (store : Stored)
+      → IsLateOf contents stamp (record { store = store; walk = l.walk; waiting = goal_of l }) now (stamp item + 1)
+  moved_after later other store =
+      now_of l.walk store (goal_of l) (renewed_after l.walk f.going
+      (IsWalkOf-after contents stamp l.walk es (stamp item) handle gone f.late.rise f.late.walk f.is later other)) short_stays light_stays
+
+  -- what was let go of has another one in its place
+  module _ (r' : Walked P Item) (store : Stored) {was : Bool} (o : LetsGo contents stamp handle gone (first_or (after handle es) (Some handle)) es was l.walk r') where
+    pub replaced_walked : was ≡ true → IsLateOf contents stamp (record { store = store; walk = r'; waiting = goal_of l + 1 }) now (stamp item + 1)
+    replaced_walked yes = moved_deleted r' store (o.deleted yes).0 (sym o.handed_over ∙ yes) (o.deleted yes).1
+
+    pub short_walked_on : was ≡ true → live_in contents r'.stack + (goal_of l + 1) ≡ length now
+    short_walked_on yes = short_moved r' (sym o.handed_over ∙ yes) (o.deleted yes).1
+
+    pub short_other_on : was ≡ false → live_in contents r'.stack + goal_of l ≡ length now
+    short_other_on no = rw (stays o no) short_stays
+
+    pub replaced_other : was ≡ false → IsLateOf contents stamp (record { store = store; walk = r'; waiting = goal_of l }) now (stamp item + 1)
+    replaced_other no = elim (at_or_not l.walk.cursor handle) [
+      | inl at ↦ rw (o.at no at) (moved_at at store)
+      | inr other ↦ rw (o.elsewhere no other) (moved_after (sym o.handed_over ∙ no) other store)
+    ]
