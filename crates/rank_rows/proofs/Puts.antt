@@ -413,13 +413,13 @@ cursor-few words weights stride row begin at ones n placed le is =
       ap (total (second_at words)) (let e : 64 * (row * stride) + begin + (at - begin) ≡ n = omega (arith, placed, le) in e),
     )
 
-pub cursor-light : (weights : List ℕ) (stride row begin at weight n : ℕ) → n ≡ 64 * (row * stride) + at → begin ≤ at → at < 2 ^ 31 → ((k : ℕ) → weight_at weights k < 2 ^ 32)
-    → weight + total (weight_at weights) (64 * (row * stride) + begin) ≡ total (weight_at weights) n → weight < 2 ^ 63 + 1
+pub cursor-light : (weights : List ℕ) (stride row begin at weight n : ℕ) → n ≡ 64 * (row * stride) + at → begin ≤ at → at < 2 ^ 32 → ((k : ℕ) → weight_at weights k < 2 ^ 32)
+    → weight + total (weight_at weights) (64 * (row * stride) + begin) ≡ total (weight_at weights) n → weight + 2 ^ 32 ≤ 2 ^ 64
 cursor-light weights stride row begin at weight n placed le few light is =
     omega (
       arith,
       is,
-      total-most (weight_at weights) (2 ^ 32) (64 * (row * stride) + begin) (at - begin) (λ k. (let low = light k in omega (arith, low))),
+      total-most (weight_at weights) 4294967295 (64 * (row * stride) + begin) (at - begin) (λ k. (let low = light k in omega (arith, low))),
       ap (total (weight_at weights)) (let e : 64 * (row * stride) + begin + (at - begin) ≡ n = omega (arith, placed, le) in e),
     )
 
@@ -455,7 +455,7 @@ module _ (i : Inside) (v : Ranked) (is : seen i.store.words.items i.store.weight
     pub height_in : v.height - row ≡ i.height - i.cursor.row
     height_in = ap₂ (λ h q. h - q) (sym (ap (λ (u : Ranked). u.height) is)) row_in
 
-    pub light_in : i.cursor.weight < 2 ^ 63 + 1
+    pub light_in : i.cursor.weight + 2 ^ 32 ≤ 2 ^ 64
     light_in =
         cursor-light i.store.weights.items i.stride i.cursor.row (start_of (i.height - i.cursor.row) i.cursor.at) i.cursor.at i.cursor.weight (length i.store.weights.items)
         kept.placed (start_of-le (i.height - i.cursor.row) i.cursor.at) (omega (arith, kept.at_within, kept.few)) kept.light (kept.weight fresh_in)

@@ -127,7 +127,7 @@ pub record IsKept (words : Entries Word) (weights : Entries ℕ) (stride height 
   pub room : words.capacity ≡ (weights.capacity + 63) / 64
   pub small : weights.capacity ≤ 2 ^ 40
   pub some : 0 < stride
-  pub few : stride ≤ 2 ^ 25
+  pub few : stride ≤ 2 ^ 26
   pub low : height ≤ 32
   pub placed : length weights.items ≡ 64 * (cursor.row * stride) + cursor.at
   pub at_within : cursor.at < 64 * stride

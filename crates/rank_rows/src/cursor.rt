@@ -54,7 +54,7 @@ impl Cursor {
         requires few { self.ones ≤ self.at }
         requires small { self.at < 2 ^ 40 }
         requires light { self.weight + weight < 2 ^ 64 }
-        requires stride { stride ≤ 2 ^ 25 }
+        requires stride { stride ≤ 2 ^ 26 }
         ensures { result ≡ next_of second weight height stride self }
     {
         let at = self.at + 1;

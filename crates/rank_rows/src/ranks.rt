@@ -70,7 +70,7 @@ impl RankRows {
     /// Takes all places out, in one step, for rows of so many words, the first in blocks of `2^height` places. It counts nothing.
     pub fn begin(&mut self, stride: usize, height: u32)
         requires some { 0 < stride }
-        requires few { stride ≤ 2 ^ 25 }
+        requires few { stride ≤ 2 ^ 26 }
         requires low { height ≤ 32 }
         ensures { self.new ≡ no_places stride height self.old.room }
     {

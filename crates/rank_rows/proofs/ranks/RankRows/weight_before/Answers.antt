@@ -74,6 +74,6 @@ overflow_add-result g c =
       ap total_of from,
       ap total_of end,
     ) in
-    let most = total-most (weight_at i.store.weights.items) (2 ^ 32) (base + c.args.start) (c.args.to - c.args.start) (λ k. (let low = c.self.invariant.light k in omega (arith, low))) in
+    let most = total-most (weight_at i.store.weights.items) 4294967295 (base + c.args.start) (c.args.to - c.args.start) (λ k. (let low = c.self.invariant.light k in omega (arith, low))) in
     let is : base + c.args.start + (c.args.to - c.args.start) ≡ base + c.args.to = omega (arith, c.requires.from) in
     omega (arith, rise, all, last, c.front-front.ensures.weight, r.begins, ap total_of r.first_is, most, ap total_of is, c.requires.within, c.self.invariant.few, ap (λ (v : Ranked). v.stride) c.self.view_is)
