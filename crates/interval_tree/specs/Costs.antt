@@ -27,5 +27,5 @@ walk_touches-few h = grind arith
 abbrev pub question_touches : ℕ → PartTouches
 question_touches g = record { part = walk_touches g; hit = walk_touches g; item = 0 }
 
-pub question_touches-few : (g : ℕ) → g ≤ 17 → AreFew (question_touches g)
+pub question_touches-few : (g : ℕ) → g ≤ 25 → AreFew (question_touches g)
 question_touches-few g low = record { part = omega (arith, low); hit = omega (arith, low); item = omega arith }

@@ -9,7 +9,7 @@ use Rattle.map_shapes.specs.declared.point.Point.{Point}
 abbrev pub question_touches : ℕ → PartTouches
 question_touches g = record { part = 16; hit = 0; item = 16 }
 
-pub question_touches-few : (g : ℕ) → g ≤ 17 → AreFew (question_touches g)
+pub question_touches-few : (g : ℕ) → g ≤ 25 → AreFew (question_touches g)
 question_touches-few g low = record { part = omega arith; hit = omega arith; item = omega arith }
 
 pub asked : (p : Contents Point) → 16 * (length p.items + 1) ≤ 16 + 0 * length (filter (λ x. false) (live_of p)) + 16 * length p.items

@@ -119,14 +119,14 @@ module _ {Item : Type 0} (hits : Item → Bool) where
 raised : (k g : ℕ) → k ≤ g → 2 ^ k ≤ 2 ^ g
 raised k g few = pow_mono few
 
-pub level-low : (n : ℕ) → n ≤ 2 ^ 16 → greatest_level n ≤ 17
+pub level-low : (n : ℕ) → n ≤ 2 ^ 24 → greatest_level n ≤ 25
 unfolding greatest_level
 level-low n few =
     let log = IsLog-halvings 63 (2 * n + 10) (omega arith) (omega (arith, few)) in
     low (halvings 63 (2 * n + 10)) (omega (arith, log.0, few))
   where
-    low : (h : ℕ) → 2 ^ h < 2 ^ 18 → h ≤ 17
-    low h less = ⊎_elim (λ here. omega (arith, here)) (λ high. absurd (omega (arith, less, raised 18 h high))) (cases_lt h 18)
+    low : (h : ℕ) → 2 ^ h < 2 ^ 26 → h ≤ 25
+    low h less = ⊎_elim (λ here. omega (arith, here)) (λ high. absurd (omega (arith, less, raised 26 h high))) (cases_lt h 26)
 
 more : (a b n : ℕ) → a ≤ b → a * n ≤ b * n
 more a b n less = grind (arith, less)
@@ -137,8 +137,8 @@ times_more n a b less = grind (arith, less)
 module _ {Item : Type 0} (stamp : Item → ℕ) (hits : Item → Bool) (touches : Contents Item → ℕ) (of_part : ℕ → PartTouches)
     (one : (g : ℕ) (p : Contents Item) → g < 64 → length p.items ≤ 2 ^ g
     → touches p ≤ (of_part g).part + (of_part g).hit * length (filter hits (live_of p)) + (of_part g).item * length p.items)
-    (few_of : (g : ℕ) → g ≤ 17 → kinds.AreFew (of_part g))
-    (i : Indexed (Contents Item) Item) (es : List (Entry Item)) {stamps : ℕ} (h : IsIndexOf (λ part. part) stamp i es stamps) (few : length es ≤ 2 ^ 16)
+    (few_of : (g : ℕ) → g ≤ 25 → kinds.AreFew (of_part g))
+    (i : Indexed (Contents Item) Item) (es : List (Entry Item)) {stamps : ℕ} (h : IsIndexOf (λ part. part) stamp i es stamps) (few : length es ≤ 2 ^ 24)
     (parts : AreFew (λ part. part) (2 * live_in (λ part. part) i.main + 9) i.main.levels) where
   abbrev n : ℕ
   n = length es
@@ -182,7 +182,7 @@ module _ {Item : Type 0} (stamp : Item → ℕ) (hits : Item → Bool) (touches 
   most-small =
       let low = level-low n few in
       let t = few_of level low in
-      let by_part : (bounds_at n).parts * rate.part ≤ 54 * rate.part = more (bounds_at n).parts 54 rate.part (omega (arith, low)) in
+      let by_part : (bounds_at n).parts * rate.part ≤ 78 * rate.part = more (bounds_at n).parts 78 rate.part (omega (arith, low)) in
       let by_hit : rate.hit * n ≤ 2 ^ 16 * n = more rate.hit (2 ^ 16) n t.hit in
       let by_item : rate.item * (2 * n + 9) ≤ 2 ^ 16 * (2 * n + 9) = more rate.item (2 ^ 16) (2 * n + 9) t.item in
       omega (arith, by_part, by_hit, by_item, t.part, few)
@@ -226,8 +226,8 @@ asked_every (Some i) parts there few all = (all, few.on_level)
 module _ {Item : Type 0} (stamp : Item → ℕ) (hits : Item → Bool) (touches : Contents Item → ℕ) (of_part : ℕ → PartTouches)
     (one : (g : ℕ) (p : Contents Item) → g < 64 → length p.items ≤ 2 ^ g
     → touches p ≤ (of_part g).part + (of_part g).hit * length (filter hits (live_of p)) + (of_part g).item * length p.items)
-    (few_of : (g : ℕ) → g ≤ 17 → kinds.AreFew (of_part g))
-    (es : List (Entry Item)) (stamps : ℕ) (few : length es ≤ 2 ^ 16) where
+    (few_of : (g : ℕ) → g ≤ 25 → kinds.AreFew (of_part g))
+    (es : List (Entry Item)) (stamps : ℕ) (few : length es ≤ 2 ^ 24) where
   -- asked or not, so many parts and touches at most
   pub few_touches : {old new : Counts} (index : Option (Indexed (Contents Item) Item)) → IsOf (λ part. part) stamp index es stamps → MayBeFew index
       → MaySpend touches index old new → (index ≡ None → new ≡ old) → ReadsAtMost (bounds_at (length es)).parts (most_of (of_part (greatest_level (length es))) (length es)) old new

@@ -132,7 +132,7 @@ light m h less =
     subst (λ k. m < 2 ^ k) next (omega (arith, less, pow-suc 2 h))
 
 -- its greatest level is above its weight
-pub greatest-light : (n : ℕ) → n ≤ 2 ^ 16 → 2 * n + 10 < 2 ^ (greatest_level n + 1)
+pub greatest-light : (n : ℕ) → n ≤ 2 ^ 24 → 2 * n + 10 < 2 ^ (greatest_level n + 1)
 unfolding greatest_level
 greatest-light n few =
     let log = IsLog-halvings 63 (2 * n + 10) (omega arith) (omega (arith, few)) in

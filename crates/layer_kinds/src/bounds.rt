@@ -20,7 +20,7 @@ pub struct Bounds {
 impl Bounds {
     /// Those of a layer of so many live items and indexes.
     pub fn new(live: usize, indexes: u64) -> Bounds
-        requires few { live ≤ 2 ^ 16 }
+        requires few { live ≤ 2 ^ 24 }
         requires few_indexes { indexes ≤ 4 }
         ensures turns { result.turns ≡ indexes * (bounds_at live).turns }
         ensures marks { result.marks ≡ indexes * (bounds_at live).marks }
@@ -46,9 +46,9 @@ impl Bounds {
 
 /// The greatest h such that `2^h` is at most twice the live count and ten: no part is of a higher level.
 fn greatest_level(live: u64) -> u32
-    requires few { live ≤ 2 ^ 16 }
+    requires few { live ≤ 2 ^ 24 }
     ensures level { result ≡ greatest_level live }
-    ensures low { result < 18 }
+    ensures low { result < 26 }
 {
     (2 * live + 10).ilog2()
 }

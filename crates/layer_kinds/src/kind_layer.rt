@@ -48,14 +48,14 @@ impl<X: Indexes> Model for KindLayer<X> {
     ghost view = { λ l. record { name = l.name; most_items = l.most_items; entries = l.directory.entries; adds = l.directory.adds; indexes = l.indexes } };
 
     ghost invariant = { λ l. (l.directory.pending ≡ None) × X.are_of l.indexes l.directory.entries l.directory.adds
-        × (length l.directory.entries ≤ l.most_items) × (l.most_items ≤ 2 ^ 16) × (length (X.rates l.indexes) ≤ 4) };
+        × (length l.directory.entries ≤ l.most_items) × (l.most_items ≤ 2 ^ 24) × (length (X.rates l.indexes) ≤ 4) };
 }
 
 impl<X: Indexes> KindLayer<X> {
     /// A layer without items, which may have so many, over indexes without items, four at most. It takes no memory; updates take theirs from
     /// `alloc`.
     pub fn new(alloc: Global, name: Name, most_items: usize, indexes: X) -> KindLayer<X>
-        requires most { most_items ≤ 2 ^ 16 }
+        requires most { most_items ≤ 2 ^ 24 }
         requires of { X.are_of indexes [] 0 }
         requires few { length (X.rates indexes) ≤ 4 }
         ensures { result ≡ record { name = name; most_items = most_items; entries = []; adds = 0; indexes = indexes } }
@@ -78,7 +78,7 @@ impl<X: Indexes> KindLayer<X> {
     /// How many items there are.
     pub fn len(&self) -> usize
         ensures count { result ≡ length self.now.entries }
-        ensures few { result ≤ 2 ^ 16 }
+        ensures few { result ≤ 2 ^ 24 }
     {
         self.directory.chain().len()
     }

@@ -35,7 +35,7 @@ pub struct Livemap {
 impl Livemap {
     /// A map without layers, each of which may have so many items. It takes no memory; what it is told later takes its own from `alloc`.
     pub fn new(alloc: Global, most_items: usize) -> Livemap
-        requires { most_items ≤ 2 ^ 16 }
+        requires { most_items ≤ 2 ^ 24 }
         ensures { IsFresh most_items result }
     {
         let text = Text {

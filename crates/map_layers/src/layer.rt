@@ -73,7 +73,7 @@ impl<P: OverPoints, S: OverSegments> Layer<P, S> {
         kind: Kind,
         indexes: IndexSet,
     ) -> Layer<P, S>
-        requires few { most_items ≤ 2 ^ 16 }
+        requires few { most_items ≤ 2 ^ 24 }
         requires fits { fits (kinds.kind_of kind) (index_set_of indexes) ≡ true }
         ensures made { result.layer ≡ record { name = name; kind = kinds.kind_of kind; indexes = index_set_of indexes; items = [] } }
         ensures limit { result.most_items ≡ most_items }
@@ -103,7 +103,7 @@ impl<P: OverPoints, S: OverSegments> Layer<P, S> {
     /// How many items there are.
     pub(crate) fn len(&self) -> usize
         ensures count { result ≡ length (items_in self.now) }
-        ensures few { result ≤ 2 ^ 16 }
+        ensures few { result ≤ 2 ^ 24 }
     {
         match &self.shapes {
             Shapes::Points(points) => points.len(),

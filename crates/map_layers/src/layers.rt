@@ -59,13 +59,13 @@ impl<P: OverPoints, S: OverSegments> Model for Layers<P, S> {
     ghost view = { λ l. record { version = version_of l.version; most_items = l.most_items; layers = l.layers.items; updates = l.updates } };
 
     ghost invariant = { λ l. AllDiffer (names_of l.layers.items) × (adds_of l.layers.items ≤ l.updates)
-        × All (λ n. n ≡ l.most_items) (limits_of l.layers.items) × (l.most_items ≤ 2 ^ 16) };
+        × All (λ n. n ≡ l.most_items) (limits_of l.layers.items) × (l.most_items ≤ 2 ^ 24) };
 }
 
 impl<P: OverPoints, S: OverSegments> Layers<P, S> {
     /// A map without layers, for layers of so many items, in version 1. It takes no memory; updates take theirs from `alloc`.
     pub fn new(alloc: Global, most_items: usize) -> Layers<P, S>
-        requires few { most_items ≤ 2 ^ 16 }
+        requires few { most_items ≤ 2 ^ 24 }
         ensures { result ≡ no_layers most_items }
     {
         Layers {

@@ -61,7 +61,7 @@ impl<P: OverPoints, S: OverSegments> Session<P, S> {
     /// A session of version 1 without layers, each of which may have `most_items` items. Its written replies tell what they cost, or don't. It
     /// takes no memory; updates take theirs from `alloc`.
     pub fn new(alloc: Global, ledger: bool, most_items: usize) -> Session<P, S>
-        requires { most_items ≤ 2 ^ 16 }
+        requires { most_items ≤ 2 ^ 24 }
         ensures { result ≡ new_session ledger most_items }
     {
         Session {

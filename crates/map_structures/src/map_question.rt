@@ -33,7 +33,7 @@ where
     ghost refuses: { (q : Self) → Self.refusable ≡ lists_ids (Self.asks q) };
 
     /// The answer is that of a scan.
-    ghost scans: { (q : Self) (xs : List R.Item) → length xs ≤ 2 ^ 16
+    ghost scans: { (q : Self) (xs : List R.Item) → length xs ≤ 2 ^ 24
         → Self.tells (Self.value q xs) ≡ answers.answer_over (map R.Item.item_of xs) (Self.asks q) };
 
     /// A part is touched so often at most.
@@ -45,5 +45,5 @@ where
         → parts * (touches g).part + (touches g).hit * length (filter (hits q) xs) + (touches g).item * (2 * length xs + 9)
         ≤ most_touches g parts (length xs) (Self.value q xs) };
 
-    ghost few: { (g : ℕ) → g ≤ 17 → AreFew (touches g) };
+    ghost few: { (g : ℕ) → g ≤ 25 → AreFew (touches g) };
 }

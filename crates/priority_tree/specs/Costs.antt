@@ -21,7 +21,7 @@ above_touches x1 x2 y part =
 abbrev pub question_touches : ℕ → PartTouches
 question_touches g = record { part = 16 * (g + 2); hit = 16; item = 0 }
 
-pub question_touches-few : (g : ℕ) → g ≤ 17 → AreFew (question_touches g)
+pub question_touches-few : (g : ℕ) → g ≤ 25 → AreFew (question_touches g)
 question_touches-few g low = record {
   part = omega (arith, low);
   hit = omega arith;

@@ -46,9 +46,9 @@ mark_touches-rise g h le =
 abbrev pub question_touches : ℕ → PartTouches
 question_touches g = record { part = touches_at g; hit = 8 * (g + 2); item = 0 }
 
-pub question_touches-few : (g : ℕ) → g ≤ 17 → AreFew (question_touches g)
+pub question_touches-few : (g : ℕ) → g ≤ 25 → AreFew (question_touches g)
 question_touches-few g low = record {
-  part = omega (arith, mark_touches-rise g 17 low);
+  part = omega (arith, mark_touches-rise g 25 low);
   hit = omega (arith, low);
   item = omega arith;
 }

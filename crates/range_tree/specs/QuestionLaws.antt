@@ -36,7 +36,7 @@ module _ (rect : Rect) where
   few_counted [] = omega arith
   few_counted (p ∷ ps) = grind (arith, common_steps, few_counted ps)
 
-  pub count_in-scan : (ps : List Point) → length ps ≤ 2 ^ 16 → count_in rect ps ≡ count_by (inside rect) (items_of ps)
+  pub count_in-scan : (ps : List Point) → length ps ≤ 2 ^ 24 → count_in rect ps ≡ count_by (inside rect) (items_of ps)
   count_in-scan ps few = omega (arith, few, few_counted ps, counted ps)
 
   weighed : (ps : List Point) → sum_by (λ p. p.w) (filter (is_in rect) ps) ≡ sum_by (λ item. model.weight_of item.shape) (filter (inside rect) (items_of ps))
@@ -47,7 +47,7 @@ module _ (rect : Rect) where
   few_weighed [] = omega arith
   few_weighed (p ∷ ps) = grind (arith, common_steps, few_weighed ps, p.w_in_range)
 
-  pub weight_in-scan : (ps : List Point) → length ps ≤ 2 ^ 16
+  pub weight_in-scan : (ps : List Point) → length ps ≤ 2 ^ 24
       → weight_in rect ps ≡ sum_by (λ item. model.weight_of item.shape) (filter (inside rect) (items_of ps))
   weight_in-scan ps few = omega (arith, few, few_weighed ps, weighed ps)
 

@@ -26,5 +26,5 @@ returns-clause-level c =
 pub returns-clause-low : goal.returns-clause-low
 returns-clause-low c = ⊎_elim
     (λ low. low)
-    (λ high. absurd (omega (arith, c.requires.few, c.ilog2.ensures.power_le, raised 18 c.ilog2.result high)))
-    (cases_lt c.ilog2.result 18)
+    (λ high. absurd (omega (arith, c.requires.few, c.ilog2.ensures.power_le, raised 26 c.ilog2.result high)))
+    (cases_lt c.ilog2.result 26)

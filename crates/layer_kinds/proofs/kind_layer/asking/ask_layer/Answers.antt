@@ -45,7 +45,7 @@ returns-clause-answer g c =
     let of = g.met.X.Has.is_of l.indexes es l.directory.adds c.layer.invariant.1 in
     let here : IsOf (λ part. part) g.R.Item.Item.stamp c.index.result.now es l.directory.adds =
     subst (λ o. IsOf (λ part. part) g.R.Item.Item.stamp o es l.directory.adds) (sym c.index.ensures) of in
-    let few : length points ≤ 2 ^ 16 = omega (arith, length-map es (λ e. e.item), c.layer.invariant.2, c.layer.invariant.3) in
+    let few : length points ≤ 2 ^ 24 = omega (arith, length-map es (λ e. e.item), c.layer.invariant.2, c.layer.invariant.3) in
     ap g.Q.OneQuestion.tells (c.in_ok-given.ensures.answer es l.directory.adds here).0 ∙ g.met.Q.MapQuestion.scans q points few
     ∙ ap (λ items. answer_over items (g.Q.OneQuestion.asks q)) (items_of-map g.R.Item.Shaped.item_of es)
     ∙ ap (λ k. answer_over (items_of g.R.Item.Shaped.item_of k.entries) (g.Q.OneQuestion.asks q)) c.layer.view_is
