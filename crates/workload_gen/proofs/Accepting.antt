@@ -10,15 +10,22 @@ use Rattle.map_model.specs.Shape as shapes
 use Rattle.map_model.specs.Machine.{Outcome, replied, refused, step}
 use Rattle.map_model.specs.Refusal.{Duplicate, Full, Unknown}
 use Rattle.map_model.specs.Reply.{Updated, is_refusal}
-use Rattle.map_model.specs.State.{Item, Layer, State, empty_map_of, is_live, with_item, without_item}
+use Rattle.map_model.specs.State.{Item, Layer, State, empty_map_of, is_live, with_item, without_item, no_waits}
 use Rattle.map_model.specs.Version.{One}
 use Rattle.workload_gen.specs.Accepted.{AreAccepted}
 use Rattle.workload_gen.specs.Made.{Between, Round, drawn, drawn_twice, drawn_point, drawn_thrice, made, has_live, add_round, drop_first, drop_last, count_round, near_round, top_round, upper_half, round, round_by, rounds_from, before_all, made_script}
 
--- the map of a made script, with these items, where a layer may have so many
-abbrev made_map : ℕ → List Item → State
-made_map most items = record (empty_map_of most) {
-  layers = record { name = made; kind = shapes.Points; indexes = record { range = true; near = true; top = true; stab = false }; items = items } ∷ [];
+-- the map of a made script after so many adds, with these items, where a layer may have so many
+abbrev made_map : ℕ → ℕ → List Item → State
+made_map most inserted items = record (empty_map_of most) {
+  layers = record {
+    name = made;
+    kind = shapes.Points;
+    indexes = record { range = true; near = true; top = true; stab = false; cross = false; batch = false };
+    waits = no_waits;
+    inserted = inserted;
+    items = items;
+  } ∷ [];
 }
 
 -- Between two rounds: the items are those of the live identifiers, and the layer has room for so many more.
@@ -79,15 +86,17 @@ has_some b ordered some = elim (cases_eq b.first b.next) [
 -- ---- one round
 
 -- a round is accepted, and what it leaves has its items
-record IsAccepted (most : ℕ) (items : List Item) (rounds : ℕ) (r : Round) : Type 0 where
-  accepted : is_refusal (step (made_map most items) r.command).reply ≡ false
+record IsAccepted (most inserted : ℕ) (items : List Item) (rounds : ℕ) (r : Round) : Type 0 where
+  accepted : is_refusal (step (made_map most inserted items) r.command).reply ≡ false
+  by_then : ℕ
   left : List Item
-  leaves : (step (made_map most items) r.command).state ≡ made_map most left
+  leaves : (step (made_map most inserted items) r.command).state ≡ made_map most by_then left
   stands : HasItems most r.after left rounds
 
-updates : (most : ℕ) (items left : List Item) (rounds : ℕ) (r : Round) → step (made_map most items) r.command ≡ replied (made_map most left) Updated → HasItems most r.after left rounds → IsAccepted most items rounds r
-updates most items left rounds r is stands = record {
+updates : (most inserted by_then : ℕ) (items left : List Item) (rounds : ℕ) (r : Round) → step (made_map most inserted items) r.command ≡ replied (made_map most by_then left) Updated → HasItems most r.after left rounds → IsAccepted most inserted items rounds r
+updates most inserted by_then items left rounds r is stands = record {
   accepted = ap (λ (o : Outcome). is_refusal o.reply) is;
+  by_then = by_then;
   left = left;
   leaves = ap (λ (o : Outcome). o.state) is;
   stands = stands;
@@ -99,13 +108,13 @@ neither a b x y z first second = rw (first, second) refl
 first_of : (a : Bool) (x y : Outcome) → a ≡ true → (if a then x else y) ≡ x
 first_of a x y holds = rw holds refl
 
-adds : (most : ℕ) (b : Between) (items : List Item) (rounds : ℕ) → HasItems most b items (suc rounds) → IsAccepted most items rounds (add_round b)
-adds most b items rounds h =
+adds : (most inserted : ℕ) (b : Between) (items : List Item) (rounds : ℕ) → HasItems most b items (suc rounds) → IsAccepted most inserted items rounds (add_round b)
+adds most inserted b items rounds h =
     let item : Item = record { id = b.next; shape = drawn_point b } in
     let left = with_item item items in
     let few : nat_le most (length items) ≡ false = grind (arith, nat_tests, h.room) in
-    updates most items left rounds (add_round b)
-    (neither (is_live b.next items) (nat_le most (length items)) (refused (made_map most items) (Duplicate b.next)) (refused (made_map most items) Full) (replied (made_map most left) Updated) (h.fresh b.next (omega arith)) few)
+    updates most inserted (inserted + 1) items left rounds (add_round b)
+    (neither (is_live b.next items) (nat_le most (length items)) (refused (made_map most inserted items) (Duplicate b.next)) (refused (made_map most inserted items) Full) (replied (made_map most (inserted + 1) left) Updated) (h.fresh b.next (omega arith)) few)
     (record {
       live = λ id from below. live_with id items item ∙ elim (cases_lt id b.next) [
         | inl before ↦ or_true (is_live id items) ((b.next == id) || false) (h.live id from before)
@@ -116,12 +125,12 @@ adds most b items rounds h =
       room = omega (arith, h.room, length-append items (item ∷ []));
     })
 
-drops_first : (most : ℕ) (b : Between) (items : List Item) (rounds : ℕ) → HasItems most b items (suc rounds) → has_live b ≡ true → IsAccepted most items rounds (drop_first b)
-drops_first most b items rounds h some =
+drops_first : (most inserted : ℕ) (b : Between) (items : List Item) (rounds : ℕ) → HasItems most b items (suc rounds) → has_live b ≡ true → IsAccepted most inserted items rounds (drop_first b)
+drops_first most inserted b items rounds h some =
     let below : b.first < b.next = has_some b h.ordered some in
     let left = without_item b.first items in
-    updates most items left rounds (drop_first b)
-    (first_of (is_live b.first items) (replied (made_map most left) Updated) (refused (made_map most items) (Unknown b.first)) (h.live b.first (omega arith) below))
+    updates most inserted inserted items left rounds (drop_first b)
+    (first_of (is_live b.first items) (replied (made_map most inserted left) Updated) (refused (made_map most inserted items) (Unknown b.first)) (h.live b.first (omega arith) below))
     (record {
       live = λ id from below'. live_without b.first id items (λ same. absurd (omega (arith, from, same))) ∙ h.live id (omega (arith, from)) below';
       fresh = λ id from. live_without b.first id items (λ same. absurd (omega (arith, from, same, below))) ∙ h.fresh id from;
@@ -129,13 +138,13 @@ drops_first most b items rounds h some =
       room = omega (arith, h.room, fewer b.first items);
     })
 
-drops_last : (most : ℕ) (b : Between) (items : List Item) (rounds : ℕ) → HasItems most b items (suc rounds) → has_live b ≡ true → IsAccepted most items rounds (drop_last b)
-drops_last most b items rounds h some =
+drops_last : (most inserted : ℕ) (b : Between) (items : List Item) (rounds : ℕ) → HasItems most b items (suc rounds) → has_live b ≡ true → IsAccepted most inserted items rounds (drop_last b)
+drops_last most inserted b items rounds h some =
     let below : b.first < b.next = has_some b h.ordered some in
     let gone = b.next - 1 in
     let left = without_item gone items in
-    updates most items left rounds (drop_last b)
-    (first_of (is_live gone items) (replied (made_map most left) Updated) (refused (made_map most items) (Unknown gone)) (h.live gone (omega (arith, below)) (omega (arith, below))))
+    updates most inserted inserted items left rounds (drop_last b)
+    (first_of (is_live gone items) (replied (made_map most inserted left) Updated) (refused (made_map most inserted items) (Unknown gone)) (h.live gone (omega (arith, below)) (omega (arith, below))))
     (record {
       live = λ id from below'. live_without gone id items (λ same. absurd (omega (arith, below, below', same))) ∙ h.live id from (omega (arith, below'));
       fresh = λ id from. elim (cases_eq gone id) [
@@ -147,10 +156,11 @@ drops_last most b items rounds h some =
     })
 
 -- what doesn't update
-asks : (most : ℕ) (items : List Item) (rounds : ℕ) (b after : Between) (r : Round) → HasItems most b items (suc rounds) → r.after ≡ after → after.first ≡ b.first → after.next ≡ b.next
-    → is_refusal (step (made_map most items) r.command).reply ≡ false → (step (made_map most items) r.command).state ≡ made_map most items → IsAccepted most items rounds r
-asks most items rounds b after r h is first next accepted leaves = record {
+asks : (most inserted : ℕ) (items : List Item) (rounds : ℕ) (b after : Between) (r : Round) → HasItems most b items (suc rounds) → r.after ≡ after → after.first ≡ b.first → after.next ≡ b.next
+    → is_refusal (step (made_map most inserted items) r.command).reply ≡ false → (step (made_map most inserted items) r.command).state ≡ made_map most inserted items → IsAccepted most inserted items rounds r
+asks most inserted items rounds b after r h is first next accepted leaves = record {
   accepted = accepted;
+  by_then = inserted;
   left = items;
   leaves = leaves;
   stands = subst (λ (x : Between). HasItems most x items rounds) (sym is) (record {
@@ -165,30 +175,30 @@ either : (P : Round → Type 0) (b : Bool) (x y : Round) → (b ≡ true → P x
 either P true x y h k = h refl
 either P false x y h k = k
 
-by_number : (most number : ℕ) (b : Between) (items : List Item) (rounds : ℕ) → HasItems most b items (suc rounds) → IsAccepted most items rounds (round_by number b)
-by_number most number b items rounds h =
-    let P = IsAccepted most items rounds in
-    either P (number == 7) (count_round b) _ (λ is. asks most items rounds b (drawn_twice b) (count_round b) h refl refl refl refl refl)
-    (either P (number == 8) (near_round b) _ (λ is. asks most items rounds b (drawn_twice b) (near_round b) h refl refl refl refl refl)
-    (either P (number == 9) (top_round b) _ (λ is. asks most items rounds b (drawn b) (top_round b) h refl refl refl refl refl)
-    (either P ((number == 5) && has_live b) (drop_first b) _ (λ is. drops_first most b items rounds h (both_true (number == 5) (has_live b) is))
-    (either P ((number == 6) && has_live b) (drop_last b) _ (λ is. drops_last most b items rounds h (both_true (number == 6) (has_live b) is)) (adds most b items rounds h)))))
+by_number : (most inserted number : ℕ) (b : Between) (items : List Item) (rounds : ℕ) → HasItems most b items (suc rounds) → IsAccepted most inserted items rounds (round_by number b)
+by_number most inserted number b items rounds h =
+    let P = IsAccepted most inserted items rounds in
+    either P (number == 7) (count_round b) _ (λ is. asks most inserted items rounds b (drawn_twice b) (count_round b) h refl refl refl refl refl)
+    (either P (number == 8) (near_round b) _ (λ is. asks most inserted items rounds b (drawn_twice b) (near_round b) h refl refl refl refl refl)
+    (either P (number == 9) (top_round b) _ (λ is. asks most inserted items rounds b (drawn b) (top_round b) h refl refl refl refl refl)
+    (either P ((number == 5) && has_live b) (drop_first b) _ (λ is. drops_first most inserted b items rounds h (both_true (number == 5) (has_live b) is))
+    (either P ((number == 6) && has_live b) (drop_last b) _ (λ is. drops_last most inserted b items rounds h (both_true (number == 6) (has_live b) is)) (adds most inserted b items rounds h)))))
 
 -- ---- all rounds
 
-rounds_accepted : (most rounds : ℕ) (b : Between) (items : List Item) → HasItems most b items rounds → AreAccepted (made_map most items) (rounds_from rounds b)
-rounds_accepted most zero b items h = tt
-rounds_accepted most (suc rounds) b items h =
+rounds_accepted : (most inserted rounds : ℕ) (b : Between) (items : List Item) → HasItems most b items rounds → AreAccepted (made_map most inserted items) (rounds_from rounds b)
+rounds_accepted most inserted zero b items h = tt
+rounds_accepted most inserted (suc rounds) b items h =
     let drew : HasItems most (drawn b) items (suc rounds) = record { live = h.live; fresh = h.fresh; ordered = h.ordered; room = h.room } in
-    let r = by_number most (upper_half (drawn b).state % 10) (drawn b) items rounds drew in (
+    let r = by_number most inserted (upper_half (drawn b).state % 10) (drawn b) items rounds drew in (
       r.accepted,
-      subst (λ (state : State). AreAccepted state (rounds_from rounds (round b).after)) (sym r.leaves) (rounds_accepted most rounds (round b).after r.left r.stands),
+      subst (λ (state : State). AreAccepted state (rounds_from rounds (round b).after)) (sym r.leaves) (rounds_accepted most r.by_then rounds (round b).after r.left r.stands),
     )
 
 pub script_accepted : (most seed size : ℕ) → size ≤ most → AreAccepted (empty_map_of most) (made_script seed size)
 script_accepted most seed size few = (
   refl,
-  rounds_accepted most size (before_all seed) [] (record {
+  rounds_accepted most 0 size (before_all seed) [] (record {
     live = λ id from below. absurd (omega (arith, from, below));
     fresh = λ id from. refl;
     ordered = omega arith;

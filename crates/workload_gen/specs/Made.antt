@@ -121,7 +121,7 @@ round b = round_by (upper_half (drawn b).state % 10) (drawn b)
 
 -- the command before all rounds: the layer of points `made`, with the indexes range, near and top
 abbrev pub layer : Command
-layer = MakeLayer made shapes.Points (record { range = true; near = true; top = true; stab = false })
+layer = MakeLayer made shapes.Points (record { range = true; near = true; top = true; stab = false; cross = false; batch = false })
 
 -- before the first round no identifier is live, and the seed is the generator's state
 abbrev pub before_all : (seed : ℕ) → Between

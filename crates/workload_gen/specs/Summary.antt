@@ -2,7 +2,7 @@
 use Rattle.std.specs.Prelude.{ℕ, ◌+◌, ◌%◌, ◌^◌, List, ◌∷◌, [], ◌++◌, Option, Some, None, codes, decimal, fold, nat_lt, if◌then◌else◌}
 use Rattle.map_model.specs.Answer.{Answer, Counted, NearestOne, Highest}
 use Rattle.map_model.specs.Reply.{Reply, Answered, Refused}
-use Rattle.map_model.specs.Cost.{Spent, Cost, Untold, Updating, Asking}
+use Rattle.map_model.specs.Cost.{Spent, SpentAtOnce, Cost, Untold, Updating, Joining, Asking}
 use Rattle.map_model.specs.Output.{Told}
 use Rattle.answer_text.specs.declared.reply.Reply as answers
 use Rattle.answer_text.specs.Reply.{reply_of, cost_of}
@@ -54,10 +54,15 @@ abbrev pub larger : Option Spent → Spent → Spent
 larger None spent = spent
 larger (Some most) spent = if nat_lt most.turns spent.turns then spent else most
 
+-- an update where parts are joined at once, with the bound of the turns of all such updates
+abbrev pub of_joining : SpentAtOnce → Spent
+of_joining s = record { turns = s.turns; turn_bound = s.turn_bound; marks = s.marks; mark_bound = s.mark_bound }
+
 -- one more cost
 abbrev pub with_cost : Cost → Summary → Summary
 with_cost Untold s = s
 with_cost (Updating spent) s = record s { largest = Some (larger s.largest spent) }
+with_cost (Joining spent) s = record s { largest = Some (larger s.largest (of_joining spent)) }
 with_cost (Asking asked) s = record s { parts = s.parts + asked.parts; touches = s.touches + asked.touches }
 
 -- the summary with one more command that was answered

@@ -79,6 +79,8 @@ impl Maker {
                 near: true,
                 top: true,
                 stab: false,
+                cross: false,
+                batch: false,
             },
         }
     }

@@ -2,7 +2,7 @@
 ghost use Rattle.std.specs.Prelude.{◌≡◌, ◌<◌, ◌≤◌, ◌+◌, ◌^◌, ◌++◌, length, OnOk, OnErr, option_map};
 ghost use Rattle.map_io.specs.SinkTold.{Delivers, CutOff};
 ghost use Rattle.map_questions.specs.Any.{answer_of};
-ghost use Rattle.map_shapes.specs.Cost.{spent_of};
+ghost use Rattle.map_shapes.specs.Cost.{spent_of, spent_at_once_of};
 ghost use Rattle.workload_gen.specs.Summary as summaries;
 
 use answer_text::{Reply, append};
@@ -10,7 +10,7 @@ use arrayvec::ArrayVec;
 use itoa::Buffer;
 use map_io::{Sink, WriteFault, write_all};
 use map_questions::AnyAnswer;
-use map_shapes::Spent;
+use map_shapes::{Spent, SpentAtOnce, UpdateCost};
 use std::marker::Model;
 
 /// No fewer bytes than a summary's lines.
@@ -81,7 +81,12 @@ impl Summary {
     {
         self.commands += 1;
         match reply {
-            Reply::Updated { spent } => self.largest = Some(larger(self.largest, *spent)),
+            Reply::Updated {
+                spent: UpdateCost::Spread(spent),
+            } => self.largest = Some(larger(self.largest, *spent)),
+            Reply::Updated {
+                spent: UpdateCost::AtOnce(spent),
+            } => self.largest = Some(larger(self.largest, of_joining(*spent))),
             Reply::Answered { answer, asked } => {
                 self.counted += u128::from(count_in(answer));
                 self.ids = self.ids.wrapping_add(id_in(answer));
@@ -136,6 +141,18 @@ fn id_in(answer: &AnyAnswer) -> u64
         AnyAnswer::NearestOne(Some(found)) => found.id(),
         AnyAnswer::Highest(Some(peak)) => peak.id,
         _ => 0,
+    }
+}
+
+/// An update where parts are joined at once, with the bound of the turns of all such updates.
+fn of_joining(spent: SpentAtOnce) -> Spent
+    ensures { spent_of result ≡ summaries.of_joining (spent_at_once_of spent) }
+{
+    Spent {
+        turns: spent.turns,
+        turn_bound: spent.turn_bound,
+        marks: spent.marks,
+        mark_bound: spent.mark_bound,
     }
 }
 
