@@ -8,17 +8,15 @@ use Rattle.map_layers.specs.declared.faults.AskFault.TheVariants as ask
 use Rattle.map_layers.specs.declared.faults.UpdateFault.{UpdateFault}
 use Rattle.map_layers.specs.declared.faults.UpdateFault.TheVariants.{NoLayer, WrongKind, Duplicate, Unknown, Full, NoMemory}
 use Rattle.layer_kinds.specs.Asking.{IsReading, ReadsAtMost}
-use Rattle.layer_kinds.specs.Costs.{IsInBounds}
 use Rattle.map_model.specs.Answer.{Question, Answer}
 use Rattle.map_model.specs.Command.{Command, name_of, takes_memory}
-use Rattle.map_model.specs.Cost.{Cost, Untold, Update, bounds_at, mark_bound}
-use Rattle.map_model.specs.Index.{index_count}
+use Rattle.map_model.specs.Cost.{Cost, Untold, Update, greatest_level, mark_bound}
 use Rattle.map_model.specs.Machine.{Outcome, step}
 use Rattle.map_model.specs.Reply.{Answered, is_refusal}
 use Rattle.map_model.specs.State.{Layer, State, layer_named, live_count}
 use Rattle.map_shapes.specs.declared.question_cost.QuestionCost.{QuestionCost}
 use Rattle.map_shapes.specs.declared.spent.Spent.{Spent}
-use Rattle.map_layers.specs.Costs.{IsCostIn, IsToldIn, IsAskingIn, IsTouchingIn}
+use Rattle.map_layers.specs.Costs.{IsInBounds, IsCostIn, IsToldIn, IsAskingIn, IsTouchingIn}
 use Rattle.map_layers.specs.Replies.{updated, questioned, IsAnswered}
 use Rattle.map_layers.specs.Questions.{touches_for}
 use Rattle.map_session.specs.Replies.{update_cost, question_cost}
@@ -78,10 +76,10 @@ times a b n less = grind (arith, less)
 
 module _ {before after : Counts} where
   -- an update within its bounds
-  within : (update : Update) (layer : Layer) (cost : Cost) → IsInBounds update (index_count layer.indexes) (live_count layer) (lap_begun before) after → IsTold cost before after
+  within : (update : Update) (layer : Layer) (cost : Cost) → IsInBounds update layer (lap_begun before) after → IsTold cost before after
       → IsCounted (bounds_in update (Some layer)) cost before after
   within update layer cost h told =
-      let touches = touches_at (bounds_at (live_count layer)).level in
+      let touches = touches_at (greatest_level (live_count layer)) in
       let marked = times (after.marks - before.marks) (mark_bound update layer) touches h.few_marks in
       record {
         turns_kept = omega (arith, h.spent.turns_spent);
@@ -158,6 +156,7 @@ module _ (old new : State) (command : Command) {before after : Counts} where
     question_by (Some layer) is (Err ask.NoLayer) answered touching reads told = quiet (work_of old command) touching
     question_by (Some layer) is (Err ask.WrongKind) answered touching reads told = quiet (work_of old command) touching
     question_by (Some layer) is (Err ask.NoIndex) answered touching reads told = quiet (work_of old command) touching
+    question_by (Some layer) is (Err (ask.Building items)) answered touching reads told = quiet (work_of old command) touching
     question_by (Some layer) is (Err (ask.Unknown id)) answered touching reads told = quiet (work_of old command) touching
     question_by (Some layer) is (Err ask.NoMemory) answered touching reads told =
         subst (λ w. IsCounted w Untold before after)

@@ -4,7 +4,7 @@ use Rattle.std.proofs.lemmas.Bool.Decides.{nat_tests}
 use Rattle.std.proofs.lemmas.Grind.{common_steps}
 use Rattle.std.proofs.lemmas.List.Sums.{sum_by-cons}
 use Rattle.query_laws.specs.StepLedger.{Counts, LapStart, lap_begun, most_lap_turns, most_lap_marks, most_lap_consulted}
-use Rattle.map_model.specs.Command.{Command, Livemap, MakeLayer, Add, Move, Drop, Ask, Get, Size, Recent}
+use Rattle.map_model.specs.Command.{Command, Livemap, MakeLayer, MakeIndex, Add, Move, Drop, Ask, Get, Size, Recent}
 use Rattle.map_model.specs.Grammar.{Parsed}
 use Rattle.map_model.specs.Machine.{step}
 use Rattle.map_model.specs.Reply.{is_refusal}
@@ -28,6 +28,7 @@ if_none false = refl
 pub lapless_command : (state : State) (command : Command) → begins_lap command ≡ false → work_of state command ≡ no_work
 lapless_command state (Livemap version) none = if_none (is_refusal (step state (Livemap version)).reply)
 lapless_command state (MakeLayer name kind indexes) none = if_none (is_refusal (step state (MakeLayer name kind indexes)).reply)
+lapless_command state (MakeIndex name index) none = if_none (is_refusal (step state (MakeIndex name index)).reply)
 lapless_command state (Add name id shape) none = absurd cc
 lapless_command state (Move name id x y w) none = absurd cc
 lapless_command state (Drop name id) none = absurd cc

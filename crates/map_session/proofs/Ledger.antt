@@ -1,19 +1,19 @@
 -- What the replies to lines tell adds up to what was counted.
-use Rattle.std.proofs.Common.{◌≡◌, ◌∙◌, ℕ, nat_le, ◌+◌, ◌≤◌, inl, inr, Bool, true, false, not, List, [], ◌∷◌, Option, Some, None, Ok, Err, if◌then◌else◌, refl, sym, ap, subst, arith}
+use Rattle.std.proofs.Common.{◌≡◌, ◌∙◌, ℕ, nat_le, nat_lt, ◌+◌, ◌≤◌, inl, inr, Bool, true, false, not, List, [], ◌∷◌, Option, Some, None, Ok, Err, if◌then◌else◌, refl, sym, ap, subst, arith}
 use Rattle.std.proofs.lemmas.Bool.{cases_Bool}
 use Rattle.query_laws.specs.StepLedger.{Counts}
-use Rattle.map_model.specs.Command.{Command, Livemap, MakeLayer, Add, Move, Drop, Ask, Get, Size, Recent, name_of}
-use Rattle.map_model.specs.Cost.{Cost, Untold, Updating, Asking, Update}
+use Rattle.map_model.specs.Command.{Command, Livemap, MakeLayer, MakeIndex, Add, Move, Drop, Ask, Get, Size, Recent, name_of}
+use Rattle.map_model.specs.Cost.{Cost, Untold, Updating, Joining, Asking, Update}
 use Rattle.map_model.specs.Grammar.{Parsed, parse}
 use Rattle.map_model.specs.Machine.{Outcome, replied, refused, is_same_kind, step, add_to, move_in, drop_from, ask_of}
 use Rattle.map_model.specs.Answer.{Question, answer_over, index_of, kind_asked}
 use Rattle.map_model.specs.Index.{has}
-use Rattle.map_model.specs.Refusal.{NoLayer, Index, Duplicate, Unknown, Full}
+use Rattle.map_model.specs.Refusal.{NoLayer, Index, Building, Duplicate, Unknown, Full}
 use Rattle.map_model.specs.Refusal as refusals
 use Rattle.map_model.specs.Output.{Told, Given, AnswersTo, IsCost, update_of}
 use Rattle.map_model.specs.Reply.{Reply, Made, Updated, Answered, Got, Sized, Latest, Refused, is_refusal}
 use Rattle.map_model.specs.Shape.{Shape, Point, kind_of}
-use Rattle.map_model.specs.State.{Layer, State, layer_named, live_count, is_live, with_items, with_item, without_item}
+use Rattle.map_model.specs.State.{Layer, State, layer_named, live_count, is_live, with_layer, wait_of, added, moved, dropped}
 use Rattle.map_session.specs.Answering.{Moment, Runs}
 use Rattle.map_session.specs.Ledger.{work_told, work_lacking, told_in, lacking_in, told_to, lacking_to, AddsUp}
 use Rattle.map_session.specs.Session.{SessionState, map_in, cost_told, Executes, Obeys}
@@ -39,36 +39,40 @@ either false x y h k = k
 add_costs : (state : State) (name : List ℕ) (id : ℕ) (shape : Shape) (layer : Option Layer) → has_cost (add_to state name id shape layer).reply ≡ true
 add_costs state name id shape None = refl
 add_costs state name id shape (Some layer) =
-    let added = replied (with_items name (with_item (record { id = id; shape = shape })) state) Updated in
-    let held : Outcome = if nat_le state.most_items (live_count layer) then refused state Full else added in
+    let accepted = replied (with_layer name (added (record { id = id; shape = shape })) state) Updated in
+    let held : Outcome = if nat_le state.most_items (live_count layer) then refused state Full else accepted in
     let fresh : Outcome = if is_live id layer.items then refused state (Duplicate id) else held in
     either (not (is_same_kind layer.kind (kind_of shape))) (refused state refusals.Kind) fresh refl
-    (either (is_live id layer.items) (refused state (Duplicate id)) held refl (either (nat_le state.most_items (live_count layer)) (refused state Full) added refl refl))
+    (either (is_live id layer.items) (refused state (Duplicate id)) held refl (either (nat_le state.most_items (live_count layer)) (refused state Full) accepted refl refl))
 
 move_costs : (state : State) (name : List ℕ) (id : ℕ) (shape : Shape) (layer : Option Layer) → has_cost (move_in state name id shape layer).reply ≡ true
 move_costs state name id shape None = refl
 move_costs state name id shape (Some layer) =
-    let moved = replied (with_items name (λ items. with_item (record { id = id; shape = shape }) (without_item id items)) state) Updated in
-    let live : Outcome = if is_live id layer.items then moved else refused state (Unknown id) in
+    let accepted = replied (with_layer name (moved (record { id = id; shape = shape })) state) Updated in
+    let live : Outcome = if is_live id layer.items then accepted else refused state (Unknown id) in
     either (not (is_same_kind layer.kind (kind_of shape))) (refused state refusals.Kind) live refl
-    (either (is_live id layer.items) moved (refused state (Unknown id)) refl refl)
+    (either (is_live id layer.items) accepted (refused state (Unknown id)) refl refl)
 
 drop_costs : (state : State) (name : List ℕ) (id : ℕ) (layer : Option Layer) → has_cost (drop_from state name id layer).reply ≡ true
 drop_costs state name id None = refl
 drop_costs state name id (Some layer) =
-    either (is_live id layer.items) (replied (with_items name (without_item id) state) Updated) (refused state (Unknown id)) refl refl
+    either (is_live id layer.items) (replied (with_layer name (dropped id) state) Updated) (refused state (Unknown id)) refl refl
 
 ask_costs : (state : State) (question : Question) (layer : Option Layer) → has_cost (ask_of state question layer).reply ≡ true
 ask_costs state question None = refl
 ask_costs state question (Some layer) =
     let answered = replied state (Answered (answer_over layer.items question)) in
-    let indexed : Outcome = if not (has layer.indexes (index_of question)) then refused state Index else answered in
+    let wait = wait_of layer.waits (index_of question) in
+    let ready : Outcome = if nat_lt 0 wait then refused state (Building wait) else answered in
+    let indexed : Outcome = if not (has layer.indexes (index_of question)) then refused state Index else ready in
     either (not (is_same_kind layer.kind (kind_asked question))) (refused state refusals.Kind) indexed refl
-    (either (not (has layer.indexes (index_of question))) (refused state Index) answered refl refl)
+    (either (not (has layer.indexes (index_of question))) (refused state Index) ready refl
+    (either (nat_lt 0 wait) (refused state (Building wait)) answered refl refl))
 
 lap_costs : (state : State) (command : Command) → begins_lap command ≡ true → has_cost (step state command).reply ≡ true
 lap_costs state (Livemap version) begins = absurd cc
 lap_costs state (MakeLayer name kind indexes) begins = absurd cc
+lap_costs state (MakeIndex name index) begins = absurd cc
 lap_costs state (Add name id shape) begins = add_costs state name id shape (layer_named name state.layers)
 lap_costs state (Move name id x y w) begins = move_costs state name id (Point x y w) (layer_named name state.layers)
 lap_costs state (Drop name id) begins = drop_costs state name id (layer_named name state.layers)
@@ -133,6 +137,15 @@ counted_cost Untold work lacking old new c none =
       omega (arith, c.few_consulted, consulted),
     )
 counted_cost (Updating spent) work lacking old new c none = (
+  omega (arith, c.told.0),
+  omega (arith, c.told.1),
+  omega (arith, c.touches_kept),
+  omega (arith, c.told.0),
+  omega (arith, c.told.1),
+  omega (arith, c.told.2),
+  omega (arith, c.told.2),
+)
+counted_cost (Joining spent) work lacking old new c none = (
   omega (arith, c.told.0),
   omega (arith, c.told.1),
   omega (arith, c.touches_kept),

@@ -1,5 +1,5 @@
 -- What the calls of layers answer is a step of the machine, at a cost that is allowed.
-use Rattle.std.proofs.Common.{◌≡◌, ℕ, ◌≤◌, List, Option, Some, None, Result, Ok, Err, inl, inr, refl, sym, subst}
+use Rattle.std.proofs.Common.{◌≡◌, ◌∙◌, ℕ, ◌≤◌, true, false, List, Option, Some, None, Result, Ok, Err, inl, inr, refl, sym, subst}
 use Rattle.std.specs.Prelude.{IfOk}
 use Rattle.query_laws.specs.StepLedger.{Counts}
 use Rattle.map_model.specs.State.{Layer, State, layer_named}
@@ -18,9 +18,10 @@ use Rattle.answer_text.specs.Reply.{reply_of, cost_of}
 use Rattle.map_layers.specs.declared.faults.AskFault.{AskFault}
 use Rattle.map_layers.specs.declared.faults.UpdateFault.{UpdateFault}
 use Rattle.map_layers.specs.declared.faults.CreateFault.{CreateFault}
+use Rattle.map_layers.specs.declared.faults.IndexFault.{IndexFault}
 use Rattle.map_layers.specs.declared.faults.HasLayers.{HasLayers}
 use Rattle.map_layers.specs.Costs.{IsToldIn, IsAskingIn}
-use Rattle.map_layers.specs.Replies.{chosen, created, updated, questioned, IsAnswered}
+use Rattle.map_layers.specs.Replies.{chosen, created, indexed, updated, questioned, IsAnswered}
 use Rattle.map_session.specs.Replies.{update_cost}
 use Rattle.map_session.specs.Session.{given_by}
 
@@ -63,7 +64,8 @@ asking_allowed None most c c' answer asked parts asking few some = absurd asking
 asking_allowed (Some layer) most c c' answer asked parts asking few some = record {
   part_bound_told = asking.bounds.part_bound_told;
   parts_bounded = few asking.bounds.parts_bounded;
-  some_part = λ h. some (asking.bounds.some_part h) asking.bounds.parts_bounded;
+  some_part = λ h h'. some (asking.bounds.some_part h h') asking.bounds.parts_bounded;
+  each_part = λ at_once. let clash : false ≡ true = sym asking.spread ∙ at_once in absurd cc;
 }
 
 -- Of the parts it has only to be told here that they are within the bound, and not none where one was asked.
@@ -88,6 +90,10 @@ chosen_allowed layer (Err fault) = refl
 pub made_allowed : {T : Type 0} (layer : Option Layer) (outcome : Result T CreateFault) → IsCost layer None (created outcome) Untold
 made_allowed layer (Ok done) = refl
 made_allowed layer (Err fault) = refl
+
+pub indexed_allowed : {T : Type 0} (layer : Option Layer) (outcome : Result T IndexFault) → IsCost layer None (indexed outcome) Untold
+indexed_allowed layer (Ok done) = refl
+indexed_allowed layer (Err fault) = refl
 
 pub reading_allowed : {T : Type 0} (layer : Option Layer) (reply : T → Reply) → ((t : T) → IsCost layer None (reply t) Untold) → (outcome : Result T AskFault)
     → IsCost layer None (questioned reply outcome) Untold

@@ -2,7 +2,7 @@
 use Rattle.std.specs.Prelude.{ℕ, ◌+◌, ◌≤◌, List, [], ◌∷◌, Option, Some, None, Ok, if◌then◌else◌}
 use Rattle.query_laws.specs.StepLedger.{Counts}
 use Rattle.map_model.specs.Command.{Command}
-use Rattle.map_model.specs.Cost.{Cost, Untold, Updating, Asking}
+use Rattle.map_model.specs.Cost.{Cost, Untold, Updating, Joining, Asking}
 use Rattle.map_model.specs.Grammar.{Parsed, parse}
 use Rattle.map_model.specs.Output.{Told}
 use Rattle.map_model.specs.Reply.{is_refusal}
@@ -15,6 +15,7 @@ use Rattle.map_session.specs.Work.{Work, no_work, both, work_said}
 abbrev pub work_told : Cost → Work
 work_told Untold = no_work
 work_told (Updating spent) = record no_work { turns = spent.turns; marks = spent.marks }
+work_told (Joining spent) = record no_work { turns = spent.turns; marks = spent.marks }
 work_told (Asking asked) = record no_work { touches = asked.touches; consulted = asked.parts }
 
 -- What a refused command may have taken and doesn't tell: the bounds of one that memory refuses, and nothing of any other.

@@ -9,8 +9,8 @@ use Rattle.map_layers.specs.Layers.{LayersState, named}
 use Rattle.map_layers.specs.Questions.{touches_for}
 use Rattle.map_model.specs.Answer.{Question, index_of}
 use Rattle.map_model.specs.State.{Layer, State, layer_named, live_count}
-use Rattle.map_model.specs.Command.{Command, Livemap, MakeLayer, Add, Move, Drop, Ask, Get, Size, Recent, name_of}
-use Rattle.map_model.specs.Cost.{Cost, Untold, Updating, Asking, Update, Adds, Drops, Moves, bounds_at, turn_bound, mark_bound}
+use Rattle.map_model.specs.Command.{Command, Livemap, MakeLayer, MakeIndex, Add, Move, Drop, Ask, Get, Size, Recent, name_of}
+use Rattle.map_model.specs.Cost.{Cost, Untold, Updating, Joining, Asking, Update, Adds, Drops, Moves, greatest_level, turn_bound, mark_bound, part_bound}
 use Rattle.map_model.specs.Reply.{is_refusal}
 use Rattle.map_model.specs.Machine.{step}
 use Rattle.map_model.specs.Output.{update_of}
@@ -41,6 +41,7 @@ is_update_said (Err fault) = false
 abbrev pub begins_lap : Command → Bool
 begins_lap (Livemap version) = false
 begins_lap (MakeLayer name kind indexes) = false
+begins_lap (MakeIndex name index) = false
 begins_lap (Add name id shape) = true
 begins_lap (Move name id x y w) = true
 begins_lap (Drop name id) = true
@@ -65,7 +66,7 @@ bounds_in update None = no_work
 bounds_in update (Some layer) = record {
   turns = turn_bound update layer;
   marks = mark_bound update layer;
-  touches = 16 * turn_bound update layer + mark_bound update layer * touches_at (bounds_at (live_count layer)).level;
+  touches = 16 * turn_bound update layer + mark_bound update layer * touches_at (greatest_level (live_count layer));
   consulted = 0;
 }
 
@@ -73,12 +74,13 @@ bounds_in update (Some layer) = record {
 abbrev pub asking_in : Question → Option Layer → Work
 asking_in question None = no_work
 asking_in question (Some layer) =
-    record no_work { touches = most_in layer (λ level n. most_of (touches_for question level) n); consulted = (bounds_at (live_count layer)).parts }
+    record no_work { touches = most_in layer (λ level n. most_of (touches_for question level) n); consulted = part_bound layer }
 
 -- what a command may take in a layer, where nothing but memory refuses it
 abbrev pub work_in : Command → Option Layer → Work
 work_in (Livemap version) layer = no_work
 work_in (MakeLayer name kind indexes) layer = no_work
+work_in (MakeIndex name index) layer = no_work
 work_in (Add name id shape) layer = bounds_in Adds layer
 work_in (Move name id x y w) layer = bounds_in Moves layer
 work_in (Drop name id) layer = bounds_in Drops layer
@@ -102,6 +104,7 @@ work_said state (Err fault) = no_work
 abbrev pub IsTold : Cost → Counts → Counts → Type 0
 IsTold Untold old new = ⊤
 IsTold (Updating spent) old new = (new.turns ≡ old.turns + spent.turns) × (new.marks ≡ old.marks + spent.marks) × (new.consulted ≡ old.consulted)
+IsTold (Joining spent) old new = (new.turns ≡ old.turns + spent.turns) × (new.marks ≡ old.marks + spent.marks) × (new.consulted ≡ old.consulted)
 IsTold (Asking asked) old new = (new.turns ≡ old.turns) × (new.marks ≡ old.marks) × (new.touches ≡ old.touches + asked.touches) × (new.consulted ≡ old.consulted + asked.parts)
 
 -- no count fell, at most so much was counted, and the turns, marks, touches and parts that a reply tells are those that were

@@ -8,7 +8,7 @@ ghost use Rattle.map_model.specs.Line.{IsShape};
 ghost use Rattle.map_model.specs.Shape as shapes;
 ghost use Rattle.map_model.specs.Version.{Two};
 ghost use Rattle.map_model.specs.Output.{AnswersTo};
-ghost use Rattle.map_shapes.specs.IndexSet.{index_set_of};
+ghost use Rattle.map_shapes.specs.IndexSet.{index_set_of, index_of};
 ghost use Rattle.map_shapes.specs.Kind.{kind_of};
 ghost use Rattle.map_shapes.specs.Shape.{model_shape};
 ghost use Rattle.map_shapes.specs.Version.{version_of};
@@ -22,7 +22,7 @@ use crate::replying;
 use answer_text::Reply;
 use map_layers::{Layers, OverPoints, OverSegments};
 use map_questions::AnyQuestion;
-use map_shapes::{IndexSet, Kind, Name, Shape, Version};
+use map_shapes::{IndexSet, Kind, Name, PointIndex, Shape, Version};
 use query_laws::step_ledger::Steps;
 use std::sync::ledger::Ledger;
 
@@ -49,6 +49,19 @@ pub fn make<P: OverPoints, S: OverSegments>(
     ensures updates { layers.new.updates ≡ layers.old.updates }
 {
     replying::made(layers.create(name, kind, indexes))
+}
+
+/// Makes a further index of the layer of a name.
+pub fn index<P: OverPoints, S: OverSegments>(
+    layers: &mut Layers<P, S>,
+    name: &Name,
+    index: PointIndex,
+) -> Reply
+    ensures answered { AnswersTo (map_of layers.old) (Ok (Some (commands.MakeIndex name.now (index_of index)))) (given_by (Some result) (map_of layers.new)) }
+    ensures cost { cost_of result ≡ Untold }
+    ensures updates { layers.new.updates ≡ layers.old.updates }
+{
+    replying::indexed(layers.add_index(name, index))
 }
 
 /// Adds an item to the layer of a name.

@@ -38,6 +38,7 @@ pub fn execute<P: OverPoints, S: OverSegments, L: Ledger>(
             kind,
             indexes,
         } => calling::make(layers, &name, kind, indexes),
+        Command::Index { name, index } => calling::index(layers, &name, index),
         Command::Add { name, id, x, y, w } => {
             calling::add(layers, &name, id, Shape::Point { x, y, w }, steps)
         }

@@ -10,8 +10,8 @@ ghost use Rattle.answer_text.specs.Reply.{refusal_of, reply_of, cost_of};
 ghost use Rattle.map_session.specs.Replies.{update_cost};
 
 use answer_text::{Refusal, Reply};
-use map_layers::{AskFault, CreateFault, HasLayers, UpdateFault};
-use map_shapes::{Recent, Shape, Spent};
+use map_layers::{AskFault, CreateFault, HasLayers, IndexFault, UpdateFault};
+use map_shapes::{Recent, Shape, Spent, UpdateCost};
 use script_lang::LineFault;
 
 /// That a line has a fault.
@@ -55,13 +55,28 @@ pub fn made(outcome: Result<(), CreateFault>) -> Reply
     }
 }
 
+/// That an index was made, or why it wasn't.
+pub fn indexed(outcome: Result<(), IndexFault>) -> Reply
+    ensures reply { reply_of result ≡ layers.indexed outcome }
+    ensures cost { cost_of result ≡ Untold }
+{
+    match outcome {
+        Ok(()) => Reply::Made,
+        Err(IndexFault::NoLayer) => refused(Refusal::NoLayer),
+        Err(IndexFault::WrongKind) => refused(Refusal::Kind),
+        Err(IndexFault::Standing) => refused(Refusal::Taken),
+    }
+}
+
 /// That an item was added, moved or dropped, or why it wasn't.
 pub fn updated(outcome: Result<Spent, UpdateFault>) -> Reply
     ensures reply { reply_of result ≡ layers.updated outcome }
     ensures cost { cost_of result ≡ update_cost outcome }
 {
     match outcome {
-        Ok(spent) => Reply::Updated { spent },
+        Ok(spent) => Reply::Updated {
+            spent: UpdateCost::Spread(spent),
+        },
         Err(fault) => refused(refusal_of_update(fault)),
     }
 }
@@ -120,6 +135,7 @@ pub fn refusal_of_question(fault: AskFault) -> Refusal
         AskFault::NoLayer => Refusal::NoLayer,
         AskFault::WrongKind => Refusal::Kind,
         AskFault::NoIndex => Refusal::Index,
+        AskFault::Building(items) => Refusal::Building { items },
         AskFault::Unknown(id) => Refusal::Unknown { id },
         AskFault::NoMemory => Refusal::NoMemory,
     }
