@@ -2,7 +2,7 @@
 use Rattle.std.proofs.Common.{◌≡◌, ◌∙◌, ℕ, List, [], ◌∷◌, Option, Some, None, Result, Ok, Err, refl, sym, ap}
 use Rattle.std.specs.Result.{result_unwrap_or}
 use Rattle.map_layers.specs.declared.faults.AskFault.{AskFault}
-use Rattle.map_layers.specs.declared.faults.AskFault.TheVariants.{NoLayer, WrongKind, NoIndex, Unknown, NoMemory}
+use Rattle.map_layers.specs.declared.faults.AskFault.TheVariants.{NoLayer, WrongKind, NoIndex, Building, Unknown, NoMemory}
 use Rattle.map_layers.specs.Replies.{questioned, IsAnswered}
 use Rattle.map_model.specs.Command.{Command, Size}
 use Rattle.map_model.specs.Line.{IsCommand}
@@ -53,4 +53,5 @@ live_by state (Err NoMemory) is = absurd (let none : ⊥ = cc is.0 in none)
 live_by state (Err NoLayer) is = sym (ap (λ (o : Outcome). told_size o.reply) is) ∙ live_told state (layer_named made state.layers)
 live_by state (Err WrongKind) is = sym (ap (λ (o : Outcome). told_size o.reply) is) ∙ live_told state (layer_named made state.layers)
 live_by state (Err NoIndex) is = sym (ap (λ (o : Outcome). told_size o.reply) is) ∙ live_told state (layer_named made state.layers)
+live_by state (Err (Building items)) is = sym (ap (λ (o : Outcome). told_size o.reply) is) ∙ live_told state (layer_named made state.layers)
 live_by state (Err (Unknown id)) is = sym (ap (λ (o : Outcome). told_size o.reply) is) ∙ live_told state (layer_named made state.layers)

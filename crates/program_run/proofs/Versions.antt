@@ -1,17 +1,18 @@
 -- A made script chooses no version.
 use Rattle.std.proofs.Common.{◌≡◌, ◌==◌, ◌∙◌, ◌&&◌, ◌%◌, zero, suc, refl, ap, inl, inr, ℕ, Bool, true, false, List, [], ◌∷◌, length, Option, Some, None, Ok, if◌then◌else◌}
-use Rattle.std.specs.Prelude.{⊤, nat_le, not}
+use Rattle.std.specs.Prelude.{⊤, nat_le, nat_lt, not}
 use Rattle.std.proofs.lemmas.Bool.{true≢false}
 use Rattle.query_laws.specs.StepLedger.{Counts}
 use Rattle.map_model.specs.Answer.{Question, index_of, kind_asked}
-use Rattle.map_model.specs.Command.{Command, Livemap, MakeLayer, Add, Move, Drop, Ask, Get, Size, Recent}
+use Rattle.map_model.specs.Command.{Command, Livemap, MakeLayer, MakeIndex, Add, Move, Drop, Ask, Get, Size, Recent}
+use Rattle.map_model.specs.Index as indexes
 use Rattle.map_model.specs.Index.{IndexSet, has}
-use Rattle.map_model.specs.Machine.{Outcome, refused, step, is_same_kind, is_taken, make_layer, add_to, move_in, drop_from, ask_of, got, get_from, size_of, recent_of}
+use Rattle.map_model.specs.Machine.{Outcome, refused, step, is_same_kind, is_taken, make_layer, index_in, add_to, move_in, drop_from, ask_of, got, get_from, size_of, recent_of}
 use Rattle.map_model.specs.Output.{Given}
-use Rattle.map_model.specs.Refusal.{Refusal, Taken, NoRoom, NoLayer, Index, Duplicate, Unknown, Full}
+use Rattle.map_model.specs.Refusal.{Refusal, Taken, NoRoom, NoLayer, Index, Building, Duplicate, Unknown, Full}
 use Rattle.map_model.specs.Refusal as refusals
-use Rattle.map_model.specs.Shape.{Kind, Shape, Point, kind_of}
-use Rattle.map_model.specs.State.{Layer, State, most_layers, live_count, is_live, layer_named, shape_of}
+use Rattle.map_model.specs.Shape.{Kind, Points, Shape, Point, kind_of}
+use Rattle.map_model.specs.State.{Layer, State, most_layers, live_count, is_live, layer_named, shape_of, wait_of}
 use Rattle.map_session.specs.Session.{SessionState, map_in, Executes}
 use Rattle.workload_gen.specs.Made.{Between, Round, drawn, has_live, add_round, drop_first, drop_last, count_round, near_round, top_round, upper_half, round, round_by, rounds_from, before_all, made_script}
 
@@ -19,6 +20,7 @@ use Rattle.workload_gen.specs.Made.{Between, Round, drawn, has_live, add_round, 
 abbrev pub chooses : Command → Bool
 chooses (Livemap version) = true
 chooses (MakeLayer name kind indexes) = false
+chooses (MakeIndex name index) = false
 chooses (Add name id shape) = false
 chooses (Move name id x y w) = false
 chooses (Drop name id) = false
@@ -75,6 +77,12 @@ module _ (state : State) where
       either (is_taken name state) (refused state Taken) _ (refusal Taken)
       (either (nat_le most_layers (length state.layers)) (refused state NoRoom) _ (refusal NoRoom) (same _ refl))
 
+  index_stays : (name : List ℕ) (index : indexes.Index) (layer : Option Layer) → Stays state (index_in state name index layer)
+  index_stays name index None = refusal NoLayer
+  index_stays name index (Some layer) =
+      either (not (is_same_kind layer.kind Points && not layer.indexes.batch)) (refused state refusals.Kind) _ (refusal refusals.Kind)
+      (either (has layer.indexes index) (refused state Taken) _ (refusal Taken) (same _ refl))
+
   add_stays : (name : List ℕ) (id : ℕ) (shape : Shape) (layer : Option Layer) → Stays state (add_to state name id shape layer)
   add_stays name id shape None = refusal NoLayer
   add_stays name id shape (Some layer) =
@@ -96,7 +104,9 @@ module _ (state : State) where
   ask_stays question None = refusal NoLayer
   ask_stays question (Some layer) =
       either (not (is_same_kind layer.kind (kind_asked question))) (refused state refusals.Kind) _ (refusal refusals.Kind)
-      (either (not (has layer.indexes (index_of question))) (refused state Index) _ (refusal Index) (same _ refl))
+      (either (not (has layer.indexes (index_of question))) (refused state Index) _ (refusal Index)
+      (either (nat_lt 0 (wait_of layer.waits (index_of question))) (refused state (Building (wait_of layer.waits (index_of question)))) _
+      (refusal (Building (wait_of layer.waits (index_of question)))) (same _ refl)))
 
   got_stays : (id : ℕ) (shape : Option Shape) → Stays state (got state id shape)
   got_stays id None = refusal (Unknown id)
@@ -117,6 +127,7 @@ module _ (state : State) where
   step_stays : (command : Command) → chooses command ≡ false → Stays state (step state command)
   step_stays (Livemap version) none = absurd (true≢false none)
   step_stays (MakeLayer name kind indexes) none = make_stays name kind indexes
+  step_stays (MakeIndex name index) none = index_stays name index (layer_named name state.layers)
   step_stays (Add name id shape) none = add_stays name id shape (layer_named name state.layers)
   step_stays (Move name id x y w) none = move_stays name id (Point x y w) (layer_named name state.layers)
   step_stays (Drop name id) none = drop_stays name id (layer_named name state.layers)

@@ -45,9 +45,7 @@ pub fn drawn_question(
 pub fn write_question(question: &AnyQuestion, line: &mut String) -> Result<(), AllocError> {
     match question {
         AnyQuestion::Points(question) => write_point_question(question, line),
-        AnyQuestion::Segments(
-            SegmentQuestion::Stab(Stab { x }) | SegmentQuestion::StabCount(StabCount { x }),
-        ) => writeln!(line, " {x}"),
+        AnyQuestion::Segments(question) => write_segment_question(question, line),
     }
 }
 
@@ -65,13 +63,27 @@ fn write_point_question(question: &PointQuestion, line: &mut String) -> Result<(
     }
 }
 
+fn write_segment_question(question: &SegmentQuestion, line: &mut String) -> Result<(), AllocError> {
+    match question {
+        SegmentQuestion::Stab(Stab { x }) | SegmentQuestion::StabCount(StabCount { x }) => {
+            writeln!(line, " {x}")
+        }
+        SegmentQuestion::CrossIn(q) => writeln!(line, " {} {} {}", q.x, q.y1, q.y2),
+        SegmentQuestion::CrossCount(q) => writeln!(line, " {} {} {}", q.x, q.y1, q.y2),
+    }
+}
+
 /// An answer as numbers: a count, a sum, or identifiers, each before its distance or height where that is told too.
 pub fn numbers(alloc: Global, answer: AnyAnswer) -> Result<Vec<u128>, AllocError> {
     match answer {
-        AnyAnswer::Counted(n) | AnyAnswer::Summed(n) | AnyAnswer::StabCounted(n) => {
-            Vec::from_slice(alloc, &[u128::from(n)])
-        }
-        AnyAnswer::Listed(ids) | AnyAnswer::ListedAbove(ids) | AnyAnswer::Stabbed(ids) => {
+        AnyAnswer::Counted(n)
+        | AnyAnswer::Summed(n)
+        | AnyAnswer::StabCounted(n)
+        | AnyAnswer::CrossCounted(n) => Vec::from_slice(alloc, &[u128::from(n)]),
+        AnyAnswer::Listed(ids)
+        | AnyAnswer::ListedAbove(ids)
+        | AnyAnswer::Stabbed(ids)
+        | AnyAnswer::Crossed(ids) => {
             let ids = ids.into_vec();
             ids.iter().map(|id| u128::from(*id)).collect(alloc)
         }

@@ -99,6 +99,14 @@ impl Seeded for Segment {
                 let over = items.iter().filter(|segment| q.has(segment));
                 Vec::from_slice(alloc, &[over.count() as u128])
             }
+            SegmentQuestion::CrossIn(q) => {
+                let met = items.iter().filter(|segment| q.has(segment));
+                Ok(sorted(met.map(|segment| u128::from(segment.id)).collect(alloc)?))
+            }
+            SegmentQuestion::CrossCount(q) => {
+                let met = items.iter().filter(|segment| q.has(segment));
+                Vec::from_slice(alloc, &[met.count() as u128])
+            }
         }
     }
 }

@@ -13,7 +13,7 @@ use std::sync::ledger::Ledger;
 
 /// What lines are told of by: the command words in alphabetical order, and all updates together.
 const WORDS: &str =
-    "above add count drop get layer list livemap move near nearest recent seg size stab stabcount sum top update";
+    "above add count cross crosscount drop get index layer list livemap move near nearest recent seg size stab stabcount sum top update";
 
 /// The most bytes that a file is asked for at once, as the program asks its input.
 const PIECE: usize = 4_096;
