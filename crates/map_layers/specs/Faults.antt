@@ -19,6 +19,7 @@ update_fault_of of_update.NoMemory = update.NoMemory
 -- why a layer of one kind doesn't answer, as the map says it
 abbrev pub ask_fault_of : kind_ask.AskFault → AskFault
 ask_fault_of of_ask.NoIndex = ask.NoIndex
+ask_fault_of (of_ask.Building items) = ask.Building items
 ask_fault_of of_ask.NoMemory = ask.NoMemory
 
 -- what a layer of one kind answers, as the map says it
@@ -42,5 +43,6 @@ IfAsked in_kind before (Ok given) = in_kind (Ok given)
 IfAsked in_kind before (Err ask.NoLayer) = before
 IfAsked in_kind before (Err ask.WrongKind) = before
 IfAsked in_kind before (Err ask.NoIndex) = in_kind (Err of_ask.NoIndex)
+IfAsked in_kind before (Err (ask.Building items)) = in_kind (Err (of_ask.Building items))
 IfAsked in_kind before (Err (ask.Unknown id)) = before
 IfAsked in_kind before (Err ask.NoMemory) = in_kind (Err of_ask.NoMemory)

@@ -9,6 +9,8 @@ use Rattle.map_model.specs.Output.{may_lack_memory}
 use Rattle.map_layers.specs.declared.faults.CreateFault.{CreateFault}
 use Rattle.map_layers.specs.declared.faults.CreateFault.TheVariants as create
 use Rattle.map_layers.specs.declared.faults.HasLayers.{HasLayers}
+use Rattle.map_layers.specs.declared.faults.IndexFault.{IndexFault}
+use Rattle.map_layers.specs.declared.faults.IndexFault.TheVariants as index
 use Rattle.map_layers.specs.declared.faults.UpdateFault.{UpdateFault}
 use Rattle.map_layers.specs.declared.faults.UpdateFault.TheVariants as update
 use Rattle.map_layers.specs.declared.faults.AskFault.{AskFault}
@@ -18,6 +20,12 @@ use Rattle.map_layers.specs.declared.faults.AskFault.TheVariants as ask
 abbrev pub refusal_of_create : CreateFault → refusals.Refusal
 refusal_of_create create.Taken = refusals.Taken
 refusal_of_create create.NoRoom = refusals.NoRoom
+
+-- why an index isn't made, as the definitions have it
+abbrev pub refusal_of_index : IndexFault → refusals.Refusal
+refusal_of_index index.NoLayer = refusals.NoLayer
+refusal_of_index index.WrongKind = refusals.Kind
+refusal_of_index index.Standing = refusals.Taken
 
 -- why an update is refused, as the definitions have it
 abbrev pub refusal_of_update : UpdateFault → refusals.Refusal
@@ -33,6 +41,7 @@ abbrev pub refusal_of_ask : AskFault → refusals.Refusal
 refusal_of_ask ask.NoLayer = refusals.NoLayer
 refusal_of_ask ask.WrongKind = refusals.Kind
 refusal_of_ask ask.NoIndex = refusals.Index
+refusal_of_ask (ask.Building items) = refusals.Building items
 refusal_of_ask (ask.Unknown id) = refusals.Unknown id
 refusal_of_ask ask.NoMemory = refusals.NoMemory
 
@@ -45,6 +54,11 @@ chosen (Err fault) = Refused refusals.Version
 abbrev pub created : {T : Type 0} → Result T CreateFault → Reply
 created (Ok done) = Made
 created (Err fault) = Refused (refusal_of_create fault)
+
+-- what the making of an index is replied
+abbrev pub indexed : {T : Type 0} → Result T IndexFault → Reply
+indexed (Ok done) = Made
+indexed (Err fault) = Refused (refusal_of_index fault)
 
 -- what an add, a move or a drop is replied
 abbrev pub updated : {T : Type 0} → Result T UpdateFault → Reply

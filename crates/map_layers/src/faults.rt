@@ -12,6 +12,20 @@ pub enum CreateFault {
     NoRoom,
 }
 
+/// Why no index was made. The map hasn't changed then.
+#[derive(Clone, Copy, Debug, Error, PartialEq, Eq)]
+pub enum IndexFault {
+    /// No layer has the name.
+    #[error("no layer has this name")]
+    NoLayer,
+    /// The layer is one of segments.
+    #[error("the layer is of the other kind")]
+    WrongKind,
+    /// The layer has the index, ready or not.
+    #[error("the layer has this index")]
+    Standing,
+}
+
 /// No version was chosen, since a layer stands. The map hasn't changed then.
 #[derive(Clone, Copy, Debug, Error, PartialEq, Eq)]
 #[error("a layer stands, so that the version stays")]
@@ -68,6 +82,9 @@ pub enum AskFault {
     /// The layer lacks the index that answers the question.
     #[error("the layer lacks the index for this question")]
     NoIndex,
+    /// The index that answers the question waits for so many items.
+    #[error("the index for this question waits for {0} items")]
+    Building(u64),
     /// The identifier isn't live in the layer.
     #[error("identifier {0} isn't live in the layer")]
     Unknown(u64),
@@ -85,6 +102,7 @@ impl From<layer_kinds::AskFault> for AskFault {
     fn from(fault: layer_kinds::AskFault) -> AskFault {
         match fault {
             layer_kinds::AskFault::NoIndex => AskFault::NoIndex,
+            layer_kinds::AskFault::Building(items) => AskFault::Building(items),
             layer_kinds::AskFault::NoMemory => AskFault::NoMemory,
         }
     }

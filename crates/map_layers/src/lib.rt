@@ -25,7 +25,7 @@ mod layers;
 mod named;
 
 pub use answered::Answered;
-pub use faults::{AskFault, CreateFault, HasLayers, UpdateFault};
+pub use faults::{AskFault, CreateFault, HasLayers, IndexFault, UpdateFault};
 pub use layer::Layer;
 pub use layers::Layers;
 pub use named::{AnsweringIndexes, NamedIndexes, OverPoints, OverSegments};
