@@ -1,12 +1,13 @@
 -- What contracts see of a layer, and what an update does to its items.
-use Rattle.std.specs.Prelude.{◌≡◌, ℕ, ◌<◌, ◌≤◌, Bool, true, false, List, Option, Result, Ok, Err, length, map}
-use Rattle.std.specs.Option.{is_some}
+use Rattle.std.specs.Prelude.{◌≡◌, ℕ, ◌<◌, ◌≤◌, Bool, true, false, List, Result, Ok, Err, length, map}
 use Rattle.id_chain.specs.Chain.{Entry}
-use Rattle.map_model.specs.State.{Item, is_live, with_item, without_item}
+use Rattle.map_model.specs.State.{Item, is_live, with_item, without_item, wait_after}
 use Rattle.layer_kinds.specs.declared.faults.AskFault.{AskFault}
 use Rattle.layer_kinds.specs.declared.faults.AskFault.TheVariants as ask
 use Rattle.layer_kinds.specs.declared.faults.UpdateFault.{UpdateFault}
 use Rattle.layer_kinds.specs.declared.faults.UpdateFault.TheVariants.{Duplicate, Unknown, Full, NoMemory}
+use Rattle.layer_kinds.specs.Indexing.{Placed, is_there, wait_in}
+use Rattle.layer_kinds.specs.Shares.{Waits, all_after}
 
 -- a layer: its name, how many items it may have, its entries in order of add or move, how many of these there ever were, and its indexes
 pub record Layered (X I : Type 0) : Type 0 where
@@ -46,8 +47,15 @@ IsRemoval old id new (Err (Unknown other)) = (is_live id old ≡ false) × (othe
 IsRemoval old id new (Err Full) = ⊥
 IsRemoval old id new (Err NoMemory) = (is_live id old ≡ true) × (new ≡ old)
 
--- A question is refused exactly where the index isn't there, but for want of memory, where its tally can refuse.
-abbrev pub IsAskRefusal : {T I : Type 0} → Option I → Bool → Result T AskFault → Type 0
-IsAskRefusal index refusable (Ok given) = is_some index ≡ true
-IsAskRefusal index refusable (Err ask.NoIndex) = is_some index ≡ false
-IsAskRefusal index refusable (Err ask.NoMemory) = (is_some index ≡ true) × (refusable ≡ true)
+-- A question is refused exactly where the index isn't there, and then where it waits for items, which are told, but for want of memory, where its
+-- tally can refuse.
+abbrev pub IsAskRefusal : {T P I : Type 0} → Placed P I → Bool → Result T AskFault → Type 0
+IsAskRefusal place refusable (Ok given) = (is_there place ≡ true) × (wait_in place ≡ 0)
+IsAskRefusal place refusable (Err ask.NoIndex) = is_there place ≡ false
+IsAskRefusal place refusable (Err (ask.Building items)) = (is_there place ≡ true) × (0 < items) × (items ≡ wait_in place)
+IsAskRefusal place refusable (Err ask.NoMemory) = (is_there place ≡ true) × (wait_in place ≡ 0) × (refusable ≡ true)
+
+-- An update of an identifier that is done changes for how many items each index waits, as the definitions say, and one that is refused doesn't.
+abbrev pub IsWaiting : {T : Type 0} → Bool → ℕ → List Item → (old new : Waits) → Result T UpdateFault → Type 0
+IsWaiting comes id items old new (Ok done) = new ≡ all_after (wait_after comes id items) old
+IsWaiting comes id items old new (Err fault) = new ≡ old

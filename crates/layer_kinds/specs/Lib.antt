@@ -1,6 +1,6 @@
 pub mod Shares
-pub mod SharesLaws
 pub mod Indexing
+pub mod Places
 pub mod Memory
 pub mod Layered
 pub mod Costs

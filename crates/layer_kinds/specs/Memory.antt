@@ -1,13 +1,15 @@
 -- What updates keep of the memory of a layer's indexes, and of their rebuilds.
 use Rattle.std.specs.Prelude.{◌≡◌, ℕ, ◌+◌, ◌≤◌, ◌==◌, List, [], ◌∷◌, get_or, map, Option, None, Some, Result, Ok, Err}
-use Rattle.std.specs.Option.{option_map, option_to_list}
 use Rattle.builder_trait.specs.Parts.{Contents}
 use Rattle.part_store.specs.Shelves.{one_if}
 use Rattle.global_rebuild.specs.Index.{Indexed, unwalked}
+use Rattle.late_index.specs.Late.{LateState}
 use Rattle.layer_kinds.specs.declared.faults.UpdateFault.{UpdateFault}
 use Rattle.layer_kinds.specs.declared.faults.UpdateFault.TheVariants.{Duplicate, Unknown, Full, NoMemory}
+use Rattle.layer_kinds.specs.Indexing.{Placed, Absent, Whole, Late}
 
--- the memory of an index: how many parts of each level it has, in whatever use, and how many items its rebuild hasn't come by, where one runs
+-- the memory of an index: how many parts of each level it has, in whatever use, and how many items its rebuild hasn't come by, where one runs; a late
+-- index has no rebuild
 pub record Memory : Type 0 where
   pub parts : List ℕ
   pub unwalked : Option ℕ
@@ -21,9 +23,15 @@ module _ {P Item : Type 0} (contents : P → Contents Item) where
   abbrev pub memory_in : Indexed P Item → Memory
   memory_in i = record { parts = map (λ s. s.kept + s.lent) i.store.builders; unwalked = unwalked contents i }
 
-  -- the same, where the index is there
-  abbrev pub memories_of : Option (Indexed P Item) → List Memory
-  memories_of index = option_to_list (option_map memory_in index)
+  -- the memory of a late index
+  abbrev pub late_memory : LateState P Item → Memory
+  late_memory l = record { parts = map (λ s. s.kept + s.lent) l.store.builders; unwalked = None }
+
+  -- the memory of an index that is there
+  abbrev pub memories_of : Placed P Item → List Memory
+  memories_of Absent = []
+  memories_of (Whole i) = memory_in i ∷ []
+  memories_of (Late l) = late_memory l ∷ []
 
 -- of each level there are as many parts
 abbrev pub KeepsAll : (old new : Memory) → Type 0

@@ -1,34 +1,39 @@
--- What updates of several indexes cost, each a share.
-use Rattle.std.specs.Prelude.{ℕ, ◌+◌, ◌*◌, ◌^◌, ◌<◌, ◌≤◌, All, List, Option, IfSome, count_by, sum_by}
-use Rattle.std.specs.Option.{is_some, option_map_or}
+-- What updates of several indexes cost, each a share, and for how many items they wait.
+use Rattle.std.specs.Prelude.{ℕ, ◌+◌, ◌*◌, ◌^◌, ◌<◌, Bool, nat_le, List, Option, count_by, map, sum_by}
+use Rattle.std.specs.Option.{is_some, option_map, option_map_or}
 use Rattle.query_laws.specs.StepLedger.{Counts}
 use Rattle.log_levels.specs.Cost.{IsWithin, quotas}
 use Rattle.map_structures.specs.Touches.{touches_at}
+use Rattle.map_model.specs.Cost.{Rate}
+use Rattle.map_model.specs.State.{handed}
 
--- the slope and the base of a structure
-pub record Rate : Type 0 where
-  pub slope : ℕ
-  pub base : ℕ
-
--- of each index its rate, where it is there
+-- of each index its rate, where it is there, late or not
 abbrev pub Rates : Type 0
 Rates = List (Option Rate)
+
+-- of each index how many items it waits for, where it is there; 0 where it isn't late
+abbrev pub Waits : Type 0
+Waits = List (Option ℕ)
 
 -- how many indexes are there
 abbrev pub count_of : Rates → ℕ
 count_of rates = count_by is_some rates
 
+-- an index that is there is ready once an add or a move is done, if it waits for so many before
+abbrev pub is_ready_after : Option ℕ → Bool
+is_ready_after wait = option_map_or (λ w. nat_le w handed) wait false
+
+-- how many indexes are ready once an add or a move is done, by those for which they wait before
+abbrev pub ready_count : Waits → ℕ
+ready_count waits = count_by is_ready_after waits
+
+-- for how many items each waits, after a change of each number
+abbrev pub all_after : (ℕ → ℕ) → Waits → Waits
+all_after after waits = map (λ wait. option_map after wait) waits
+
 -- the sum of the shares of the indexes that are there
 abbrev pub share : (Rate → ℕ) → Rates → ℕ
 share f rates = sum_by (λ r. option_map_or f r 0) rates
-
--- a rate that structures of the map may have
-abbrev pub IsLow : Rate → Type 0
-IsLow rate = (rate.slope ≤ 4) × (rate.base ≤ 12)
-
--- each rate is one that structures of the map may have
-abbrev pub AreLow : Rates → Type 0
-AreLow rates = All (λ r. IfSome r IsLow) rates
 
 -- at most the shares of turns and marks of these indexes together, and the touches that structures of the map may take
 abbrev pub IsShared : (Rate → ℕ) → (Rate → ℕ) → Rates → ℕ → Counts → Counts → Type 0

@@ -2,6 +2,11 @@
 use query_laws::NoMemory;
 use thiserror::Error;
 
+/// No index was made late, since the layer has it. The layer hasn't changed then.
+#[derive(Clone, Copy, Debug, Error, PartialEq, Eq)]
+#[error("the layer has the index")]
+pub struct Standing;
+
 /// Why an update was refused. No shape and no answer has changed then.
 #[derive(Clone, Copy, Debug, Error, PartialEq, Eq)]
 pub enum UpdateFault {
@@ -36,6 +41,9 @@ pub enum AskFault {
     /// The layer lacks the index that answers the question.
     #[error("the layer lacks the index for this question")]
     NoIndex,
+    /// The index was made late, and waits for so many items.
+    #[error("the index waits for {0} items")]
+    Building(u64),
     /// No memory was found for the answer.
     #[error("no memory was found")]
     NoMemory,

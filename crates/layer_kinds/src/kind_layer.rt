@@ -1,5 +1,6 @@
 //! A layer of one kind.
 mod asking;
+mod late;
 
 ghost use Rattle.std.specs.Prelude.{◌≡◌, ◌+◌, ◌*◌, ◌<◌, ◌≤◌, ◌^◌, true, false, [], IfOk, bytes_eq, length, if◌then◌else◌};
 ghost use Rattle.std.specs.Option.{option_map, is_some};
@@ -8,18 +9,18 @@ ghost use Rattle.query_laws.specs.StepLedger.{AtLapStart};
 ghost use Rattle.map_model.specs.Index.{one_if};
 ghost use Rattle.map_model.specs.Answer.{latest};
 ghost use Rattle.map_model.specs.State as state;
-ghost use Rattle.map_model.specs.Cost.{Adds, Drops, Moves, bounds_at};
+ghost use Rattle.map_model.specs.Cost.{Adds, Drops, Moves, greatest_level, parts_up_to};
 ghost use Rattle.map_shapes.specs.Shape.{model_shape};
 ghost use Rattle.id_directory.specs.Directory.{handle_of};
 ghost use Rattle.layer_kinds.specs.declared.faults.UpdateFault.TheVariants as faults;
-ghost use Rattle.layer_kinds.specs.Shares.{count_of};
-ghost use Rattle.layer_kinds.specs.Layered.{items_of, IsAdd, IsMove, IsRemoval};
+ghost use Rattle.layer_kinds.specs.Layered.{items_of, IsAdd, IsMove, IsRemoval, IsWaiting};
 ghost use Rattle.layer_kinds.specs.Costs.{turns_of, marks_of, IsCost, IsTold};
 ghost use Rattle.layer_kinds.specs.Memory.{KeepsMemory};
 
 use crate::bounds::{Bounds, spent};
 use crate::{Indexes, UpdateFault};
 pub use asking::ask_layer;
+pub use late::add_index;
 use id_directory::Directory;
 use map_shapes::{Name, Recent, Shape, Shaped, Spent};
 use query_laws::Named;
@@ -85,17 +86,17 @@ impl<X: Indexes> KindLayer<X> {
 
     /// What its updates and questions may cost now: a drop what an add may.
     pub fn bounds(&self) -> Bounds
-        ensures turns { result.turns ≡ turns_of Adds (count_of (X.rates self.now.indexes)) (length self.now.entries) }
-        ensures marks { result.marks ≡ marks_of Adds (count_of (X.rates self.now.indexes)) (length self.now.entries) }
-        ensures move_turns { result.move_turns ≡ turns_of Moves (count_of (X.rates self.now.indexes)) (length self.now.entries) }
-        ensures move_marks { result.move_marks ≡ marks_of Moves (count_of (X.rates self.now.indexes)) (length self.now.entries) }
-        ensures parts { result.parts ≡ (bounds_at (length self.now.entries)).parts }
+        ensures turns { result.turns ≡ turns_of Adds (X.rates self.now.indexes) (length self.now.entries) }
+        ensures marks { result.marks ≡ marks_of Adds (X.rates self.now.indexes) (length self.now.entries) }
+        ensures move_turns { result.move_turns ≡ turns_of Moves (X.rates self.now.indexes) (length self.now.entries) }
+        ensures move_marks { result.move_marks ≡ marks_of Moves (X.rates self.now.indexes) (length self.now.entries) }
+        ensures parts { result.parts ≡ parts_up_to (greatest_level (length self.now.entries)) }
         ensures few_turns { result.turns < 2 ^ 32 }
         ensures few_marks { result.marks < 2 ^ 32 }
         ensures few_move_turns { result.move_turns < 2 ^ 32 }
         ensures few_move_marks { result.move_marks < 2 ^ 32 }
     {
-        Bounds::new(self.len(), self.indexes.count())
+        Bounds::new(self.len(), &self.indexes)
     }
 
     /// The shape of the item with an identifier.
@@ -128,9 +129,10 @@ impl<X: Indexes> KindLayer<X> {
         ensures name { self.new.name ≡ self.old.name }
         ensures limit { self.new.most_items ≡ self.old.most_items }
         ensures there { X.rates self.new.indexes ≡ X.rates self.old.indexes }
+        ensures waits { IsWaiting true (X.Item.item_of item).id (items_of X.Item.item_of self.old.entries) (X.waits self.old.indexes) (X.waits self.new.indexes) result }
         ensures kept { KeepsMemory result (X.memory self.old.indexes) (X.memory self.new.indexes) }
-        ensures cost { IsCost Adds (count_of (X.rates self.old.indexes)) (length self.old.entries) result steps.old steps.new }
-        ensures told { IfOk result (λ spent. IsTold Adds (count_of (X.rates self.old.indexes)) (length self.old.entries) spent steps.old steps.new) }
+        ensures cost { IsCost Adds (X.rates self.old.indexes) (length self.old.entries) result steps.old steps.new }
+        ensures told { IfOk result (λ spent. IsTold Adds (X.rates self.old.indexes) (X.waits self.old.indexes) (length self.old.entries) spent steps.old steps.new) }
     {
         let bounds = self.bounds();
         let id = item.id();
@@ -168,9 +170,10 @@ impl<X: Indexes> KindLayer<X> {
         ensures name { self.new.name ≡ self.old.name }
         ensures limit { self.new.most_items ≡ self.old.most_items }
         ensures there { X.rates self.new.indexes ≡ X.rates self.old.indexes }
+        ensures waits { IsWaiting false id (items_of X.Item.item_of self.old.entries) (X.waits self.old.indexes) (X.waits self.new.indexes) result }
         ensures kept { KeepsMemory result (X.memory self.old.indexes) (X.memory self.new.indexes) }
-        ensures cost { IsCost Drops (count_of (X.rates self.old.indexes)) (length self.old.entries) result steps.old steps.new }
-        ensures told { IfOk result (λ spent. IsTold Drops (count_of (X.rates self.old.indexes)) (length self.old.entries) spent steps.old steps.new) }
+        ensures cost { IsCost Drops (X.rates self.old.indexes) (length self.old.entries) result steps.old steps.new }
+        ensures told { IfOk result (λ spent. IsTold Drops (X.rates self.old.indexes) (X.waits self.old.indexes) (length self.old.entries) spent steps.old steps.new) }
     {
         let bounds = self.bounds();
         let Some(handle) = self.directory.find(id) else {
@@ -199,9 +202,10 @@ impl<X: Indexes> KindLayer<X> {
         ensures name { self.new.name ≡ self.old.name }
         ensures limit { self.new.most_items ≡ self.old.most_items }
         ensures there { X.rates self.new.indexes ≡ X.rates self.old.indexes }
+        ensures waits { IsWaiting true (X.Item.item_of item).id (items_of X.Item.item_of self.old.entries) (X.waits self.old.indexes) (X.waits self.new.indexes) result }
         ensures kept { KeepsMemory result (X.memory self.old.indexes) (X.memory self.new.indexes) }
-        ensures cost { IsCost Moves (count_of (X.rates self.old.indexes)) (length self.old.entries) result steps.old steps.new }
-        ensures told { IfOk result (λ spent. IsTold Moves (count_of (X.rates self.old.indexes)) (length self.old.entries) spent steps.old steps.new) }
+        ensures cost { IsCost Moves (X.rates self.old.indexes) (length self.old.entries) result steps.old steps.new }
+        ensures told { IfOk result (λ spent. IsTold Moves (X.rates self.old.indexes) (X.waits self.old.indexes) (length self.old.entries) spent steps.old steps.new) }
     {
         let bounds = self.bounds();
         let id = item.id();

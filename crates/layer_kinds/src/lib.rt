@@ -21,6 +21,6 @@ mod indexes;
 mod kind_layer;
 
 pub use bounds::Bounds;
-pub use faults::{AskFault, UpdateFault};
+pub use faults::{AskFault, Standing, UpdateFault};
 pub use indexes::{Has, Indexes, LayerIndex};
-pub use kind_layer::{KindLayer, ask_layer};
+pub use kind_layer::{KindLayer, add_index, ask_layer};
