@@ -1,25 +1,36 @@
 -- What a call on the layer of a name costs, where there is one.
-use Rattle.std.specs.Prelude.{◌≡◌, ℕ, ◌+◌, ◌≤◌, Option, None, Some, Result, length}
+use Rattle.std.specs.Prelude.{◌≡◌, ℕ, ◌+◌, ◌≤◌, false, Option, None, Some, Result, Ok, Err, length}
 use Rattle.query_laws.specs.StepLedger.{Counts}
-use Rattle.map_structures.specs.Touches.{PartTouches}
+use Rattle.log_levels.specs.Cost.{IsWithin}
+use Rattle.map_structures.specs.Touches.{PartTouches, touches_at}
 use Rattle.map_model.specs.State as state
 use Rattle.map_model.specs.State.{live_count}
-use Rattle.map_model.specs.Index.{Index, index_count}
-use Rattle.map_model.specs.Cost.{bounds_at, Update, IsSpent, IsAsked}
+use Rattle.map_model.specs.Index.{Index}
+use Rattle.map_model.specs.Cost.{greatest_level, turn_bound, mark_bound, part_bound, Update, IsSpent, IsAsked}
 use Rattle.map_shapes.specs.Cost.{spent_of, asked_of}
 use Rattle.map_shapes.specs.declared.question_cost.QuestionCost.{QuestionCost}
 use Rattle.map_shapes.specs.declared.spent.Spent.{Spent}
-use Rattle.layer_kinds.specs.Costs as kinds
 use Rattle.layer_kinds.specs.Asking as asking
 use Rattle.layer_kinds.specs.Asking.{most_of}
 use Rattle.map_layers.specs.declared.faults.AskFault.{AskFault}
 use Rattle.map_layers.specs.declared.faults.UpdateFault.{UpdateFault}
-use Rattle.map_layers.specs.Faults.{IfUpdated, IfAsked}
+use Rattle.map_layers.specs.declared.faults.UpdateFault.TheVariants.{NoLayer, WrongKind, Duplicate, Unknown, Full, NoMemory}
+use Rattle.map_layers.specs.Faults.{IfAsked}
 use Rattle.map_layers.specs.Layer.{LayerState, items_in, held_by, IsEveryPart}
+
+-- what an update may cost: the bounds of its layer, and 16 touches at most a turn
+abbrev pub IsInBounds : state.Layer → Update → Counts → Counts → Type 0
+IsInBounds layer update old new = IsWithin (turn_bound update layer) (mark_bound update layer) (touches_at (greatest_level (live_count layer))) old new
 
 -- An update that is done or that memory refused is within the bounds, and any other that is refused costs nothing.
 abbrev pub IsCost : {T : Type 0} → state.Layer → Update → Result T UpdateFault → Counts → Counts → Type 0
-IsCost layer update result old new = IfUpdated (λ r. kinds.IsCost update (index_count layer.indexes) (live_count layer) r old new) (new ≡ old) (new ≡ old) result
+IsCost layer update (Ok done) old new = IsInBounds layer update old new
+IsCost layer update (Err NoLayer) old new = new ≡ old
+IsCost layer update (Err WrongKind) old new = new ≡ old
+IsCost layer update (Err (Duplicate id)) old new = new ≡ old
+IsCost layer update (Err (Unknown id)) old new = new ≡ old
+IsCost layer update (Err Full) old new = new ≡ old
+IsCost layer update (Err NoMemory) old new = IsInBounds layer update old new
 
 -- what it cost is told
 pub record IsTold (layer : state.Layer) (update : Update) (spent : Spent) (old new : Counts) : Type 0 where
@@ -29,6 +40,7 @@ pub record IsTold (layer : state.Layer) (update : Update) (spent : Spent) (old n
 
 -- A question that is answered costs so many touches at most, and no turn and no mark; how many parts were consulted and how many touches is told.
 pub record IsAsking (layer : state.Layer) (most : ℕ) (asked : QuestionCost) (old new : Counts) : Type 0 where
+  pub spread : layer.indexes.batch ≡ false
   pub bounds : IsAsked layer (asked_of asked)
   pub consulted : new.consulted ≡ old.consulted + asked.parts
   pub touches : new.touches ≡ old.touches + asked.touches
@@ -42,7 +54,7 @@ IsTouching parts most result old new = IfAsked (λ r. asking.IsTouching parts mo
 
 -- the most touches, by the greatest level that a part of the layer may have, and the live items
 abbrev pub most_in : state.Layer → (ℕ → ℕ → ℕ) → ℕ
-most_in layer most = most (bounds_at (live_count layer)).level (live_count layer)
+most_in layer most = most (greatest_level (live_count layer)) (live_count layer)
 
 -- ---- the same for the layer of a name, where there is one
 
@@ -66,7 +78,7 @@ IsAskingIn (Some layer) most asked old new = IsAsking layer (most_in layer most)
 -- another cause, nothing is counted.
 abbrev pub IsTouchingIn : {T : Type 0} → Option state.Layer → (ℕ → PartTouches) → Result T AskFault → Counts → Counts → Type 0
 IsTouchingIn None touches result old new = new ≡ old
-IsTouchingIn (Some layer) touches result old new = IsTouching (bounds_at (live_count layer)).parts (most_in layer (λ level n. most_of (touches level) n)) result old new
+IsTouchingIn (Some layer) touches result old new = IsTouching (part_bound layer) (most_in layer (λ level n. most_of (touches level) n)) result old new
 
 -- so many parts as the index of a layer has complete ones, of which no level has more than three, and as many live items as the layer has
 abbrev pub IsEveryPartIn : Option LayerState → Index → ℕ → ℕ → Type 0

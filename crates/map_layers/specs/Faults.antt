@@ -16,6 +16,11 @@ update_fault_of (of_update.Unknown id) = update.Unknown id
 update_fault_of of_update.Full = update.Full
 update_fault_of of_update.NoMemory = update.NoMemory
 
+-- what a layer of one kind did or refused, as the map says it
+abbrev pub update_result_of : {T : Type 0} → Result T kind_update.UpdateFault → Result T UpdateFault
+update_result_of (Ok done) = Ok done
+update_result_of (Err fault) = Err (update_fault_of fault)
+
 -- why a layer of one kind doesn't answer, as the map says it
 abbrev pub ask_fault_of : kind_ask.AskFault → AskFault
 ask_fault_of of_ask.NoIndex = ask.NoIndex

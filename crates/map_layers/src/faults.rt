@@ -26,6 +26,17 @@ pub enum IndexFault {
     Standing,
 }
 
+impl From<layer_kinds::Standing> for IndexFault {
+    ghost use Rattle.std.specs.Prelude.{◌≡◌};
+    ghost use Rattle.map_layers.specs.declared.faults.IndexFault.TheVariants as faults;
+
+    ghost from_gives = { λ _ e. e ≡ faults.Standing };
+
+    fn from(_: layer_kinds::Standing) -> IndexFault {
+        IndexFault::Standing
+    }
+}
+
 /// No version was chosen, since a layer stands. The map hasn't changed then.
 #[derive(Clone, Copy, Debug, Error, PartialEq, Eq)]
 #[error("a layer stands, so that the version stays")]

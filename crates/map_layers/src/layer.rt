@@ -1,28 +1,27 @@
 //! A layer of either kind.
 ghost use Rattle.std.specs.Prelude.{◌≡◌, ◌+◌, ◌<◌, ◌≤◌, ◌^◌, true, [], IfOk, bytes_eq, length};
 ghost use Rattle.std.specs.Option.{option_map};
-ghost use Rattle.std.specs.Result.{is_ok};
 ghost use Rattle.query_laws.specs.StepLedger.{AtLapStart};
 ghost use Rattle.map_model.specs.Answer.{latest};
 ghost use Rattle.map_model.specs.Cost.{Adds, Drops, Moves};
-ghost use Rattle.map_model.specs.Index.{fits, one_if};
+ghost use Rattle.map_model.specs.Index.{fits};
 ghost use Rattle.map_model.specs.Line.{IsShape};
 ghost use Rattle.map_model.specs.State as state;
 ghost use Rattle.map_model.specs.Version.{Two};
-ghost use Rattle.map_shapes.specs.IndexSet.{index_set_of};
+ghost use Rattle.map_shapes.specs.IndexSet.{index_set_of, index_of};
 ghost use Rattle.map_shapes.specs.Kind as kinds;
 ghost use Rattle.map_shapes.specs.Shape.{model_shape};
-ghost use Rattle.map_layers.specs.Layer.{name_in, items_in, layer_seen, IsKept, IsAddTo, IsMoveTo, IsRemovalFrom};
+ghost use Rattle.map_layers.specs.Layer.{name_in, items_in, layer_seen, IsAddTo, IsMoveTo, IsRemovalFrom, IsIndexIn};
 ghost use Rattle.map_questions.specs.Any.{question_of};
 ghost use Rattle.map_layers.specs.Questions.{Asks};
-ghost use Rattle.layer_kinds.specs.Layered.{items_of};
 ghost use Rattle.map_layers.specs.Costs.{IsCost, IsTold};
-ghost use Rattle.map_layers.specs.Memory.{KeepsMemory};
+ghost use Rattle.map_layers.specs.Memory.{KeepsMemory, AddsMemory};
+ghost use Rattle.map_layers.specs.Faults.{update_result_of};
 
-use crate::{Answered, AskFault, NamedIndexes, OverPoints, OverSegments, UpdateFault};
+use crate::{Answered, AskFault, IndexFault, NamedIndexes, OverPoints, OverSegments, UpdateFault};
 use layer_kinds::KindLayer;
 use map_questions::AnyQuestion;
-use map_shapes::{IndexSet, Kind, Name, QuestionCost, Recent, Shape, Spent};
+use map_shapes::{IndexSet, Kind, Name, PointIndex, QuestionCost, Recent, Shape, Spent};
 use query_laws::step_ledger::Steps;
 use std::alloc::Global;
 use std::default::MadeWith;
@@ -53,13 +52,8 @@ impl<P: OverPoints, S: OverSegments> Model for Layer<P, S> {
 /// What fills a place that no layer has yet.
 impl<P: OverPoints, S: OverSegments> MadeWith<Global> for Layer<P, S> {
     fn made_with(alloc: Global) -> Layer<P, S> {
-        let none = IndexSet {
-            range: false,
-            near: false,
-            top: false,
-            stab: false,
-        };
-        let shapes = Shapes::Points(KindLayer::new(alloc, no_name(), 0, P::of_set(alloc, none)));
+        let none = P::of_set(alloc, IndexSet::new());
+        let shapes = Shapes::Points(KindLayer::new(alloc, no_name(), 0, none));
         Layer { shapes }
     }
 }
@@ -75,9 +69,15 @@ impl<P: OverPoints, S: OverSegments> Layer<P, S> {
     ) -> Layer<P, S>
         requires few { most_items ≤ 2 ^ 24 }
         requires fits { fits (kinds.kind_of kind) (index_set_of indexes) ≡ true }
-        ensures made { result.layer ≡ record { name = name; kind = kinds.kind_of kind; indexes = index_set_of indexes; items = [] } }
+        ensures made { result.layer ≡ record {
+          name = name;
+          kind = kinds.kind_of kind;
+          indexes = index_set_of indexes;
+          waits = state.no_waits;
+          inserted = 0;
+          items = [];
+        } }
         ensures limit { result.most_items ≡ most_items }
-        ensures adds { result.adds ≡ 0 }
     {
         let shapes = match kind {
             Kind::Points => {
@@ -154,6 +154,24 @@ impl<P: OverPoints, S: OverSegments> Layer<P, S> {
         }
     }
 
+    /// Gives it an index that it hasn't, which waits for all items: `WrongKind` where it has segments, `Standing` where it has the index.
+    pub(crate) fn add_index(
+        &mut self,
+        alloc: Global,
+        index: PointIndex,
+    ) -> Result<(), IndexFault>
+        ensures begun { IsIndexIn self.old.layer (index_of index) self.new.layer result }
+        ensures name { name_in self.new ≡ name_in self.old }
+        ensures limit { self.new.most_items ≡ self.old.most_items }
+        ensures adds { self.new.layer.inserted ≡ self.old.layer.inserted }
+        ensures kept { AddsMemory result self.old.memory self.new.memory }
+    {
+        match &mut self.shapes {
+            Shapes::Points(points) => Ok(P::add_index(points, alloc, index)?),
+            Shapes::Segments(_) => Err(IndexFault::WrongKind),
+        }
+    }
+
     /// Adds an item at the end, and says what it cost: `WrongKind` where its shape isn't of the layer's kind.
     pub(crate) fn add<L: Ledger>(
         &mut self,
@@ -162,12 +180,12 @@ impl<P: OverPoints, S: OverSegments> Layer<P, S> {
         steps: &mut Steps<L>,
     ) -> Result<Spent, UpdateFault>
         requires lawful { IsShape Two (model_shape shape) }
-        requires few { self.old.adds < 2 ^ 62 }
+        requires few { self.old.layer.inserted < 2 ^ 62 }
         requires lap { AtLapStart steps.old }
-        ensures added { IsAddTo self.old.most_items self.old.layer (record { id = id; shape = model_shape shape }) (items_in self.new) result }
-        ensures same { self.new.layer ≡ record self.old.layer { items = items_in self.new } }
+        ensures added { IsAddTo self.old.most_items self.old.layer (record { id = id; shape = model_shape shape }) self.new.layer result }
+        ensures name { name_in self.new ≡ name_in self.old }
         ensures limit { self.new.most_items ≡ self.old.most_items }
-        ensures adds { self.new.adds ≡ self.old.adds + one_if (is_ok result) }
+        ensures adds { self.new.layer.inserted ≤ self.old.layer.inserted + 1 }
         ensures kept { KeepsMemory result self.old.memory self.new.memory }
         ensures cost { IsCost self.old.layer Adds result steps.old steps.new }
         ensures told { IfOk result (λ spent. IsTold self.old.layer Adds spent steps.old steps.new) }
@@ -187,12 +205,12 @@ impl<P: OverPoints, S: OverSegments> Layer<P, S> {
         steps: &mut Steps<L>,
     ) -> Result<Spent, UpdateFault>
         requires lawful { IsShape Two (model_shape shape) }
-        requires few { self.old.adds < 2 ^ 62 }
+        requires few { self.old.layer.inserted < 2 ^ 62 }
         requires lap { AtLapStart steps.old }
-        ensures moved { IsMoveTo self.old.layer (record { id = id; shape = model_shape shape }) (items_in self.new) result }
-        ensures same { self.new.layer ≡ record self.old.layer { items = items_in self.new } }
+        ensures moved { IsMoveTo self.old.layer (record { id = id; shape = model_shape shape }) self.new.layer result }
+        ensures name { name_in self.new ≡ name_in self.old }
         ensures limit { self.new.most_items ≡ self.old.most_items }
-        ensures adds { self.new.adds ≡ self.old.adds + one_if (is_ok result) }
+        ensures adds { self.new.layer.inserted ≤ self.old.layer.inserted + 1 }
         ensures kept { KeepsMemory result self.old.memory self.new.memory }
         ensures cost { IsCost self.old.layer Moves result steps.old steps.new }
         ensures told { IfOk result (λ spent. IsTold self.old.layer Moves spent steps.old steps.new) }
@@ -210,10 +228,10 @@ impl<P: OverPoints, S: OverSegments> Layer<P, S> {
         steps: &mut Steps<L>,
     ) -> Result<Spent, UpdateFault>
         requires lap { AtLapStart steps.old }
-        ensures removed { IsRemovalFrom (items_in self.old) id (items_in self.new) result }
-        ensures same { self.new.layer ≡ record self.old.layer { items = items_in self.new } }
+        ensures removed { IsRemovalFrom self.old.layer id self.new.layer result }
+        ensures name { name_in self.new ≡ name_in self.old }
         ensures limit { self.new.most_items ≡ self.old.most_items }
-        ensures adds { self.new.adds ≡ self.old.adds }
+        ensures adds { self.new.layer.inserted ≡ self.old.layer.inserted }
         ensures kept { KeepsMemory result self.old.memory self.new.memory }
         ensures cost { IsCost self.old.layer Drops result steps.old steps.new }
         ensures told { IfOk result (λ spent. IsTold self.old.layer Drops spent steps.old steps.new) }
@@ -236,16 +254,16 @@ fn add_to<X: NamedIndexes, L: Ledger>(
     requires few { layer.old.adds < 2 ^ 62 }
     requires lap { AtLapStart steps.old }
     ensures added { IsAddTo layer.old.most_items (layer_seen X.Item.kind X.Item.item_of X.held layer.old) (record { id = id; shape = model_shape shape })
-        (items_of X.Item.item_of layer.new.entries) result }
-    ensures same { IsKept X.Item.kind X.Item.item_of X.held layer.old layer.new }
+        (layer_seen X.Item.kind X.Item.item_of X.held layer.new) result }
+    ensures name { layer.new.name ≡ layer.old.name }
     ensures limit { layer.new.most_items ≡ layer.old.most_items }
-    ensures adds { layer.new.adds ≡ layer.old.adds + one_if (is_ok result) }
+    ensures adds { layer.new.adds ≤ layer.old.adds + 1 }
     ensures kept { KeepsMemory result (X.memory layer.old.indexes) (X.memory layer.new.indexes) }
     ensures cost { IsCost (layer_seen X.Item.kind X.Item.item_of X.held layer.old) Adds result steps.old steps.new }
     ensures told { IfOk result (λ spent. IsTold (layer_seen X.Item.kind X.Item.item_of X.held layer.old) Adds spent steps.old steps.new) }
 {
     match X::item(id, shape) {
-        Some(item) => Ok(layer.add(item, steps)?),
+        Some(item) => in_map(layer.add(item, steps)),
         None => Err(UpdateFault::WrongKind),
     }
 }
@@ -261,16 +279,16 @@ fn relocate_in<X: NamedIndexes, L: Ledger>(
     requires few { layer.old.adds < 2 ^ 62 }
     requires lap { AtLapStart steps.old }
     ensures moved { IsMoveTo (layer_seen X.Item.kind X.Item.item_of X.held layer.old) (record { id = id; shape = model_shape shape })
-        (items_of X.Item.item_of layer.new.entries) result }
-    ensures same { IsKept X.Item.kind X.Item.item_of X.held layer.old layer.new }
+        (layer_seen X.Item.kind X.Item.item_of X.held layer.new) result }
+    ensures name { layer.new.name ≡ layer.old.name }
     ensures limit { layer.new.most_items ≡ layer.old.most_items }
-    ensures adds { layer.new.adds ≡ layer.old.adds + one_if (is_ok result) }
+    ensures adds { layer.new.adds ≤ layer.old.adds + 1 }
     ensures kept { KeepsMemory result (X.memory layer.old.indexes) (X.memory layer.new.indexes) }
     ensures cost { IsCost (layer_seen X.Item.kind X.Item.item_of X.held layer.old) Moves result steps.old steps.new }
     ensures told { IfOk result (λ spent. IsTold (layer_seen X.Item.kind X.Item.item_of X.held layer.old) Moves spent steps.old steps.new) }
 {
     match X::item(id, shape) {
-        Some(item) => Ok(layer.relocate(item, steps)?),
+        Some(item) => in_map(layer.relocate(item, steps)),
         None => Err(UpdateFault::WrongKind),
     }
 }
@@ -282,15 +300,22 @@ fn remove_from<X: NamedIndexes, L: Ledger>(
     steps: &mut Steps<L>,
 ) -> Result<Spent, UpdateFault>
     requires lap { AtLapStart steps.old }
-    ensures removed { IsRemovalFrom (items_of X.Item.item_of layer.old.entries) id (items_of X.Item.item_of layer.new.entries) result }
-    ensures same { IsKept X.Item.kind X.Item.item_of X.held layer.old layer.new }
+    ensures removed { IsRemovalFrom (layer_seen X.Item.kind X.Item.item_of X.held layer.old) id (layer_seen X.Item.kind X.Item.item_of X.held layer.new) result }
+    ensures name { layer.new.name ≡ layer.old.name }
     ensures limit { layer.new.most_items ≡ layer.old.most_items }
     ensures adds { layer.new.adds ≡ layer.old.adds }
     ensures kept { KeepsMemory result (X.memory layer.old.indexes) (X.memory layer.new.indexes) }
     ensures cost { IsCost (layer_seen X.Item.kind X.Item.item_of X.held layer.old) Drops result steps.old steps.new }
     ensures told { IfOk result (λ spent. IsTold (layer_seen X.Item.kind X.Item.item_of X.held layer.old) Drops spent steps.old steps.new) }
 {
-    Ok(layer.remove(id, steps)?)
+    in_map(layer.remove(id, steps))
+}
+
+/// What a layer of one kind did or refused, as the map says it.
+fn in_map(done: Result<Spent, layer_kinds::UpdateFault>) -> Result<Spent, UpdateFault>
+    ensures { result ≡ update_result_of done }
+{
+    Ok(done?)
 }
 
 /// A name for a place that no layer has.

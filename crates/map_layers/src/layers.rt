@@ -14,19 +14,21 @@ ghost use Rattle.map_model.specs.Shape as shapes;
 ghost use Rattle.map_model.specs.Version.{Two};
 ghost use Rattle.map_model.specs.Reply as replies;
 ghost use Rattle.map_shapes.specs.Kind.{kind_of};
-ghost use Rattle.map_shapes.specs.IndexSet.{index_set_of};
+ghost use Rattle.map_shapes.specs.IndexSet.{index_set_of, index_of};
 ghost use Rattle.map_shapes.specs.Shape.{model_shape};
 ghost use Rattle.map_shapes.specs.Version.{version_of};
 ghost use Rattle.map_layers.specs.Layer.{LayerState};
 ghost use Rattle.map_layers.specs.Layers.{no_layers, map_of, named};
 ghost use Rattle.map_layers.specs.Costs.{IsCostIn, IsToldIn};
-ghost use Rattle.map_layers.specs.Memory.{KeepsMemoryIn};
-ghost use Rattle.map_layers.specs.Replies.{chosen, created, updated, questioned, IsAnswered};
+ghost use Rattle.map_layers.specs.Memory.{KeepsMemoryIn, AddsMemoryIn};
+ghost use Rattle.map_layers.specs.Replies.{chosen, created, indexed, updated, questioned, IsAnswered};
 
-use crate::layers::updating::{add_in, move_in, remove_in};
-use crate::{AskFault, CreateFault, HasLayers, Layer, OverPoints, OverSegments, UpdateFault};
+use crate::layers::updating::{add_in, index_in, move_in, remove_in};
+use crate::{
+    AskFault, CreateFault, HasLayers, IndexFault, Layer, OverPoints, OverSegments, UpdateFault,
+};
 use arrayvec::ArrayVec;
-use map_shapes::{IndexSet, Kind, Name, Recent, Shape, Spent, Version};
+use map_shapes::{IndexSet, Kind, Name, PointIndex, Recent, Shape, Spent, Version};
 use query_laws::step_ledger::Steps;
 use std::alloc::Global;
 use std::marker::Model;
@@ -116,6 +118,21 @@ impl<P: OverPoints, S: OverSegments> Layers<P, S> {
         }
         self.layers.push(Layer::new(self.alloc, *name, self.most_items, kind, indexes));
         Ok(())
+    }
+
+    /// Gives a layer of points in use a further index.
+    ///
+    /// `NoLayer` where no layer has the name, then `WrongKind` where it has segments, and `Standing` where it has the index, ready or not. The index
+    /// catches up with the items, four an accepted update of the layer; until then `ask` refuses its questions. Of a layer without items it is
+    /// ready at once. It takes no memory, is no update and begins no lap: updates count it from then on.
+    pub fn add_index(&mut self, name: &Name, index: PointIndex) -> Result<(), IndexFault>
+        ensures answered { IsAnswered (map_of self.old) (commands.MakeIndex name.now (index_of index)) (map_of self.new) (indexed result) }
+        ensures updates { self.new.updates ≡ self.old.updates }
+
+        // The indexes that were there keep their memory.
+        ensures kept { AddsMemoryIn name.now result self.old.layers self.new.layers }
+    {
+        index_in(&mut self.layers, name, self.alloc, index)
     }
 
     /// Adds an item at the end of a layer. Its coordinates are as they are kept, whatever the version.

@@ -21,8 +21,8 @@ use std::sync::ledger::Ledger;
 impl<P: OverPoints, S: OverSegments> Layers<P, S> {
     /// Puts a question to the items of a layer.
     ///
-    /// `WrongKind` where the question is about the other kind, `NoIndex` where the layer lacks the index for it, and `NoMemory` where a
-    /// list wanted memory that wasn't given.
+    /// `WrongKind` where the question is about the other kind, `NoIndex` where the layer lacks the index for it, `Building` where that waits for
+    /// items, and `NoMemory` where a list wanted memory that wasn't given.
     pub fn ask<L: Ledger>(
         &self,
         name: &Name,

@@ -7,17 +7,18 @@ ghost use Rattle.map_model.specs.Version.{Version, Two};
 ghost use Rattle.map_model.specs.Command as commands;
 ghost use Rattle.map_model.specs.Line.{IsShape};
 ghost use Rattle.map_model.specs.Shape.{Point};
+ghost use Rattle.map_shapes.specs.IndexSet.{index_of};
 ghost use Rattle.map_shapes.specs.Shape.{model_shape};
 ghost use Rattle.map_layers.specs.Layer.{layer_of};
 ghost use Rattle.map_layers.specs.Layers.{AllDiffer, adds_of, limits_of, map_with, names_of, place_named};
 ghost use Rattle.map_layers.specs.Costs.{IsCostIn, IsToldIn};
-ghost use Rattle.map_layers.specs.Memory.{KeepsMemoryIn};
-ghost use Rattle.map_layers.specs.Replies.{updated, IsAnswered};
+ghost use Rattle.map_layers.specs.Memory.{KeepsMemoryIn, AddsMemoryIn};
+ghost use Rattle.map_layers.specs.Replies.{indexed, updated, IsAnswered};
 
 use super::MOST_LAYERS;
-use crate::{Layer, OverPoints, OverSegments, UpdateFault};
+use crate::{IndexFault, Layer, OverPoints, OverSegments, UpdateFault};
 use arrayvec::ArrayVec;
-use map_shapes::{Name, Shape, Spent};
+use map_shapes::{Name, PointIndex, Shape, Spent};
 use query_laws::step_ledger::Steps;
 use std::alloc::Global;
 use std::sync::ledger::Ledger;
@@ -75,6 +76,27 @@ pub(super) fn move_in<P: OverPoints, S: OverSegments, L: Ledger>(
     match place_of(layers.as_slice(), name) {
         Some(k) => layers.as_mut_slice()[k].relocate(id, Shape::Point { x, y, w }, steps),
         None => Err(UpdateFault::NoLayer),
+    }
+}
+
+/// Gives the layer of a name, where there is one, an index that it hasn't.
+pub(super) fn index_in<P: OverPoints, S: OverSegments>(
+    layers: &mut ArrayVec<Layer<P, S>, MOST_LAYERS, Global>,
+    name: &Name,
+    alloc: Global,
+    index: PointIndex,
+) -> Result<(), IndexFault>
+    requires differ { AllDiffer (names_of layers.old.items) }
+    ensures answered { (version : Version) (most : ℕ)
+        → IsAnswered (map_with version most layers.old.items) (commands.MakeIndex name.now (index_of index)) (map_with version most layers.new.items) (indexed result) }
+    ensures differ { AllDiffer (names_of layers.new.items) }
+    ensures limits { limits_of layers.new.items ≡ limits_of layers.old.items }
+    ensures adds { adds_of layers.new.items ≡ adds_of layers.old.items }
+    ensures kept { AddsMemoryIn name.now result layers.old.items layers.new.items }
+{
+    match place_of(layers.as_slice(), name) {
+        Some(k) => layers.as_mut_slice()[k].add_index(alloc, index),
+        None => Err(IndexFault::NoLayer),
     }
 }
 
