@@ -1,5 +1,5 @@
 -- Layers by their names.
-use Rattle.std.proofs.Common.{◌≡◌, ℕ, zero, suc, ◌+◌, ◌<◌, ◌≤◌, ◌∙◌, Bool, true, false, if◌then◌else◌, List, [], ◌∷◌, ◌++◌, Option, Some, None, Result, Ok, Err, length, map, bytes_eq, get_or, set, refl, sym, ap, subst, arith}
+use Rattle.std.proofs.Common.{◌≡◌, ℕ, zero, suc, ◌+◌, ◌<◌, ◌≤◌, ◌∙◌, Bool, true, false, if◌then◌else◌, List, [], ◌∷◌, ◌++◌, Option, Some, None, length, map, bytes_eq, get_or, set, refl, sym, ap, subst, arith}
 use Rattle.std.specs.List.{list_any, position_from, refill, All}
 use Rattle.std.specs.Option.{is_some, option_map}
 use Rattle.std.proofs.lemmas.Grind.{common_steps}
@@ -9,15 +9,11 @@ use Rattle.std.proofs.lemmas.List.Folds.{list_any-append}
 use Rattle.std.proofs.lemmas.List.Sums.{sum_by-set}
 use Rattle.std.proofs.lemmas.Slice.Eq.{bytes_eq-Decides}
 use Rattle.log_levels.proofs.Held.{written}
-use Rattle.map_model.specs.State.{Item, Layer, State, layer_named, changed}
+use Rattle.map_model.specs.State.{Layer, State, layer_named}
 use Rattle.map_model.specs.Version.{Version}
 use Rattle.layer_kinds.specs.Memory.{Memory}
-use Rattle.layer_kinds.specs.declared.faults.UpdateFault.TheVariants as of_kind
-use Rattle.layer_kinds.proofs.Keeping as keeping
-use Rattle.map_layers.specs.declared.faults.UpdateFault.{UpdateFault}
-use Rattle.map_layers.specs.declared.faults.UpdateFault.TheVariants.{NoLayer, WrongKind, Duplicate, Unknown, Full, NoMemory}
-use Rattle.map_layers.specs.Memory.{KeepsMemory, KeepsMemoryWhere, KeepsMemoryIn}
-use Rattle.map_layers.specs.Layer.{LayerState, name_in, limit_in, adds_in, items_in, layer_of}
+use Rattle.map_layers.specs.Memory.{KeptWhere, KeptIn}
+use Rattle.map_layers.specs.Layer.{LayerState, name_in, limit_in, adds_in, layer_of}
 use Rattle.map_layers.specs.Layers.{has_name, named, place_named, names_of, limits_of, adds_of, map_with, AllDiffer}
 use Rattle.map_layers.proofs.Answering.{IsRenewed}
 
@@ -28,9 +24,9 @@ state_of version most layers = record { version = version; most_items = most; la
 pub state_of-same : {v w : Version} {m n : ℕ} {ls ks : List Layer} → v ≡ w → m ≡ n → ls ≡ ks → state_of v m ls ≡ state_of w n ks
 state_of-same same_version same_most same_layers = λ i. record { version = same_version i; most_items = same_most i; layers = same_layers i }
 
--- the layers with a change of the items of that of a name
-abbrev with_change : List ℕ → (List Item → List Item) → List Layer → List Layer
-with_change name change layers = map (λ layer. if bytes_eq layer.name name then changed change layer else layer) layers
+-- the layers with a change of that of a name
+abbrev with_change : List ℕ → (Layer → Layer) → List Layer → List Layer
+with_change name change layers = map (λ layer. if bytes_eq layer.name name then change layer else layer) layers
 
 -- the layer of a name is that of the definitions
 layer_named-named : (name : List ℕ) (ls : List LayerState) → layer_named name (map layer_of ls) ≡ option_map layer_of (named name ls)
@@ -56,7 +52,7 @@ is_among-named name [] = refl
 is_among-named name (l ∷ ls) = grind (arith, common_steps, is_among-named name ls)
 
 -- no layer of the name is there
-unnamed : (name : List ℕ) (f : List Item → List Item) (ls : List LayerState) → named name ls ≡ None → with_change name f (map layer_of ls) ≡ map layer_of ls
+unnamed : (name : List ℕ) (f : Layer → Layer) (ls : List LayerState) → named name ls ≡ None → with_change name f (map layer_of ls) ≡ map layer_of ls
 unnamed name f [] none = refl
 unnamed name f (l ∷ ls) none = grind (arith, common_steps, unnamed name f ls)
 
@@ -99,9 +95,9 @@ none-after name l ls differ has =
     let none : is_some (named (name_in l) ls) ≡ false = is_among-named (name_in l) ls ∙ differ.0 in
     subst (λ n. named n ls ≡ None) same (grind (arith, common_steps))
 
-module _ (name : List ℕ) (change : List Item → List Item) (d l' : LayerState) where
+module _ (name : List ℕ) (change : Layer → Layer) (d l' : LayerState) where
   renewed : (i k : ℕ) (ls : List LayerState) → position_from (has_name name) i ls ≡ Some (i + k) → AllDiffer (names_of ls)
-      → layer_of l' ≡ changed change (layer_of (get_or ls k d)) → map layer_of (set ls k l') ≡ with_change name change (map layer_of ls)
+      → layer_of l' ≡ change (layer_of (get_or ls k d)) → map layer_of (set ls k l') ≡ with_change name change (map layer_of ls)
   renewed i k [] found differ is = absurd cc
   renewed i zero (l ∷ ls) found differ is =
       let has : bytes_eq (name_in l) name ≡ true = grind (arith, common_steps, place_from name (i + 1) i ls) in
@@ -119,35 +115,26 @@ limit-of most k ls d limits within =
 
 -- what memory the layers keep
 
-KeepsMemory-same : {T : Type 0} (result : Result T UpdateFault) (ms : List Memory) → KeepsMemory result ms ms
-KeepsMemory-same {T} (Ok done) ms = keeping.KeepsMemory-same (Ok done) ms
-KeepsMemory-same (Err NoLayer) ms = refl
-KeepsMemory-same (Err WrongKind) ms = refl
-KeepsMemory-same (Err (Duplicate id)) ms = refl
-KeepsMemory-same (Err (Unknown id)) ms = refl
-KeepsMemory-same (Err Full) ms = refl
-KeepsMemory-same {T} (Err NoMemory) ms = keeping.KeepsMemory-same {T = T} (Err of_kind.NoMemory) ms
+module _ (name : List ℕ) (R : (old new : List Memory) → Type 0) where
+  -- the layer of a name isn't there
+  pub KeptIn-none : (ls : List LayerState) → named name ls ≡ None → KeptIn R name ls ls
+  KeptIn-none [] none = tt
+  KeptIn-none (l ∷ ls) none =
+      let other : has_name name l ≡ false = grind (arith, common_steps) in
+      (subst (λ b. KeptWhere R b l.memory l.memory) (sym other) refl, KeptIn-none ls (grind (arith, common_steps)))
 
-module _ (name : List ℕ) {T : Type 0} (result : Result T UpdateFault) where
-  KeepsMemoryWhere-same : (b : Bool) (ms : List Memory) → KeepsMemoryWhere b result ms ms
-  KeepsMemoryWhere-same true ms = KeepsMemory-same result ms
-  KeepsMemoryWhere-same false ms = refl
-
-  pub KeepsMemoryIn-same : (ls : List LayerState) → KeepsMemoryIn name result ls ls
-  KeepsMemoryIn-same ls =
-      keeping.Each-same (λ l l'. KeepsMemoryWhere (has_name name l) result l.memory l'.memory) (λ l. KeepsMemoryWhere-same (has_name name l) l.memory) ls
-
-  KeepsMemoryIn-set : (d l' : LayerState) (i k : ℕ) (ls : List LayerState) → position_from (has_name name) i ls ≡ Some (i + k)
-      → KeepsMemory result (get_or ls k d).memory l'.memory → KeepsMemoryIn name result ls (set ls k l')
-  KeepsMemoryIn-set d l' i k [] found kept = absurd cc
-  KeepsMemoryIn-set d l' i zero (l ∷ ls) found kept =
+  KeptIn-set : (d l' : LayerState) (i k : ℕ) (ls : List LayerState) → position_from (has_name name) i ls ≡ Some (i + k) → AllDiffer (names_of ls)
+      → R (get_or ls k d).memory l'.memory → KeptIn R name ls (set ls k l')
+  KeptIn-set d l' i k [] found differ kept = absurd cc
+  KeptIn-set d l' i zero (l ∷ ls) found differ kept =
       let has : has_name name l ≡ true = grind (arith, common_steps, place_from name (i + 1) i ls) in
-      (subst (λ b. KeepsMemoryWhere b result l.memory l'.memory) (sym has) kept, KeepsMemoryIn-same ls)
-  KeepsMemoryIn-set d l' i (suc k) (l ∷ ls) found kept =
-      (KeepsMemoryWhere-same (has_name name l) l.memory, KeepsMemoryIn-set d l' (i + 1) k ls (grind (arith, common_steps)) kept)
+      (subst (λ b. KeptWhere R b l.memory l'.memory) (sym has) kept, KeptIn-none ls (none-after name l ls differ has))
+  KeptIn-set d l' i (suc k) (l ∷ ls) found differ kept =
+      let other : has_name name l ≡ false = grind (arith, common_steps) in
+      (subst (λ b. KeptWhere R b l.memory l.memory) (sym other) refl, KeptIn-set d l' (i + 1) k ls (grind (arith, common_steps)) differ.1 kept)
 
 module _ (name : List ℕ) (k : ℕ) (items ls : List LayerState) (d l' : LayerState) (written_to : ls ≡ items) (found : place_named name ls ≡ Some k) (within : k < length ls)
-    (kept : layer_of l' ≡ record (layer_of (get_or ls k d)) { items = items_in l' }) where
+    (differ : AllDiffer (names_of items)) (same_name : name_in l' ≡ name_in (get_or ls k d)) where
   abbrev l : LayerState
   l = get_or ls k d
 
@@ -160,12 +147,12 @@ module _ (name : List ℕ) (k : ℕ) (items ls : List LayerState) (d l' : LayerS
   place : position_from (has_name name) 0 ls ≡ Some (0 + k)
   place = found ∙ ap Some (omega arith)
 
-  same_name : name_in l' ≡ name_in l
-  same_name = ap (λ m. m.name) kept
+  differ_before : AllDiffer (names_of ls)
+  differ_before = subst (λ xs. AllDiffer (names_of xs)) (sym written_to) differ
 
   -- the names are the same
-  pub AllDiffer-at : AllDiffer (names_of items) → AllDiffer (names_of ls')
-  AllDiffer-at differ = subst AllDiffer (sym (ap names_of is_set ∙ map-set_same name_in ls k l' d same_name ∙ ap names_of written_to)) differ
+  pub AllDiffer-at : AllDiffer (names_of ls')
+  AllDiffer-at = subst AllDiffer (sym (ap names_of is_set ∙ map-set_same name_in ls k l' d same_name ∙ ap names_of written_to)) differ
 
   -- each may have as many items as before
   pub limits-at : limit_in l' ≡ limit_in l → limits_of ls' ≡ limits_of items
@@ -182,21 +169,17 @@ module _ (name : List ℕ) (k : ℕ) (items ls : List LayerState) (d l' : LayerS
   pub found-at : layer_named name (map layer_of items) ≡ Some (layer_of l)
   found-at = layer_named-Some name items (subst (λ xs. named name xs ≡ Some l) written_to (named-place name 0 k ls d place))
 
-  pub IsRenewed-at : AllDiffer (names_of items) → (version : Version) (most : ℕ)
-      → IsRenewed name (map_with version most items) (map_with version most ls') (layer_of l) (items_in l')
-  IsRenewed-at differ version most = record {
+  pub IsRenewed-at : (version : Version) (most : ℕ) → IsRenewed name (map_with version most items) (map_with version most ls') (layer_of l) (layer_of l')
+  IsRenewed-at version most = record {
     found = found-at;
-    same = λ same_items.
-        let same : layer_of l' ≡ layer_of l = kept ∙ ap (λ xs. record (layer_of l) { items = xs }) same_items in
+    same = λ same.
         ap (state_of version most) (ap (map layer_of) is_set ∙ map-set_same layer_of ls k l' d same ∙ ap (map layer_of) written_to);
-    changed = λ change new_items.
-        let is : layer_of l' ≡ changed change (layer_of l) = kept ∙ ap (λ xs. record (layer_of l) { items = xs }) new_items in
+    changed = λ change is.
         ap (state_of version most)
-        (ap (map layer_of) is_set ∙ renewed name change d l' 0 k ls place (subst (λ xs. AllDiffer (names_of xs)) (sym written_to) differ) is
-        ∙ ap (λ xs. with_change name change (map layer_of xs)) written_to);
+        (ap (map layer_of) is_set ∙ renewed name change d l' 0 k ls place differ_before is ∙ ap (λ xs. with_change name change (map layer_of xs)) written_to);
   }
 
-  pub KeepsMemoryIn-at : {T : Type 0} (result : Result T UpdateFault) → KeepsMemory result l.memory l'.memory → KeepsMemoryIn name result items ls'
-  KeepsMemoryIn-at result same_memory =
-      subst (λ xs. KeepsMemoryIn name result items xs) (sym is_set)
-      (subst (λ xs. KeepsMemoryIn name result xs (set ls k l')) written_to (KeepsMemoryIn-set name result d l' 0 k ls place same_memory))
+  pub KeptIn-at : (R : (old new : List Memory) → Type 0) → R l.memory l'.memory → KeptIn R name items ls'
+  KeptIn-at R kept =
+      subst (λ xs. KeptIn R name items xs) (sym is_set)
+      (subst (λ xs. KeptIn R name xs (set ls k l')) written_to (KeptIn-set name R d l' 0 k ls place differ_before kept))

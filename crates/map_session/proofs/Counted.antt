@@ -76,7 +76,7 @@ times a b n less = grind (arith, less)
 
 module _ {before after : Counts} where
   -- an update within its bounds
-  within : (update : Update) (layer : Layer) (cost : Cost) → IsInBounds update layer (lap_begun before) after → IsTold cost before after
+  within : (update : Update) (layer : Layer) (cost : Cost) → IsInBounds layer update (lap_begun before) after → IsTold cost before after
       → IsCounted (bounds_in update (Some layer)) cost before after
   within update layer cost h told =
       let touches = touches_at (greatest_level (live_count layer)) in

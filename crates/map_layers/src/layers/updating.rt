@@ -86,7 +86,7 @@ pub(super) fn index_in<P: OverPoints, S: OverSegments>(
     alloc: Global,
     index: PointIndex,
 ) -> Result<(), IndexFault>
-    requires differ { AllDiffer (names_of layers.old.items) }
+    requires { AllDiffer (names_of layers.old.items) }
     ensures answered { (version : Version) (most : ℕ)
         → IsAnswered (map_with version most layers.old.items) (commands.MakeIndex name.now (index_of index)) (map_with version most layers.new.items) (indexed result) }
     ensures differ { AllDiffer (names_of layers.new.items) }

@@ -30,7 +30,7 @@ returns-in-Some-clause-cost g c =
     IfOk-weaker c.ask.result _ _
     (λ given asking. subst (λ s. IsAskingIn (layer_named name (map_of c.args.self.now).layers) (λ level n. most_for level given.1.parts n given.0.answer) given.1 s c.ask.new.steps)
     c.start_lap.ensures
-    (IsAskingIn-of (layer_named name (map_of c.args.self.now).layers) (layer_of l) here (λ level n. most_for level given.1.parts n given.0.answer) given.1 asking c.ask.ensures.reads))
+    (IsAskingIn-of (layer_named name (map_of c.args.self.now).layers) (layer_of l) here c.ask.ensures.spread (λ level n. most_for level given.1.parts n given.0.answer) given.1 asking c.ask.ensures.reads))
     c.ask.ensures.cost
 
 pub returns-in-Some-clause-touches : goal.returns-in-Some-clause-touches

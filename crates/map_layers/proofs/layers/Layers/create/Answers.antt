@@ -43,12 +43,13 @@ invariant_of-self g c =
     let named_as : name_in c.new.result ≡ c.args.name.now = ap (λ m. m.name) c.new.ensures.made in
     let unused : list_any (λ other. bytes_eq other (name_in c.new.result)) (names_of ls) ≡ false =
     ap (λ n. list_any (λ other. bytes_eq other n) (names_of ls)) named_as ∙ sym (is_among-named c.args.name.now ls) ∙ free in
+    let no_adds : adds_in c.new.result ≡ 0 = ap (λ m. m.inserted) c.new.ensures.made in
     let may : ℕ → Type 0 = λ n. n ≡ c.self.inside.most_items in
     let limits : limits_of (ls ++ c.new.result ∷ []) ≡ limits_of ls ++ limit_in c.new.result ∷ [] = map-append limit_in ls (c.new.result ∷ []) in
     let names : names_of (ls ++ c.new.result ∷ []) ≡ names_of ls ++ name_in c.new.result ∷ [] = map-append name_in ls (c.new.result ∷ []) in (
       subst (λ xs. AllDiffer (names_of xs)) (sym c.push.ensures.items)
           (subst AllDiffer (sym names) (AllDiffer-push (names_of ls) (name_in c.new.result) c.self.invariant.0 unused)),
-      omega (arith, c.self.invariant.1, c.new.ensures.adds, ap adds_of c.push.ensures.items, sum_by_push adds_in ls c.new.result),
+      omega (arith, c.self.invariant.1, no_adds, ap adds_of c.push.ensures.items, sum_by_push adds_in ls c.new.result),
       subst (λ xs. All may (limits_of xs)) (sym c.push.ensures.items)
           (subst (All may) (sym limits) (All-push may (limits_of ls) (limit_in c.new.result) c.self.invariant.2 c.new.ensures.limit)),
       c.self.invariant.3,

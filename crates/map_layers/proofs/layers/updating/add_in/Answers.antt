@@ -1,22 +1,17 @@
 use Rattle.std.proofs.Common.{rules, ◌≡◌, ◌≤◌, ◌<◌, Bool, true, false, None, Some, Err, IfOk, length, get_or, set, ap, sym, subst, arith}
 use Rattle.std.specs.List.{refill}
-use Rattle.std.specs.Result.{is_ok}
 use Rattle.map_model.specs.Cost.{Adds}
-use Rattle.map_model.specs.Index.{one_if}
 use Rattle.std.proofs.lemmas.List.Sums.{get_or-le-sum_by}
 use Rattle.map_layers.specs.Costs.{IsCostIn, IsToldIn}
 use Rattle.map_shapes.specs.Shape.{model_shape}
-use Rattle.map_layers.specs.Layer.{adds_in, items_in, layer_of, IsAddTo}
+use Rattle.map_layers.specs.Layer.{adds_in, layer_of, IsAddTo}
 use Rattle.map_layers.specs.declared.faults.UpdateFault.TheVariants.{NoLayer}
 use Rattle.map_shapes.specs.declared.spent.Spent.{Spent}
+use Rattle.map_layers.specs.Memory.{KeepsMemory}
 use Rattle.map_layers.specs.Layers.{place_named, adds_of, map_with}
 use Rattle.map_layers.proofs.Answering.{IsAnswered-add, unfound-add}
-use Rattle.map_layers.proofs.Names.{named-none, layer_named-None, AllDiffer-at, limits-at, limit-at, adds-at, found-at, IsRenewed-at, KeepsMemoryIn-same, KeepsMemoryIn-at}
+use Rattle.map_layers.proofs.Names.{named-none, layer_named-None, AllDiffer-at, limits-at, limit-at, adds-at, found-at, IsRenewed-at, KeptIn-none, KeptIn-at}
 use Rattle.map_layers.proofs.layers.updating.add_in.Goals as goal
-
-one_if-few : (b : Bool) → one_if b ≤ 1
-one_if-few true = omega arith
-one_if-few false = omega arith
 
 pub add-requires-clause-few : goal.add-requires-clause-few
 add-requires-clause-few g c =
@@ -35,17 +30,17 @@ returns-in-Some g c =
     let same = c.as_mut_slice.ensures.value in
     let found : place_named name ls ≡ Some k = search rules in
     let within : k < length ls = search rules in
-    let here = sym (found-at name k items ls d new same found within c.add.ensures.same) in
+    let here = sym (found-at name k items ls d new same found within c.requires.differ c.add.ensures.name) in
     record {
       answered = λ version most limits.
-          IsAnswered-add (map_with version most items) (map_with version most (refill (length items) items (set ls k new))) name c.args.id (layer_of (get_or ls k d)) (items_in new)
-          (IsRenewed-at name k items ls d new same found within c.add.ensures.same c.requires.differ version most) (model_shape c.args.shape) c.add.result
-          (subst (λ n. IsAddTo n (layer_of (get_or ls k d)) (record { id = c.args.id; shape = model_shape c.args.shape }) (items_in new) c.add.result)
-          (limit-at name k items ls d new same found within c.add.ensures.same most limits) c.add.ensures.added);
-      differ = AllDiffer-at name k items ls d new same found within c.add.ensures.same c.requires.differ;
-      limits = limits-at name k items ls d new same found within c.add.ensures.same c.add.ensures.limit;
-      adds = omega (arith, adds-at name k items ls d new same found within c.add.ensures.same, c.add.ensures.adds, one_if-few (is_ok c.add.result));
-      kept = KeepsMemoryIn-at name k items ls d new same found within c.add.ensures.same c.add.result c.add.ensures.kept;
+          IsAnswered-add (map_with version most items) (map_with version most (refill (length items) items (set ls k new))) name c.args.id (layer_of (get_or ls k d)) (layer_of new)
+          (IsRenewed-at name k items ls d new same found within c.requires.differ c.add.ensures.name version most) (model_shape c.args.shape) c.add.result
+          (subst (λ n. IsAddTo n (layer_of (get_or ls k d)) (record { id = c.args.id; shape = model_shape c.args.shape }) (layer_of new) c.add.result)
+          (limit-at name k items ls d new same found within c.requires.differ c.add.ensures.name most limits) c.add.ensures.added);
+      differ = AllDiffer-at name k items ls d new same found within c.requires.differ c.add.ensures.name;
+      limits = limits-at name k items ls d new same found within c.requires.differ c.add.ensures.name c.add.ensures.limit;
+      adds = omega (arith, adds-at name k items ls d new same found within c.requires.differ c.add.ensures.name, c.add.ensures.adds);
+      kept = KeptIn-at name k items ls d new same found within c.requires.differ c.add.ensures.name (KeepsMemory c.add.result) c.add.ensures.kept;
       cost = subst (λ o. IsCostIn o Adds c.add.result c.args.steps.now c.add.new.steps) here c.add.ensures.cost;
       told = subst (λ o. IfOk c.add.result (λ spent. IsToldIn o Adds spent c.args.steps.now c.add.new.steps)) here c.add.ensures.told;
     }
@@ -58,4 +53,6 @@ returns-in-None-clause-answered g c =
     (layer_named-None c.args.name.now c.args.layers.now.items (named-none c.args.name.now 0 c.args.layers.now.items none))
 
 pub returns-in-None-clause-kept : goal.returns-in-None-clause-kept
-returns-in-None-clause-kept g c = KeepsMemoryIn-same c.args.name.now {T = Spent} (Err NoLayer) c.args.layers.now.items
+returns-in-None-clause-kept g c =
+    let none : place_named c.args.name.now c.args.layers.now.items ≡ None = search rules in
+    KeptIn-none c.args.name.now (KeepsMemory {T = Spent} (Err NoLayer)) c.args.layers.now.items (named-none c.args.name.now 0 c.args.layers.now.items none)
