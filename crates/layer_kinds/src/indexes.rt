@@ -16,7 +16,7 @@ ghost use Rattle.layer_kinds.specs.Memory.{Memory, memories_of, Each, IsReadied,
 use crate::bounds::turns_up_to;
 use builder_trait::{Builder, Part};
 use global_rebuild::Index;
-pub use has::Has;
+pub use has::{Has, MayBeLate};
 use id_chain::{Chain, Handle};
 use late_index::Late;
 use map_shapes::Shaped;

@@ -22,5 +22,5 @@ mod kind_layer;
 
 pub use bounds::Bounds;
 pub use faults::{AskFault, Standing, UpdateFault};
-pub use indexes::{Has, Indexes, LayerIndex};
+pub use indexes::{Has, Indexes, LayerIndex, MayBeLate};
 pub use kind_layer::{KindLayer, add_index, ask_layer};

@@ -1,1 +1,2 @@
 pub mod ByIndex
+pub mod Begun

@@ -2,6 +2,8 @@
 ghost use Rattle.std.specs.Prelude.{◌≡◌, ℕ};
 ghost use Rattle.query_laws.specs.StepLedger.{AtLapStart};
 ghost use Rattle.map_model.specs.Answer.{index_of};
+ghost use Rattle.map_model.specs.State.{wait_of};
+ghost use Rattle.layer_kinds.specs.Indexing.{wait_in};
 ghost use Rattle.map_layers.specs.Faults.{ask_result_of};
 ghost use Rattle.map_layers.specs.Layer.{held_by, layer_seen};
 ghost use Rattle.map_layers.specs.Questions.{touches_for, most_for, Asks};
@@ -27,6 +29,7 @@ where
     R: AnsweringRows<Q>,
     R::Item: Shaped,
     requires there { held_by (X.held layer.now.indexes) (index_of (Q.asks question.now)) ≡ parts_held (X.index layer.now.indexes) }
+    requires waits { wait_of (X.held layer.now.indexes).waits (index_of (Q.asks question.now)) ≡ wait_in (X.index layer.now.indexes) }
     requires touches { (level : ℕ) → Q.touches level ≡ touches_for (Q.asks question.now) level }
     requires most { (level parts n : ℕ) (answer : Q.Answer) → Q.most_touches level parts n answer ≡ most_for level parts n (Q.tells answer) }
     requires lap { AtLapStart steps.old }

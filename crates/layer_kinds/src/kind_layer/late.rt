@@ -3,7 +3,7 @@ ghost use Rattle.std.specs.Prelude.{◌≡◌, not, IfOk, OnErr};
 ghost use Rattle.std.specs.Result.{is_ok};
 ghost use Rattle.layer_kinds.specs.Indexing.{is_there, begun};
 
-use crate::{Has, KindLayer, Standing};
+use crate::{KindLayer, MayBeLate, Standing};
 use map_shapes::Shaped;
 use map_structures::MapRows;
 use std::alloc::Global;
@@ -11,7 +11,7 @@ use std::alloc::Global;
 /// Gives a layer the index of these rows. It catches up with the items, four an update, and until then it answers only for how many it waits.
 ///
 /// `Standing` where it is there, late or not. It takes no memory and no turn; updates take theirs from `alloc`. Of no items it is ready at once.
-pub fn add_index<R: MapRows, X: Has<R>>(
+pub fn add_index<R: MapRows, X: MayBeLate<R>>(
     layer: &mut KindLayer<X>,
     alloc: Global,
 ) -> Result<(), Standing>

@@ -5,10 +5,10 @@ ghost use Rattle.std.proofs.Common.{arith, refl};
 use crate::asking::ask_of;
 use id_chain::{Chain, Handle};
 use kd_tree::{KdBuilder, KdRows};
-use layer_kinds::{AskFault, Has, Indexes, KindLayer, LayerIndex};
+use layer_kinds::{AskFault, Has, Indexes, KindLayer, LayerIndex, MayBeLate, Standing, add_index};
 use map_layers::{Answered, AnsweringIndexes, NamedIndexes, OverPoints};
 use map_questions::{Above, Near, NearK, PointQuestion, Top};
-use map_shapes::{CountIn, IndexSet, ListIn, Point, QuestionCost, Shape, SumIn};
+use map_shapes::{CountIn, IndexSet, ListIn, Point, PointIndex, QuestionCost, Shape, SumIn};
 use priority_tree::{TopBuilder, TopRows};
 use query_laws::NoMemory;
 use query_laws::step_ledger::Steps;
@@ -28,20 +28,24 @@ type OfPoints = (
 );
 
 impl Indexes for PointIndexes {
-    ghost use Rattle.map_indexes.specs.IndexesLaws.{points-low};
-
     type Item = Point;
 
     ghost rates = { λ s. ⟦<OfPoints as Indexes>⟧.rates s.indexes };
 
+    ghost waits = { λ s. ⟦<OfPoints as Indexes>⟧.waits s.indexes };
+
     ghost are_of = { λ s es stamps. ⟦<OfPoints as Indexes>⟧.are_of s.indexes es stamps };
 
-    ghost are_ready = { λ s. ⟦<OfPoints as Indexes>⟧.are_ready s.indexes };
+    ghost are_ready = { λ s es. ⟦<OfPoints as Indexes>⟧.are_ready s.indexes es };
 
     ghost memory = { λ s. ⟦<OfPoints as Indexes>⟧.memory s.indexes };
 
     fn count(&self) -> u64 {
         self.indexes.count()
+    }
+
+    fn turns_up_to(&self, ticks: u64, level: u32) -> u64 {
+        self.indexes.turns_up_to(ticks, level)
     }
 
     fn prepare<L: Ledger>(
@@ -69,8 +73,6 @@ impl Indexes for PointIndexes {
     ) {
         self.indexes.relocate(chain, handle, item, steps);
     }
-
-    ghost low = { λ s. points-low s.indexes.0 s.indexes.1.0 s.indexes.1.1 };
 }
 
 impl Has<RangeRows> for PointIndexes {
@@ -83,6 +85,20 @@ impl Has<RangeRows> for PointIndexes {
     ghost is_of = { λ s es stamps of. of.0 };
 }
 
+impl MayBeLate<RangeRows> for PointIndexes {
+    ghost use Rattle.map_indexes.specs.IndexesLaws.{points-as_many};
+
+    ghost with_index = { λ place s. record s { indexes = (place, s.indexes.1) } };
+
+    fn begin(&mut self, alloc: Global, chain: &Chain<Point>) {
+        self.indexes.0 = LayerIndex::begin(alloc, chain);
+    }
+
+    ghost are_with = { λ place s es stamps of is. (is, of.1) };
+
+    ghost as_many = { λ place s. points-as_many _ _ _ place s.indexes.0 s.indexes.1.0 s.indexes.1.0 s.indexes.1.1 s.indexes.1.1 };
+}
+
 impl Has<KdRows> for PointIndexes {
     ghost index = { λ s. s.indexes.1.0 };
 
@@ -91,6 +107,20 @@ impl Has<KdRows> for PointIndexes {
     }
 
     ghost is_of = { λ s es stamps of. of.1.0 };
+}
+
+impl MayBeLate<KdRows> for PointIndexes {
+    ghost use Rattle.map_indexes.specs.IndexesLaws.{points-as_many};
+
+    ghost with_index = { λ place s. record s { indexes = (s.indexes.0, (place, s.indexes.1.1)) } };
+
+    fn begin(&mut self, alloc: Global, chain: &Chain<Point>) {
+        self.indexes.1.0 = LayerIndex::begin(alloc, chain);
+    }
+
+    ghost are_with = { λ place s es stamps of is. (of.0, (is, of.1.1)) };
+
+    ghost as_many = { λ place s. points-as_many _ _ _ s.indexes.0 s.indexes.0 place s.indexes.1.0 s.indexes.1.1 s.indexes.1.1 };
 }
 
 impl Has<TopRows> for PointIndexes {
@@ -103,9 +133,23 @@ impl Has<TopRows> for PointIndexes {
     ghost is_of = { λ s es stamps of. of.1.1 };
 }
 
+impl MayBeLate<TopRows> for PointIndexes {
+    ghost use Rattle.map_indexes.specs.IndexesLaws.{points-as_many};
+
+    ghost with_index = { λ place s. record s { indexes = (s.indexes.0, (s.indexes.1.0, place)) } };
+
+    fn begin(&mut self, alloc: Global, chain: &Chain<Point>) {
+        self.indexes.1.1 = LayerIndex::begin(alloc, chain);
+    }
+
+    ghost are_with = { λ place s es stamps of is. (of.0, (of.1.0, is)) };
+
+    ghost as_many = { λ place s. points-as_many _ _ _ s.indexes.0 s.indexes.0 s.indexes.1.0 s.indexes.1.0 place s.indexes.1.1 };
+}
+
 impl NamedIndexes for PointIndexes {
     ghost use Rattle.map_indexes.specs.Held.{points_held};
-    ghost use Rattle.map_indexes.specs.IndexesLaws.{points-by_rates, points-counted};
+    ghost use Rattle.map_indexes.specs.IndexesLaws.{points-by_rates, points-sums, points-by_waits, points-ready, points-few};
 
     ghost held = { λ s. points_held s.indexes.0 s.indexes.1.0 s.indexes.1.1 };
 
@@ -132,12 +176,28 @@ impl NamedIndexes for PointIndexes {
 
     ghost by_rates = { λ s t same. points-by_rates _ _ _ s.indexes.0 t.indexes.0 s.indexes.1.0 t.indexes.1.0 s.indexes.1.1 t.indexes.1.1 same };
 
-    ghost counted = { λ s. points-counted _ _ _ s.indexes.0 s.indexes.1.0 s.indexes.1.1 };
+    ghost sums = { λ s f. points-sums f _ _ _ s.indexes.0 s.indexes.1.0 s.indexes.1.1 };
 
-    ghost few = { λ s. Prim.omega arith };
+    ghost by_waits = { λ s t after zero same. points-by_waits s.indexes.0 t.indexes.0 s.indexes.1.0 t.indexes.1.0 s.indexes.1.1 t.indexes.1.1 after zero same };
+
+    ghost ready = { λ s. points-ready s.indexes.0 s.indexes.1.0 s.indexes.1.1 };
+
+    ghost few = { λ s. Prim.omega (arith, points-few _ _ _ s.indexes.0 s.indexes.1.0 s.indexes.1.1) };
 }
 
 impl OverPoints for PointIndexes {
+    fn add_index(
+        layer: &mut KindLayer<PointIndexes>,
+        alloc: Global,
+        index: PointIndex,
+    ) -> Result<(), Standing> {
+        match index {
+            PointIndex::Range => add_index::<RangeRows, PointIndexes>(layer, alloc),
+            PointIndex::Near => add_index::<KdRows, PointIndexes>(layer, alloc),
+            PointIndex::Top => add_index::<TopRows, PointIndexes>(layer, alloc),
+        }
+    }
+
     ghost points = { refl };
 }
 

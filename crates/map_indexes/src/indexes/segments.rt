@@ -1,6 +1,7 @@
 //! The index of segments.
 ghost use Rattle.std.specs.Prelude.{◌≡◌};
 ghost use Rattle.std.proofs.Common.{arith, refl};
+ghost use Rattle.layer_kinds.specs.Indexing.{wait_in};
 
 use crate::asking::ask_of;
 use id_chain::{Chain, Handle};
@@ -18,23 +19,29 @@ use std::sync::ledger::Ledger;
 #[derive(Drop)]
 pub struct SegmentIndexes {
     index: LayerIndex<StabBuilder>,
+    // It isn't made late.
+    ghost ready: { wait_in index ≡ 0 },
 }
 
 impl Indexes for SegmentIndexes {
-    ghost use Rattle.map_indexes.specs.IndexesLaws.{segments-low};
-
     type Item = Segment;
 
     ghost rates = { λ s. ⟦<LayerIndex<StabBuilder> as Indexes>⟧.rates s.index };
 
+    ghost waits = { λ s. ⟦<LayerIndex<StabBuilder> as Indexes>⟧.waits s.index };
+
     ghost are_of = { λ s es stamps. ⟦<LayerIndex<StabBuilder> as Indexes>⟧.are_of s.index es stamps };
 
-    ghost are_ready = { λ s. ⟦<LayerIndex<StabBuilder> as Indexes>⟧.are_ready s.index };
+    ghost are_ready = { λ s es. ⟦<LayerIndex<StabBuilder> as Indexes>⟧.are_ready s.index es };
 
     ghost memory = { λ s. ⟦<LayerIndex<StabBuilder> as Indexes>⟧.memory s.index };
 
     fn count(&self) -> u64 {
         self.index.count()
+    }
+
+    fn turns_up_to(&self, ticks: u64, level: u32) -> u64 {
+        self.index.turns_up_to(ticks, level)
     }
 
     fn prepare<L: Ledger>(
@@ -62,8 +69,6 @@ impl Indexes for SegmentIndexes {
     ) {
         self.index.relocate(chain, handle, item, steps);
     }
-
-    ghost low = { λ s. segments-low s.index };
 }
 
 impl Has<StabRows> for SegmentIndexes {
@@ -78,7 +83,7 @@ impl Has<StabRows> for SegmentIndexes {
 
 impl NamedIndexes for SegmentIndexes {
     ghost use Rattle.map_indexes.specs.Held.{segments_held};
-    ghost use Rattle.map_indexes.specs.IndexesLaws.{segments-by_rates, segments-counted};
+    ghost use Rattle.map_indexes.specs.IndexesLaws.{segments-by_rates, segments-sums, segments-by_waits, segments-ready, segments-few};
 
     ghost held = { λ s. segments_held s.index };
 
@@ -103,9 +108,13 @@ impl NamedIndexes for SegmentIndexes {
 
     ghost by_rates = { λ s t same. segments-by_rates _ s.index t.index same };
 
-    ghost counted = { λ s. segments-counted _ s.index };
+    ghost sums = { λ s f. segments-sums f _ s.index };
 
-    ghost few = { λ s. Prim.omega arith };
+    ghost by_waits = { λ s t after zero same. segments-by_waits after zero };
+
+    ghost ready = { λ s. segments-ready s.index s.ready };
+
+    ghost few = { λ s. Prim.omega (arith, segments-few _ s.index) };
 }
 
 impl OverSegments for SegmentIndexes {
@@ -126,6 +135,7 @@ impl AnsweringIndexes<SegmentQuestion> for SegmentIndexes {
             SegmentQuestion::StabCount(stab) => {
                 ask_of::<StabRows, SegmentIndexes, StabCount, L>(layer, alloc, stab, steps)
             }
+            SegmentQuestion::CrossIn(_) | SegmentQuestion::CrossCount(_) => Err(AskFault::NoIndex),
         }
     }
 }
