@@ -8,6 +8,8 @@ mod costs;
 #[cfg(test)]
 mod faults;
 #[cfg(test)]
+mod late;
+#[cfg(test)]
 mod limits;
 #[cfg(test)]
 mod made;

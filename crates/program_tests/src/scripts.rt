@@ -15,10 +15,10 @@ const CORNERS_ANSWERED: &str = "ok\nok\nok\ncount 2\nsum 4294967294\n";
 const IDENTIFIERS: &[u8] =
     b"layer a points range\nadd a 7 1 1 1\nadd a 7 2 2 2\ndrop a 8\nmove a 8 1 1 1\nmove a 7 2 3 4\nget a 7\nget a 8\nsize a\n";
 
-const LEDGER: &[&str] = &["--ledger"];
+pub const LEDGER: &[&str] = &["--ledger"];
 
 /// Words, a script, its answers, in which `A..B` stands for a number from A to B, and whether a line is refused.
-type Row = (&'static [&'static str], &'static [u8], &'static str, bool);
+pub type Row = (&'static [&'static str], &'static [u8], &'static str, bool);
 
 const ROWS: [Row; 33] = [
     (&[], b"", "", false),
@@ -219,7 +219,7 @@ const ROWS: [Row; 33] = [
 const PIECES: [usize; 4] = [1, 6, 7, 4096];
 
 /// Whether a script is answered so, in pieces of each length.
-fn is_answered(alloc: Global, row: &Row) -> Result<bool, Fail> {
+pub fn is_answered(alloc: Global, row: &Row) -> Result<bool, Fail> {
     let (words, script, wanted, is_refused) = *row;
     let status = if is_refused {
         Status::Refusals
