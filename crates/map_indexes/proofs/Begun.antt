@@ -1,14 +1,21 @@
 -- An index that a layer of points is given.
-use Rattle.std.proofs.Common.{◌≡◌, ◌∙◌, ℕ, ◌+◌, Bool, true, false, not, List, [], ◌∷◌, ◌++◌, None, Result, Ok, Err, length, refl, sym, ap, append_assoc}
+use Rattle.std.proofs.Common.{◌≡◌, ◌∙◌, ℕ, ◌+◌, Bool, true, false, not, List, [], ◌∷◌, ◌++◌, None, Result, Ok, Err, length, refl, sym, ap, subst, append_assoc}
+use Rattle.std.specs.Prelude.{IfOk, OnErr}
 use Rattle.std.specs.Option.{is_some}
+use Rattle.std.specs.Result.{is_ok}
 use Rattle.builder_trait.specs.Parts.{Contents}
 use Rattle.id_chain.specs.Chain.{Entry}
 use Rattle.layer_kinds.specs.Indexing.{Placed, Absent, Whole, Late, is_there, wait_in, begun}
 use Rattle.layer_kinds.specs.Layered.{Layered, items_of}
 use Rattle.layer_kinds.specs.Memory.{Memory, memories_of}
 use Rattle.layer_kinds.proofs.Items.{as_many_items}
-use Rattle.map_model.specs.State.{Item}
-use Rattle.map_layers.specs.Memory.{HasOneMore}
+use Rattle.map_model.specs.Index as indexes
+use Rattle.map_model.specs.Index.{has}
+use Rattle.map_model.specs.Shape.{Kind}
+use Rattle.map_model.specs.State.{Item, with_wait}
+use Rattle.layer_kinds.specs.declared.faults.Standing.{Standing}
+use Rattle.map_layers.specs.Layer.{Held, set_of, layer_seen, IsBegun}
+use Rattle.map_layers.specs.Memory.{HasOneMore, AddsMemory}
 use Rattle.map_indexes.specs.Held.{parts_held}
 use Rattle.map_indexes.specs.IndexesLaws.{there-held}
 
@@ -57,8 +64,42 @@ module _ {P I : Type 0} where
     are = ap (λ ms. a ++ (b ++ ms)) (begun-memory contents es) ∙ sym (append_assoc a b (no_memory ∷ []));
   }
 
-  -- whether it was there
-  pub was_there : (p : Placed P I) (b : Bool) → b ≡ not (is_there p) → is_there p ≡ not b
-  was_there Absent b is = ap not (sym is)
-  was_there (Whole i) b is = ap not (sym is)
-  was_there (Late l) b is = ap not (sym is)
+-- whether it was there
+was_there : (there ok : Bool) → ok ≡ not there → there ≡ not ok
+was_there true ok is = ap not (sym is)
+was_there false ok is = ap not (sym is)
+
+module _ {X P I : Type 0} (old new : Layered X I) (place : Placed P I) (put : Placed P I → X → X) {T : Type 0} where
+  -- an index is put in its place, or refused where it is there
+  pub record IsPut (r : Result T Standing) : Type 0 where
+    pub refused : is_ok r ≡ not (is_there place)
+    pub put_in : IfOk r (λ _. new ≡ record old { indexes = put (begun old.entries) old.indexes })
+    pub kept : OnErr r (new ≡ old)
+
+  pub same_limit : (r : Result T Standing) → IsPut r → new.most_items ≡ old.most_items
+  same_limit (Ok done) h = ap (λ (l : Layered X I). l.most_items) h.put_in
+  same_limit (Err standing) h = ap (λ (l : Layered X I). l.most_items) h.kept
+
+  pub adds_memory : (memory : X → List Memory) → (is_there place ≡ false → HasOneMore (memory old.indexes) (memory (put (begun old.entries) old.indexes)))
+      → (r : Result T Standing) → IsPut r → AddsMemory r (memory old.indexes) (memory new.indexes)
+  adds_memory memory one (Ok done) h =
+      subst (λ (l : Layered X I). HasOneMore (memory old.indexes) (memory l.indexes)) (sym h.put_in) (one (was_there (is_there place) true h.refused))
+  adds_memory memory one (Err standing) h = ap (λ (l : Layered X I). memory l.indexes) h.kept
+
+  module _ (kind : Kind) (item_of : I → Item) (held : X → Held) (i : indexes.Index) (there : has (set_of (held old.indexes)) i ≡ is_there place)
+      (set : (q : Placed P I) → is_some (parts_held q) ≡ true → set_of (held (put q old.indexes)) ≡ indexes.with_index (set_of (held old.indexes)) i)
+      (waits : (q : Placed P I) → (held (put q old.indexes)).waits ≡ with_wait (held old.indexes).waits i (wait_in q)) where
+    pub is_begun : (r : Result T Standing) → IsPut r → IsBegun (layer_seen kind item_of held old) i (layer_seen kind item_of held new) r
+    is_begun (Ok done) h =
+        let q = begun old.entries in (
+          there ∙ was_there (is_there place) true h.refused,
+          ap (layer_seen kind item_of held) h.put_in ∙ (λ j. record {
+            name = old.name;
+            kind = kind;
+            indexes = set q (begun-held old.entries) j;
+            waits = (waits q ∙ ap (with_wait (held old.indexes).waits i) (begun-waits item_of old.entries)) j;
+            inserted = old.adds;
+            items = items_of item_of old.entries;
+          }),
+        )
+    is_begun (Err standing) h = (there ∙ was_there (is_there place) false h.refused, ap (layer_seen kind item_of held) h.kept)

@@ -1,4 +1,4 @@
-pub mod Kinds
+pub mod LayerSeen
 pub mod Names
 pub mod Answering
 pub mod Asking
