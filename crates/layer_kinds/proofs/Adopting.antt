@@ -1,5 +1,5 @@
 -- The place of an index, where a late one that was handed all items goes on as an index.
-use Rattle.std.proofs.Common.{◌≡◌, ◌≢◌, ℕ, ◌+◌, ◌-◌, ◌*◌, ◌≤◌, ◌<◌, ◌∙◌, ◌⊎◌, ⊎_elim, Bool, true, false, List, [], ◌∷◌, Option, Some, None, cond, length, refl, sym, ap, subst, arith}
+use Rattle.std.proofs.Common.{◌≡◌, ◌≢◌, ℕ, ◌+◌, ◌-◌, ◌*◌, ◌≤◌, ◌<◌, ◌∙◌, ◌⊎◌, ⊎_elim, Bool, true, false, List, [], ◌∷◌, Option, Some, None, inl, inr, cond, length, refl, sym, ap, subst, arith}
 use Rattle.std.specs.Prelude.{nat_le}
 use Rattle.std.proofs.lemmas.Bool.{le-leb}
 use Rattle.std.proofs.lemmas.List.Sums.{sum_by-cons}
@@ -19,6 +19,9 @@ use Rattle.layer_kinds.specs.Shares.{CostsShares, all_after, is_ready_after, rea
 use Rattle.layer_kinds.specs.Indexing.{Placed, Absent, Whole, Late, rates_of, waits_of, adopted, adopted_at, IsOf, IsReady}
 use Rattle.layer_kinds.specs.Memory.{Memory, Each, KeepsAll, memories_of}
 use Rattle.layer_kinds.specs.Committing.{IsGoing, IsOver, IsExact, Commits}
+
+abbrev counted : Bool → ℕ
+counted b = cond b 1 0
 
 module _ {P Item : Type 0} where
   pub going : (p : Placed P Item) → IsGoing (adopted p)
@@ -100,7 +103,7 @@ module _ {P Item : Type 0} where
         where
           at : (cursor : Option ℕ) → l.walk.cursor ≡ cursor → ready_count (waits_of (adopted_at l cursor)) ≡ ready_count (waits_of (Late l))
           at None ended =
-              let last : cond (nat_le l.waiting 4) 1 0 ≡ 1 = ap (λ b. cond b 1 0) (le-leb l.waiting 4 (omega (arith, goal_none l of prepared.short ended))) in
+              let last : counted (nat_le l.waiting 4) ≡ 1 = ap counted (le-leb l.waiting 4 (omega (arith, goal_none l of prepared.short ended))) in
               omega (arith, sum_by-cons (λ x. cond (is_ready_after x) 1 0) (Some l.waiting) [], sum_by-cons (λ x. cond (is_ready_after x) 1 0) (Some 0) [], last)
           at (Some handle) stands = refl
 
@@ -120,8 +123,8 @@ module _ {P Item : Type 0} where
       exact_of (Late l) of exact = at l.walk.cursor refl
         where
           some : l.walk.cursor ≢ None → 1 ≤ l.waiting
-          some going = elim (few_before l.walk.cursor es of.walk.cursor) [
-            | inl all ↦ absurd (going all.0)
+          some on = elim (few_before l.walk.cursor es of.walk.cursor) [
+            | inl all ↦ absurd (on all.0)
             | inr more ↦ omega (arith, as_walked contents stamp l.walk es of.walk, more.1, exact)
           ]
 

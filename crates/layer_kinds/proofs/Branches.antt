@@ -29,6 +29,9 @@ use Rattle.layer_kinds.proofs.Keeping.{keeps_all, parts_in}
 use Rattle.layer_kinds.proofs.Shared.{IsShared-there, IsShared-nothing}
 use Rattle.layer_kinds.proofs.Waiting.{none_left, appended_after, gone_after}
 
+abbrev counted : Bool → ℕ
+counted b = cond b 1 0
+
 times_more : (n a b : ℕ) → a ≤ b → a * n ≤ b * n
 times_more n a b less = grind (arith, less)
 
@@ -71,14 +74,14 @@ module _ {P Item : Type 0} (contents : P → Contents Item) where
     rebuild = tt;
   }
 
-  pub late_prepares : (rate : Rate) {l l' : LateState P Item} {touches : ℕ} {before later : Counts} (g : ℕ) → HandsOver contents 4 l.walk l'.walk
+  pub late_prepares : (rate : Rate) (l l' : LateState P Item) {touches : ℕ} {before later : Counts} (g : ℕ) → HandsOver contents 4 l.walk l'.walk
       → touches ≤ touches_at g
       → (let ticks = live_in contents l'.walk.stack - live_in contents l.walk.stack in
         IsWithin (ticks * quotas rate.slope rate.base 0 g) (ticks * (2 * g)) touches before later)
       → IsShared (prepare_turns g) (prepare_marks g) (Some rate ∷ []) g before later
-  late_prepares rate {l} {l'} g handed few cost =
+  late_prepares rate l l' g taken few cost =
       let ticks = live_in contents l'.walk.stack - live_in contents l.walk.stack in
-      let four : ticks ≤ 4 = omega (arith, handed.at_most) in
+      let four : ticks ≤ 4 = omega (arith, taken.at_most) in
       IsShared-there (prepare_turns g) (prepare_marks g) g rate few
       (IsWithin-more cost (times_more (quotas rate.slope rate.base 0 g) ticks 4 four) (times_more (2 * g) ticks 4 four) (omega arith))
 
@@ -102,5 +105,5 @@ module _ {P Item : Type 0} (contents : P → Contents Item) where
   pub late_unready : {stamp : Item → ℕ} {l : LateState P Item} {es : List (Entry Item)} {stamps : ℕ} → l.walk.cursor ≢ None
       → IsLateOf contents stamp l es stamps → IsPrepared contents l es → ready_count (waits_of (Late l)) ≡ 0
   late_unready {stamp} {l} {es} going of prepared =
-      let late : cond (nat_le l.waiting 4) 1 0 ≡ 0 = ap (λ b. cond b 1 0) (lt-leb l.waiting 4 (omega (arith, some_wait of prepared going))) in
+      let late : counted (nat_le l.waiting 4) ≡ 0 = ap counted (lt-leb l.waiting 4 (omega (arith, some_wait of prepared going))) in
       omega (arith, sum_by-cons (λ x. cond (is_ready_after x) 1 0) (Some l.waiting) [], late)

@@ -20,9 +20,9 @@ pub all_after-append : (after : ℕ → ℕ) (first second : Waits) → all_afte
 all_after-append after first second = map-append (λ wait. option_map after wait) first second
 
 -- two lists of numbers, one after the other
-pub waits_both : {after : ℕ → ℕ} (first first' second second' : Waits) → first' ≡ all_after after first → second' ≡ all_after after second
+pub waits_both : (after : ℕ → ℕ) (first first' second second' : Waits) → first' ≡ all_after after first → second' ≡ all_after after second
     → first' ++ second' ≡ all_after after (first ++ second)
-waits_both {after} first first' second second' is is' = ap (λ ws. ws ++ second') is ∙ ap (λ ws. all_after after first ++ ws) is' ∙ sym (all_after-append after first second)
+waits_both after first first' second second' is is' = ap (λ ws. ws ++ second') is ∙ ap (λ ws. all_after after first ++ ws) is' ∙ sym (all_after-append after first second)
 
 pub all_after-same : (after after' : ℕ → ℕ) → ((w : ℕ) → after w ≡ after' w) → (waits : Waits) → all_after after waits ≡ all_after after' waits
 all_after-same after after' same [] = refl
@@ -36,8 +36,7 @@ abbrev left_after : ℕ → Bool → Bool → ℕ
 left_after left comes was = if left == 0 then 0 else (left - one_if was) + one_if comes
 
 some_left : (left : ℕ) (comes was : Bool) → 1 ≤ left → left_after left comes was ≡ (left - one_if was) + one_if comes
-some_left zero comes was some = absurd (omega (arith, some))
-some_left (suc left) comes was some = refl
+some_left left comes was some = grind (arith, nat_tests, some)
 
 pub none_left : {Item : Type 0} (comes : Bool) (handle : ℕ) (es : List (Entry Item)) (w : ℕ) → w - handed ≡ 0 → wait_by comes handle es w ≡ 0
 none_left comes handle es w none = ap (λ n. left_after n comes (is_linked handle (drop (length es - (w - handed)) es))) none
@@ -52,16 +51,16 @@ module _ {Item : Type 0} where
   pub appended_after : (handle : ℕ) (es : List (Entry Item)) (w : ℕ) → is_linked handle es ≡ false → 1 ≤ w - handed
       → wait_by true handle es w ≡ w - handed + 1
   appended_after handle es w none some =
-      ap (left_after (w - handed) true) (unlinked_drop handle (length es - (w - handed)) es none) ∙ some_left (w - handed) true false some
+      ap (left_after (w - handed) true) (unlinked_drop handle (length es - (w - handed)) es none) ∙ some_left (w - handed) true false some ∙ omega arith
 
   before_drop : (at : ℕ) (es : List (Entry Item)) → es ≡ before at es ++ drop (length (before at es)) es
   before_drop at [] = refl
-  before_drop at (e ∷ es) = by (e.handle == at) refl
+  before_drop at (e ∷ es) = by (e.handle == at) (before_drop at es)
     where
-      by : (b : Bool) → (e.handle == at) ≡ b
+      by : (b : Bool) → es ≡ before at es ++ drop (length (before at es)) es
           → e ∷ es ≡ (if b then [] else e ∷ before at es) ++ drop (length (if b then [] else e ∷ before at es)) (e ∷ es)
-      by true is = refl
-      by false is = ap (λ rest. e ∷ rest) (before_drop at es)
+      by true rest = refl
+      by false rest = ap (λ all. e ∷ all) rest
 
   -- an item is among those before a cursor, or among those from there on
   from_cursor : (handle at n : ℕ) (es : List (Entry Item)) → HandlesDiffer es → is_linked handle es ≡ true → length (before at es) ≡ n
@@ -97,8 +96,8 @@ module _ {Item : Type 0} where
       ∙ by (is_linked handle (before at es))
     where
       by : (b : Bool) → (w - handed - one_if (if b then false else true)) + one_if comes ≡ (if b then w - handed else w - handed - 1) + one_if comes
-      by true = refl
-      by false = refl
+      by true = omega arith
+      by false = omega arith
 
 -- ---- the same by identifiers
 
@@ -126,15 +125,17 @@ module _ {I : Type 0} (id_of : I → ℕ) (item_of : I → Item) (same : (x : I)
       → is_linked handle (drop n es) ≡ is_live id (items_of item_of (drop n es))
   found_drop id handle zero es differ ids found = linked_found id_of id handle es found ∙ sym (live_found id_of item_of same id es ∙ ap is_some found)
   found_drop id handle (suc n) [] differ ids found = refl
-  found_drop id handle (suc n) (e ∷ es) differ ids found = by (id_of e.item == id) refl
+  found_drop id handle (suc n) (e ∷ es) differ ids found = by (id_of e.item == id) refl (found_drop id handle n es differ.1 ids.1)
     where
-      by : (b : Bool) → (id_of e.item == id) ≡ b → is_linked handle (drop n es) ≡ is_live id (items_of item_of (drop n es))
-      by true is =
+      by : (b : Bool) → (id_of e.item == id) ≡ b
+          → (handle_of id_of id es ≡ Some handle → is_linked handle (drop n es) ≡ is_live id (items_of item_of (drop n es)))
+          → is_linked handle (drop n es) ≡ is_live id (items_of item_of (drop n es))
+      by true is rest =
           let here : e.handle ≡ handle = grind (arith, nat_tests, common_steps, is, found) in
           let none : is_linked handle es ≡ false = subst (λ k. is_linked k es ≡ false) here differ.0 in
           let dead : handle_of id_of id es ≡ None = grind (arith, nat_tests, common_steps, is, ids.0) in
           unlinked_drop handle n es none ∙ sym (dead_drop id n es dead)
-      by false is = found_drop id handle n es differ.1 ids.1 (grind (arith, nat_tests, common_steps, is, found))
+      by false is rest = rest (grind (arith, nat_tests, common_steps, is, found))
 
   -- an item that is found goes, or another one is put in its place
   pub waits_gone : (comes : Bool) (id handle : ℕ) (es : List (Entry I)) → HandlesDiffer es → IdsDiffer id_of es → handle_of id_of id es ≡ Some handle
