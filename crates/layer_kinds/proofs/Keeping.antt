@@ -1,17 +1,18 @@
 -- What updates keep of the memory of indexes.
 use Rattle.std.proofs.Common.{◌≡◌, ℕ, ◌+◌, ◌-◌, ◌⊎◌, ⊎_elim, if◌then◌else◌, Bool, true, false, List, [], ◌∷◌, ◌++◌, Option, Some, None, Result, Ok, Err, refl, sym, subst, arith}
-use Rattle.std.specs.Prelude.{IfOk, OnErr, nat_le}
+use Rattle.std.specs.Prelude.{IfOk, OnErr, get_or, map, nat_le}
 use Rattle.std.specs.Option.{option_map}
 use Rattle.std.proofs.Math.ListN.{get_or-map}
 use Rattle.std.proofs.lemmas.Bool.{leb-true}
 use Rattle.builder_trait.specs.Parts.{Contents}
 use Rattle.part_store.specs.Shelves.{held_at}
+use Rattle.part_store.specs.Store.{Stored}
 use Rattle.log_method.specs.Stack.{Stacked}
 use Rattle.chain_walk.specs.Walk.{Walked as Shadow, live_in, HandsOver}
 use Rattle.global_rebuild.specs.Index.{Indexed, unwalked, walked_on, HoldsAsMuch, IsWalkedOn, HasPaused, FreesOne, none, one}
 use Rattle.layer_kinds.specs.declared.faults.UpdateFault.{UpdateFault}
 use Rattle.layer_kinds.specs.declared.faults.UpdateFault.TheVariants as faults
-use Rattle.layer_kinds.specs.Memory.{Memory, parts_of_level, memory_in, memories_of, KeepsAll, LosesOne, GoesOn, IsReadied, Each, KeepsMemory}
+use Rattle.layer_kinds.specs.Memory.{Memory, parts_of_level, memory_in, KeepsAll, LosesOne, GoesOn, IsReadied, Each, KeepsMemory}
 
 -- ---- relations of lists, place by place
 
@@ -59,23 +60,13 @@ pub loses_one : (old mid new : List Memory) → Each IsReadied old mid → Each 
 loses_one old mid new h k =
     Each-then IsReadied KeepsAll LosesOne (λ x y z readied kept. (readied.parts.0, λ level. omega (arith, readied.parts.1 level, kept level))) old mid new h k
 
+-- how many parts of a level a store has
+pub parts_in : (k : ℕ) (store : Stored) → get_or (map (λ s. s.kept + s.lent) store.builders) k 0 ≡ held_at k store.builders
+parts_in k store = get_or-map (λ s. s.kept + s.lent) store.builders k (record { level = 0; kept = 0; lent = 0 })
+
 module _ {P Item : Type 0} (contents : P → Contents Item) where
-  -- ---- an index that is there, and none
-
-  pub Each-there : (R : Memory → Memory → Type 0) (o o' : Option (Indexed P Item)) (i i' : Indexed P Item) → o ≡ Some i → o' ≡ Some i'
-      → R (memory_in contents i) (memory_in contents i') → Each R (memories_of contents o) (memories_of contents o')
-  Each-there R o o' i i' is is' h =
-      subst (λ p. Each R (memories_of contents p) (memories_of contents o')) (sym is)
-      (subst (λ p. Each R (memories_of contents (Some i)) (memories_of contents p)) (sym is') (h, tt))
-
-  pub Each-none : (R : Memory → Memory → Type 0) (o o' : Option (Indexed P Item)) → o ≡ None → o' ≡ None
-      → Each R (memories_of contents o) (memories_of contents o')
-  Each-none R o o' is is' =
-      subst (λ p. Each R (memories_of contents p) (memories_of contents o')) (sym is)
-      (subst (λ p. Each R (memories_of contents None) (memories_of contents p)) (sym is') tt)
-
   parts_there : (k : ℕ) (i : Indexed P Item) → parts_of_level k (memory_in contents i) ≡ held_at k i.store.builders
-  parts_there k i = get_or-map (λ s. s.kept + s.lent) i.store.builders k (record { level = 0; kept = 0; lent = 0 })
+  parts_there k i = parts_in k i.store
 
   -- ---- a preparation
 

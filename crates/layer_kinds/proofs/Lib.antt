@@ -3,3 +3,7 @@ pub mod Items
 pub mod Keeping
 pub mod WithinBounds
 pub mod Touches
+pub mod Waiting
+pub mod Adopting
+pub mod Branches
+pub mod Turns

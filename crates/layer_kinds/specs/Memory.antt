@@ -18,14 +18,14 @@ pub record Memory : Type 0 where
 abbrev pub parts_of_level : ℕ → Memory → ℕ
 parts_of_level k m = get_or m.parts k 0
 
+-- the memory of a late index
+abbrev pub late_memory : {P Item : Type 0} → LateState P Item → Memory
+late_memory l = record { parts = map (λ s. s.kept + s.lent) l.store.builders; unwalked = None }
+
 module _ {P Item : Type 0} (contents : P → Contents Item) where
   -- the memory of an index: what its store keeps, and what that lends
   abbrev pub memory_in : Indexed P Item → Memory
   memory_in i = record { parts = map (λ s. s.kept + s.lent) i.store.builders; unwalked = unwalked contents i }
-
-  -- the memory of a late index
-  abbrev pub late_memory : LateState P Item → Memory
-  late_memory l = record { parts = map (λ s. s.kept + s.lent) l.store.builders; unwalked = None }
 
   -- the memory of an index that is there
   abbrev pub memories_of : Placed P Item → List Memory

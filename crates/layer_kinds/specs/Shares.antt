@@ -1,5 +1,5 @@
 -- What updates of several indexes cost, each a share, and for how many items they wait.
-use Rattle.std.specs.Prelude.{ℕ, ◌+◌, ◌*◌, ◌^◌, ◌<◌, Bool, nat_le, List, Option, count_by, map, sum_by}
+use Rattle.std.specs.Prelude.{ℕ, ◌+◌, ◌*◌, ◌^◌, ◌<◌, Bool, false, nat_le, List, Option, count_by, map, sum_by}
 use Rattle.std.specs.Option.{is_some, option_map, option_map_or}
 use Rattle.query_laws.specs.StepLedger.{Counts}
 use Rattle.log_levels.specs.Cost.{IsWithin, quotas}

@@ -21,6 +21,7 @@ pub struct Bounds {
 
 impl Bounds {
     /// Those of a layer of so many live items, over four indexes at most.
+    #[tactic(auto, using(crate::proofs::WithinBounds::share_same, crate::proofs::WithinBounds::count_few))]
     pub fn new<X: Indexes>(live: usize, indexes: &X) -> Bounds
         requires few { live ≤ 2 ^ 24 }
         requires few_indexes { length (X.rates indexes.now) ≤ 4 }
@@ -48,9 +49,11 @@ impl Bounds {
 }
 
 /// The most turns of so many ticks in an index of this slope and base, at all levels up to one.
+#[tactic(auto, using(crate::proofs::Turns::few_turns, crate::proofs::Turns::low_turns))]
 pub(crate) fn turns_up_to(ticks: u64, slope: u64, base: u64, level: u32) -> u64
     requires few_ticks { ticks ≤ 7 }
-    requires low { (slope ≤ 20) × (base ≤ 60) }
+    requires low_slope { slope ≤ 20 }
+    requires low_base { base ≤ 60 }
     requires few_levels { level ≤ 25 }
     ensures value { result ≡ turns_up_to ticks (record { slope = slope; base = base }) level }
     ensures low { result ≤ 2 ^ 16 }

@@ -2,15 +2,16 @@
 mod asking;
 mod has;
 
-ghost use Rattle.std.specs.Prelude.{◌≡◌, ℕ, ◌+◌, ◌*◌, ◌^◌, ◌<◌, ◌≤◌, ◌++◌, ◌∷◌, [], true, false, List, IsTrue, OnOk, if◌then◌else◌, length};
-ghost use Rattle.id_chain.specs.Chain.{Entry, HandlesDiffer, is_linked, without_handle};
+ghost use Rattle.std.specs.Prelude.{◌≡◌, ℕ, ◌+◌, ◌*◌, ◌^◌, ◌<◌, ◌≤◌, ◌++◌, ◌∷◌, [], true, false, List, Some, IsTrue, OnOk, if◌then◌else◌, length};
+ghost use Rattle.id_chain.specs.Chain.{Entry, HandlesDiffer, is_linked, item_at, without_handle};
 ghost use Rattle.id_chain.specs.StampsRise.{StampsRise};
 ghost use Rattle.chain_walk.specs.Walk.{renewed};
+ghost use Rattle.late_index.specs.Late.{IsLateOf};
 ghost use Rattle.map_model.specs.Cost.{turns_up_to};
 ghost use Rattle.layer_kinds.specs.Shares.{Rates, Waits, count_of, ready_count, all_after, share, CostsShares, prepare_turns, prepare_marks, insert_turns, insert_marks, delete_turns, delete_marks, move_turns, move_marks};
-ghost use Rattle.layer_kinds.specs.Indexing.{Absent, Whole, rates_of, waits_of, is_there, no_items, begun, adopted, wait_by, IsOf, IsReady};
+ghost use Rattle.layer_kinds.specs.Indexing.{Absent, Whole, rates_of, waits_of, is_there, no_items, begun, adopted, adopted_at, wait_by, IsOf, IsReady};
 ghost use Rattle.layer_kinds.specs.Places.{placed};
-ghost use Rattle.layer_kinds.specs.declared.indexes.Place.TheVariants as places;
+ghost use Rattle.layer_kinds.specs.Committing.{IsGoing, IsOver, IsExact, Commits};
 ghost use Rattle.layer_kinds.specs.Memory.{Memory, memories_of, Each, IsReadied, KeepsAll};
 
 use crate::bounds::turns_up_to;
@@ -87,7 +88,7 @@ pub trait Indexes: Drop + Sized {
         requires differ { HandlesDiffer chain.now.entries }
         requires few { length chain.now.entries < 2 ^ 29 }
         ensures of { (front : List (Entry Self.Item)) (item : Self.Item) → chain.now.entries ≡ front ++ record { handle = handle; item = item } ∷ []
-            → are_of self.old front (Self.Item.stamp item) → are_ready self.old front → are_of self.new chain.now.entries (Self.Item.stamp item + 1) }
+            → are_of self.new chain.now.entries (Self.Item.stamp item + 1) }
         ensures there { rates self.new ≡ rates self.old }
         ensures waits { (front : List (Entry Self.Item)) (item : Self.Item) → chain.now.entries ≡ front ++ record { handle = handle; item = item } ∷ []
             → waits self.new ≡ all_after (wait_by true handle front) (waits self.old) }
@@ -190,22 +191,85 @@ impl<B: MapStructure> LayerIndex<B> {
 
     /// A late index that was handed all items goes on as an index.
     fn adopt(&mut self)
-        requires of { (es : List (Entry B.Item)) × (stamps : ℕ) × IsOf B.Part.Part.contents B.Item.stamp self.old es stamps }
+        requires of { (es : List (Entry B.Item)) × (stamps : ℕ) × IsOver B.Part.Part.contents B.Item.stamp self.old es stamps }
         ensures { self.new ≡ adopted self.old }
     {
-        let place = mem::replace(&mut self.place, Place::Absent);
-        self.place = match place {
-            Place::Late(late) => adopted(self.alloc, late),
+        self.place = match mem::replace(&mut self.place, Place::Absent) {
             Place::Absent => Place::Absent,
             Place::Whole(index) => Place::Whole(index),
+            Place::Late(late) => go_on(self.alloc, late),
         };
+    }
+
+    /// Takes in the last item of a chain, once a late index that was handed all items has gone on.
+    fn take_in<L: Ledger>(&mut self, chain: &Chain<B::Item>, handle: Handle, steps: &mut Steps<L>)
+        requires going { IsGoing self.old }
+        requires last { (front : List (Entry B.Item)) × (item : B.Item) × (chain.now.entries ≡ front ++ record { handle = handle; item = item } ∷ [])
+            × IsOver B.Part.Part.contents B.Item.stamp self.old front (B.Item.stamp item) × IsReady B.Part.Part.contents self.old front }
+        requires differ { HandlesDiffer chain.now.entries }
+        requires few { length chain.now.entries < 2 ^ 29 }
+        ensures of { (item : B.Item) → item_at handle chain.now.entries ≡ Some item
+            → IsOf B.Part.Part.contents B.Item.stamp self.new chain.now.entries (B.Item.stamp item + 1) }
+        ensures commits { (front : List (Entry B.Item)) (item : B.Item) → chain.now.entries ≡ front ++ record { handle = handle; item = item } ∷ []
+            → Commits B.Part.Part.contents (record { slope = B.SLOPE; base = B.BASE }) (wait_by true handle front) insert_turns insert_marks
+            (2 * length chain.now.entries + 8) self.old self.new steps.old steps.new }
+        ensures some_turns { steps.old.turns + 3 * ready_count (waits_of self.old) ≤ steps.new.turns }
+    {
+        match &mut self.place {
+            Place::Absent => {}
+            Place::Whole(index) => index.commit_insert(chain, handle, steps),
+            Place::Late(late) => late.commit_insert(),
+        }
+    }
+
+    /// Lets go of a linked item, which is unlinked next, once a late index that was handed all items has gone on. One may have no more to come then.
+    fn let_go<L: Ledger>(&mut self, chain: &Chain<B::Item>, handle: Handle, steps: &mut Steps<L>)
+        requires going { IsGoing self.old }
+        requires ready { IsReady B.Part.Part.contents self.old chain.now.entries }
+        requires of { (stamps : ℕ) × IsOver B.Part.Part.contents B.Item.stamp self.old chain.now.entries stamps }
+        requires linked { IsTrue (is_linked handle chain.now.entries) }
+        ensures of { (stamps : ℕ) → IsOver B.Part.Part.contents B.Item.stamp self.old chain.now.entries stamps
+            → IsOver B.Part.Part.contents B.Item.stamp self.new (without_handle handle chain.now.entries) stamps }
+        ensures exact { IsExact B.Part.Part.contents self.new (without_handle handle chain.now.entries) }
+        ensures commits { Commits B.Part.Part.contents (record { slope = B.SLOPE; base = B.BASE }) (wait_by false handle chain.now.entries) delete_turns delete_marks
+            (2 * length chain.now.entries + 10) self.old self.new steps.old steps.new }
+    {
+        match &mut self.place {
+            Place::Absent => {}
+            Place::Whole(index) => index.commit_delete(chain, handle, steps),
+            Place::Late(late) => late.commit_delete(chain, handle, steps),
+        }
+    }
+
+    /// Puts another item in the place of a linked one, which is renewed next, once a late index that was handed all items has gone on.
+    fn put_anew<L: Ledger>(
+        &mut self,
+        chain: &Chain<B::Item>,
+        handle: Handle,
+        item: B::Item,
+        steps: &mut Steps<L>,
+    )
+        requires going { IsGoing self.old }
+        requires ready { IsReady B.Part.Part.contents self.old chain.now.entries }
+        requires of { IsOver B.Part.Part.contents B.Item.stamp self.old chain.now.entries (B.Item.stamp item) }
+        requires linked { IsTrue (is_linked handle chain.now.entries) }
+        ensures of { IsOf B.Part.Part.contents B.Item.stamp self.new (renewed handle item chain.now.entries) (B.Item.stamp item + 1) }
+        ensures commits { Commits B.Part.Part.contents (record { slope = B.SLOPE; base = B.BASE }) (wait_by true handle chain.now.entries) move_turns move_marks
+            (2 * length chain.now.entries + 10) self.old self.new steps.old steps.new }
+        ensures some_turns { steps.old.turns + 3 * ready_count (waits_of self.old) ≤ steps.new.turns }
+    {
+        match &mut self.place {
+            Place::Absent => {}
+            Place::Whole(index) => index.commit_move(chain, handle, item, steps),
+            Place::Late(late) => late.commit_move(chain, handle, steps),
+        }
     }
 }
 
-/// What becomes of a late index: past the last item its stack goes on as an index.
-fn adopted<B: MapStructure>(alloc: Global, late: Late<B>) -> Place<B>
-    requires of { (es : List (Entry B.Item)) × (stamps : ℕ) × IsOf B.Part.Part.contents B.Item.stamp (placed (places.Late late)) es stamps }
-    ensures { placed result ≡ adopted (placed (places.Late late)) }
+/// What a late index goes on as: past the last item as an index.
+fn go_on<B: MapStructure>(alloc: Global, late: Late<B>) -> Place<B>
+    requires of { (es : List (Entry B.Item)) × (stamps : ℕ) × IsLateOf B.Part.Part.contents B.Item.stamp late es stamps }
+    ensures { placed result ≡ adopted_at late late.walk.cursor }
 {
     if !late.has_ended() {
         return Place::Late(late);
@@ -256,20 +320,12 @@ where
 
     fn insert<L: Ledger>(&mut self, chain: &Chain<B::Item>, handle: Handle, steps: &mut Steps<L>) {
         self.adopt();
-        match &mut self.place {
-            Place::Absent => {}
-            Place::Whole(index) => index.commit_insert(chain, handle, steps),
-            Place::Late(late) => late.commit_insert(),
-        }
+        self.take_in(chain, handle, steps);
     }
 
     fn delete<L: Ledger>(&mut self, chain: &Chain<B::Item>, handle: Handle, steps: &mut Steps<L>) {
         self.adopt();
-        match &mut self.place {
-            Place::Absent => {}
-            Place::Whole(index) => index.commit_delete(chain, handle, steps),
-            Place::Late(late) => late.commit_delete(chain, handle, steps),
-        }
+        self.let_go(chain, handle, steps);
         self.adopt();
     }
 
@@ -281,11 +337,7 @@ where
         steps: &mut Steps<L>,
     ) {
         self.adopt();
-        match &mut self.place {
-            Place::Absent => {}
-            Place::Whole(index) => index.commit_move(chain, handle, item, steps),
-            Place::Late(late) => late.commit_move(chain, handle, steps),
-        }
+        self.put_anew(chain, handle, item, steps);
     }
 }
 

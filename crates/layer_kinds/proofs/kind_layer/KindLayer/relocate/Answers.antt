@@ -5,14 +5,17 @@ use Rattle.id_chain.specs.Chain.{HandlesDiffer}
 use Rattle.id_directory.specs.Directory.{handle_of, without, IdsDiffer}
 use Rattle.id_directory.proofs.Identifiers.{same_by_handle}
 use Rattle.chain_walk.specs.Walk.{renewed}
+use Rattle.map_model.specs.State.{wait_after}
 use Rattle.map_model.specs.Cost.{Moves, greatest_level}
 use Rattle.layer_kinds.specs.declared.faults.UpdateFault.TheVariants as faults
-use Rattle.layer_kinds.specs.Shares.{count_of, IsShared, move_turns, move_marks}
+use Rattle.layer_kinds.specs.Shares.{all_after, ready_count, IsShared, move_turns, move_marks}
+use Rattle.layer_kinds.specs.Indexing.{wait_by}
 use Rattle.layer_kinds.specs.Costs.{IsCost, IsInBounds}
-use Rattle.layer_kinds.specs.Layered.{items_of, IsMove}
+use Rattle.layer_kinds.specs.Layered.{items_of, IsMove, IsWaiting}
 use Rattle.layer_kinds.specs.Memory.{Each, IsReadied, LosesOne, KeepsMemory}
 use Rattle.layer_kinds.proofs.Keeping.{loses_one}
 use Rattle.layer_kinds.proofs.WithinBounds.{IsTold-of, greatest-light, refused_move-cost, moved-cost}
+use Rattle.layer_kinds.proofs.Waiting.{waits_gone}
 use Rattle.layer_kinds.proofs.Items.{linked_found, one_fewer, unknown_refused, move_refused, same_identifier, moved_items}
 use Rattle.layer_kinds.proofs.kind_layer.KindLayer.relocate.Goals as goal
 
@@ -104,9 +107,9 @@ returns-in_err-prepare-clause-cost g c =
     let refused : c.from_residual.result ≡ Err faults.NoMemory = search rules in
     let level = greatest_level n in
     let light : 2 * n + 10 < 2 ^ (level + 1) = greatest-light n (omega (arith, c.self.invariant.2, c.self.invariant.3)) in
-    subst (λ r. IsCost Moves (count_of (g.X.Indexes.rates c.args.self.now.indexes)) (length c.args.self.now.entries) r c.args.steps.now c.prepare.new.steps) (sym refused)
-    (subst (λ k. IsInBounds Moves (count_of (g.X.Indexes.rates k.indexes)) (length k.entries) c.args.steps.now c.prepare.new.steps) c.self.view_is
-    (refused_move-cost rates (g.met.X.Indexes.low l.indexes) level (c.prepare.ensures.cost.within level (omega (arith, light, ap length same)))))
+    subst (λ r. IsCost Moves (g.X.Indexes.rates c.args.self.now.indexes) (length c.args.self.now.entries) r c.args.steps.now c.prepare.new.steps) (sym refused)
+    (subst (λ k. IsInBounds Moves (g.X.Indexes.rates k.indexes) (length k.entries) c.args.steps.now c.prepare.new.steps) c.self.view_is
+    (refused_move-cost rates level (c.prepare.ensures.cost.within level (omega (arith, light, ap length same)))))
 
 pub returns-clause-cost : goal.returns-clause-cost
 returns-clause-cost g c =
@@ -117,8 +120,8 @@ returns-clause-cost g c =
     let same' : c.chain-2.result.now.entries ≡ l.directory.entries = search rules in
     let level = greatest_level n in
     let light : 2 * n + 10 < 2 ^ (level + 1) = greatest-light n (omega (arith, c.self.invariant.2, c.self.invariant.3)) in
-    subst (λ k. IsInBounds Moves (count_of (g.X.Indexes.rates k.indexes)) (length k.entries) c.args.steps.now c.relocate.new.steps) c.self.view_is
-    (moved-cost rates (g.met.X.Indexes.low l.indexes) level (c.prepare.ensures.cost.within level (omega (arith, light, ap length same)))
+    subst (λ k. IsInBounds Moves (g.X.Indexes.rates k.indexes) (length k.entries) c.args.steps.now c.relocate.new.steps) c.self.view_is
+    (moved-cost rates level (c.prepare.ensures.cost.within level (omega (arith, light, ap length same)))
     (subst (λ rs. IsShared (move_turns level) (move_marks level) rs level c.prepare.new.steps c.relocate.new.steps) c.prepare.ensures.there
     (c.relocate.ensures.cost.within level (omega (arith, light, ap length same')))))
 
@@ -131,11 +134,12 @@ returns-clause-told g c =
     let light = greatest-light n (omega (arith, c.self.invariant.2, c.self.invariant.3)) in
     let prepared = c.prepare.ensures.cost.within (greatest_level n) (omega (arith, ap length same, light)) in
     let later : c.args.steps.now.turns ≤ c.prepare.new.steps.turns = omega (arith, prepared.spent.turns_spent) in
-    let there : count_of (g.X.Indexes.rates c.prepare.new.self) ≡ count_of rates =
-    ap count_of c.prepare.ensures.there ∙ ap (λ k. count_of (g.X.Indexes.rates k.indexes)) c.self.view_is in
-    let some_turns : c.args.steps.now.turns + 3 * count_of rates ≤ c.relocate.new.steps.turns = omega (arith, later, c.relocate.ensures.some_turns, there) in
-    let cost : IsInBounds Moves (count_of rates) (length c.args.self.now.entries) c.args.steps.now c.relocate.new.steps = returns-clause-cost g c in
-    IsTold-of Moves (count_of rates) (length c.args.self.now.entries) c.bounds-bounds.result.move_turns c.bounds-bounds.result.move_marks cost c.requires.lap
+    let waits = g.X.Indexes.waits c.args.self.now.indexes in
+    let there : ready_count (g.X.Indexes.waits c.prepare.new.self) ≡ ready_count waits =
+    ap ready_count c.prepare.ensures.waits ∙ ap (λ k. ready_count (g.X.Indexes.waits k.indexes)) c.self.view_is in
+    let some_turns : c.args.steps.now.turns + 3 * ready_count waits ≤ c.relocate.new.steps.turns = omega (arith, later, c.relocate.ensures.some_turns, there) in
+    let cost : IsInBounds Moves rates (length c.args.self.now.entries) c.args.steps.now c.relocate.new.steps = returns-clause-cost g c in
+    IsTold-of Moves rates waits (length c.args.self.now.entries) c.bounds-bounds.result.move_turns c.bounds-bounds.result.move_marks cost c.requires.lap
     c.bounds-bounds.ensures.move_turns c.bounds-bounds.ensures.move_marks c.bounds-bounds.ensures.few_move_turns c.bounds-bounds.ensures.few_move_marks
     (λ brings. some_turns) c.spent.ensures
 
@@ -150,3 +154,29 @@ returns-clause-kept g c =
     subst (λ k. Each LosesOne (g.X.Indexes.memory k.indexes) (g.X.Indexes.memory c.relocate.new.self)) c.self.view_is
     (loses_one (g.X.Indexes.memory c.self.inside.indexes) (g.X.Indexes.memory c.prepare.new.self) (g.X.Indexes.memory c.relocate.new.self)
     c.prepare.ensures.kept c.relocate.ensures.held)
+
+pub returns-in_err-prepare-clause-waits : goal.returns-in_err-prepare-clause-waits
+returns-in_err-prepare-clause-waits g c =
+    let refused : c.from_residual.result ≡ Err faults.NoMemory = search rules in
+    let waits = g.X.Indexes.waits c.args.self.now.indexes in
+    subst (IsWaiting true (g.X.Item.Shaped.item_of c.args.item).id (items_of g.X.Item.Shaped.item_of c.args.self.now.entries) waits (g.X.Indexes.waits c.prepare.new.self)) (sym refused)
+    (c.prepare.ensures.waits ∙ ap (λ k. g.X.Indexes.waits k.indexes) c.self.view_is)
+
+pub returns-clause-waits : goal.returns-clause-waits
+returns-clause-waits g c =
+    let id = g.X.Item.Named.id in
+    let item_of = g.X.Item.Shaped.item_of in
+    let laws = g.met.X.Item.Shaped.same_id in
+    let l = c.self.inside in
+    let es = l.directory.entries in
+    let handle = c.in-Some.handle in
+    let same : c.chain-2.result.now.entries ≡ es = search rules in
+    let differ : HandlesDiffer es = search rules in
+    let ids : IdsDiffer id es = search rules in
+    let by_id : handle_of id c.id-id.result es ≡ Some handle = search rules in
+    let found : handle_of id (item_of c.args.item).id es ≡ Some handle = ap (λ k. handle_of id k es) (laws c.args.item ∙ sym c.id-id.ensures) ∙ by_id in
+    c.relocate.ensures.waits
+    ∙ ap (λ k. all_after (wait_by true handle k) (g.X.Indexes.waits c.prepare.new.self)) same
+    ∙ ap (all_after (wait_by true handle es)) c.prepare.ensures.waits
+    ∙ waits_gone id item_of laws true (item_of c.args.item).id handle es differ ids found (g.X.Indexes.waits l.indexes)
+    ∙ ap (λ k. all_after (wait_after true (item_of c.args.item).id (items_of item_of k.entries)) (g.X.Indexes.waits k.indexes)) c.self.view_is

@@ -1,15 +1,18 @@
 use Rattle.std.proofs.Common.{rules, ◌≡◌, ◌+◌, ◌*◌, ◌^◌, ◌<◌, ◌∙◌, true, false, Some, None, Err, length, ap, sym, subst, refl, arith}
 use Rattle.std.specs.Option.{is_some}
-use Rattle.id_chain.specs.Chain.{without_handle}
+use Rattle.id_chain.specs.Chain.{HandlesDiffer, without_handle}
 use Rattle.id_directory.specs.Directory.{handle_of, without, IdsDiffer}
+use Rattle.map_model.specs.State.{wait_after}
 use Rattle.map_model.specs.Cost.{Drops, greatest_level}
 use Rattle.layer_kinds.specs.declared.faults.UpdateFault.TheVariants as faults
-use Rattle.layer_kinds.specs.Shares.{count_of, IsShared, delete_turns, delete_marks}
+use Rattle.layer_kinds.specs.Shares.{all_after, IsShared, delete_turns, delete_marks}
+use Rattle.layer_kinds.specs.Indexing.{wait_by}
 use Rattle.layer_kinds.specs.Costs.{IsCost, IsInBounds}
-use Rattle.layer_kinds.specs.Layered.{items_of, IsRemoval}
+use Rattle.layer_kinds.specs.Layered.{items_of, IsRemoval, IsWaiting}
 use Rattle.layer_kinds.specs.Memory.{Each, IsReadied, LosesOne, KeepsMemory}
 use Rattle.layer_kinds.proofs.Keeping.{loses_one}
 use Rattle.layer_kinds.proofs.WithinBounds.{IsTold-of, greatest-light, refused-cost, removed-cost}
+use Rattle.layer_kinds.proofs.Waiting.{waits_gone}
 use Rattle.layer_kinds.proofs.Items.{live_found, items_without, linked_found, fewer}
 use Rattle.layer_kinds.proofs.kind_layer.KindLayer.remove.Goals as goal
 
@@ -71,9 +74,9 @@ returns-in_err-prepare-clause-cost g c =
     let refused : c.from_residual.result ≡ Err faults.NoMemory = search rules in
     let level = greatest_level n in
     let light : 2 * n + 10 < 2 ^ (level + 1) = greatest-light n (omega (arith, c.self.invariant.2, c.self.invariant.3)) in
-    subst (λ r. IsCost Drops (count_of (g.X.Indexes.rates c.args.self.now.indexes)) (length c.args.self.now.entries) r c.args.steps.now c.prepare.new.steps) (sym refused)
-    (subst (λ k. IsInBounds Drops (count_of (g.X.Indexes.rates k.indexes)) (length k.entries) c.args.steps.now c.prepare.new.steps) c.self.view_is
-    (refused-cost rates (g.met.X.Indexes.low l.indexes) level (c.prepare.ensures.cost.within level (omega (arith, light, ap length same)))))
+    subst (λ r. IsCost Drops (g.X.Indexes.rates c.args.self.now.indexes) (length c.args.self.now.entries) r c.args.steps.now c.prepare.new.steps) (sym refused)
+    (subst (λ k. IsInBounds Drops (g.X.Indexes.rates k.indexes) (length k.entries) c.args.steps.now c.prepare.new.steps) c.self.view_is
+    (refused-cost rates level (c.prepare.ensures.cost.within level (omega (arith, light, ap length same)))))
 
 pub returns-clause-cost : goal.returns-clause-cost
 returns-clause-cost g c =
@@ -84,8 +87,8 @@ returns-clause-cost g c =
     let same' : c.chain-2.result.now.entries ≡ l.directory.entries = search rules in
     let level = greatest_level n in
     let light : 2 * n + 10 < 2 ^ (level + 1) = greatest-light n (omega (arith, c.self.invariant.2, c.self.invariant.3)) in
-    subst (λ k. IsInBounds Drops (count_of (g.X.Indexes.rates k.indexes)) (length k.entries) c.args.steps.now c.delete.new.steps) c.self.view_is
-    (removed-cost rates (g.met.X.Indexes.low l.indexes) level (c.prepare.ensures.cost.within level (omega (arith, light, ap length same)))
+    subst (λ k. IsInBounds Drops (g.X.Indexes.rates k.indexes) (length k.entries) c.args.steps.now c.delete.new.steps) c.self.view_is
+    (removed-cost rates level (c.prepare.ensures.cost.within level (omega (arith, light, ap length same)))
     (subst (λ rs. IsShared (delete_turns level) (delete_marks level) rs level c.prepare.new.steps c.delete.new.steps) c.prepare.ensures.there
     (c.delete.ensures.cost.within level (omega (arith, light, ap length same')))))
 
@@ -93,8 +96,8 @@ pub returns-clause-told : goal.returns-clause-told
 returns-clause-told g c =
     let l = c.args.self.now in
     let rates = g.X.Indexes.rates l.indexes in
-    let cost : IsInBounds Drops (count_of rates) (length l.entries) c.args.steps.now c.delete.new.steps = returns-clause-cost g c in
-    IsTold-of Drops (count_of rates) (length l.entries) c.bounds-bounds.result.turns c.bounds-bounds.result.marks cost c.requires.lap c.bounds-bounds.ensures.turns c.bounds-bounds.ensures.marks
+    let cost : IsInBounds Drops rates (length l.entries) c.args.steps.now c.delete.new.steps = returns-clause-cost g c in
+    IsTold-of Drops rates (g.X.Indexes.waits l.indexes) (length l.entries) c.bounds-bounds.result.turns c.bounds-bounds.result.marks cost c.requires.lap c.bounds-bounds.ensures.turns c.bounds-bounds.ensures.marks
     c.bounds-bounds.ensures.few_turns c.bounds-bounds.ensures.few_marks (λ adds. absurd cc) c.spent.ensures
 
 pub returns-in_err-prepare-clause-kept : goal.returns-in_err-prepare-clause-kept
@@ -108,3 +111,28 @@ returns-clause-kept g c =
     subst (λ k. Each LosesOne (g.X.Indexes.memory k.indexes) (g.X.Indexes.memory c.delete.new.self)) c.self.view_is
     (loses_one (g.X.Indexes.memory c.self.inside.indexes) (g.X.Indexes.memory c.prepare.new.self) (g.X.Indexes.memory c.delete.new.self)
     c.prepare.ensures.kept c.delete.ensures.held)
+
+pub returns-in_err-prepare-clause-waits : goal.returns-in_err-prepare-clause-waits
+returns-in_err-prepare-clause-waits g c =
+    let refused : c.from_residual.result ≡ Err faults.NoMemory = search rules in
+    let waits = g.X.Indexes.waits c.args.self.now.indexes in
+    subst (IsWaiting false c.args.id (items_of g.X.Item.Shaped.item_of c.args.self.now.entries) waits (g.X.Indexes.waits c.prepare.new.self)) (sym refused)
+    (c.prepare.ensures.waits ∙ ap (λ k. g.X.Indexes.waits k.indexes) c.self.view_is)
+
+pub returns-clause-waits : goal.returns-clause-waits
+returns-clause-waits g c =
+    let id = g.X.Item.Named.id in
+    let item_of = g.X.Item.Shaped.item_of in
+    let laws = g.met.X.Item.Shaped.same_id in
+    let l = c.self.inside in
+    let es = l.directory.entries in
+    let handle = c.in-Some.handle in
+    let same : c.chain-2.result.now.entries ≡ es = search rules in
+    let differ : HandlesDiffer es = search rules in
+    let ids : IdsDiffer id es = search rules in
+    let found : handle_of id c.args.id es ≡ Some handle = search rules in
+    c.delete.ensures.waits
+    ∙ ap (λ k. all_after (wait_by false handle k) (g.X.Indexes.waits c.prepare.new.self)) same
+    ∙ ap (all_after (wait_by false handle es)) c.prepare.ensures.waits
+    ∙ waits_gone id item_of laws false c.args.id handle es differ ids found (g.X.Indexes.waits l.indexes)
+    ∙ ap (λ k. all_after (wait_after false c.args.id (items_of item_of k.entries)) (g.X.Indexes.waits k.indexes)) c.self.view_is

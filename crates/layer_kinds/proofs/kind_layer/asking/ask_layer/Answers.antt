@@ -4,11 +4,11 @@ use Rattle.std.specs.Option.{is_some}
 use Rattle.std.proofs.lemmas.List.{length-map}
 use Rattle.log_levels.specs.Levels.{parts_of}
 use Rattle.map_model.specs.Answer.{answer_over}
-use Rattle.map_model.specs.Cost.{greatest_level, bounds_at}
-use Rattle.layer_kinds.specs.Indexing.{IsOf}
+use Rattle.map_model.specs.Cost.{greatest_level, parts_up_to}
+use Rattle.layer_kinds.specs.Indexing.{answering, IsOf}
 use Rattle.layer_kinds.specs.Layered.{items_of, IsAskRefusal}
 use Rattle.layer_kinds.specs.Asking.{IsAsking, IsEveryPart, IsTouching, ReadsAtMost, most_of}
-use Rattle.layer_kinds.proofs.Touches.{few_touches, touching, asked_every, asked_told, items_of-map}
+use Rattle.layer_kinds.proofs.Touches.{of_answering, answers_there, few_touches, touching, asked_every, asked_told, items_of-map}
 use Rattle.layer_kinds.proofs.kind_layer.asking.ask_layer.Goals as goal
 
 pub returns-in_err-given-clause-touches : goal.returns-in_err-given-clause-touches
@@ -20,7 +20,7 @@ returns-in_err-given-clause-touches g c =
     let here : IsOf (λ part. part) g.R.Item.Item.stamp c.index.result.now es l.directory.adds =
     subst (λ o. IsOf (λ part. part) g.R.Item.Item.stamp o es l.directory.adds) (sym c.index.ensures) of in
     let refused : IsAskRefusal c.index.result.now g.Q.Question.refusable c.from_residual.result = search rules in
-    subst (λ k. IsTouching (bounds_at (length k.entries)).parts (most_of (g.Q.MapQuestion.touches (greatest_level (length k.entries))) (length k.entries)) c.from_residual.result c.args.steps.now c.ask.new.steps) c.layer.view_is
+    subst (λ k. IsTouching (parts_up_to (greatest_level (length k.entries))) (most_of (g.Q.MapQuestion.touches (greatest_level (length k.entries))) (length k.entries)) c.from_residual.result c.args.steps.now c.ask.new.steps) c.layer.view_is
     (touching g.R.Item.Item.stamp (g.Q.MapQuestion.hits q) (g.R.AnsweringRows.ask_touches q) g.Q.MapQuestion.touches (g.met.Q.MapQuestion.part_touches q) g.Q.MapQuestion.few
     es l.directory.adds (omega (arith, c.layer.invariant.2, c.layer.invariant.3)) c.index.result.now g.Q.Question.refusable c.from_residual.result refused here c.ask.ensures.few c.ask.ensures.cost c.ask.ensures.nothing)
 
@@ -32,9 +32,10 @@ returns-clause-touches g c =
     let of = g.met.X.Has.is_of l.indexes es l.directory.adds c.layer.invariant.1 in
     let here : IsOf (λ part. part) g.R.Item.Item.stamp c.index.result.now es l.directory.adds =
     subst (λ o. IsOf (λ part. part) g.R.Item.Item.stamp o es l.directory.adds) (sym c.index.ensures) of in
-    subst (λ k. ReadsAtMost (bounds_at (length k.entries)).parts (most_of (g.Q.MapQuestion.touches (greatest_level (length k.entries))) (length k.entries)) c.args.steps.now c.ask.new.steps) c.layer.view_is
+    subst (λ k. ReadsAtMost (parts_up_to (greatest_level (length k.entries))) (most_of (g.Q.MapQuestion.touches (greatest_level (length k.entries))) (length k.entries)) c.args.steps.now c.ask.new.steps) c.layer.view_is
     (few_touches g.R.Item.Item.stamp (g.Q.MapQuestion.hits q) (g.R.AnsweringRows.ask_touches q) g.Q.MapQuestion.touches (g.met.Q.MapQuestion.part_touches q) g.Q.MapQuestion.few
-    es l.directory.adds (omega (arith, c.layer.invariant.2, c.layer.invariant.3)) c.index.result.now here c.ask.ensures.few c.ask.ensures.cost c.ask.ensures.nothing)
+    es l.directory.adds (omega (arith, c.layer.invariant.2, c.layer.invariant.3)) (answering c.index.result.now)
+    (of_answering g.R.Item.Item.stamp es l.directory.adds c.index.result.now here) c.ask.ensures.few c.ask.ensures.cost c.ask.ensures.nothing)
 
 pub returns-clause-answer : goal.returns-clause-answer
 returns-clause-answer g c =
@@ -57,8 +58,9 @@ returns-clause-every_part g c =
     let of = g.met.X.Has.is_of l.indexes es l.directory.adds c.layer.invariant.1 in
     let here : IsOf (λ part. part) g.R.Item.Item.stamp c.index.result.now es l.directory.adds =
     subst (λ o. IsOf (λ part. part) g.R.Item.Item.stamp o es l.directory.adds) (sym c.index.ensures) of in
-    let there : is_some c.index.result.now ≡ true = c.in_ok-given.ensures.refused in
-    let every = asked_every c.index.result.now c.in_ok-given.given.parts there c.in_ok-given.ensures.few c.in_ok-given.ensures.parts in
+    let there : is_some (answering c.index.result.now) ≡ true =
+    answers_there g.R.Item.Item.stamp es l.directory.adds c.index.result.now here c.in_ok-given.ensures.refused.0 c.in_ok-given.ensures.refused.1 in
+    let every = asked_every (answering c.index.result.now) c.in_ok-given.given.parts there c.in_ok-given.ensures.few c.in_ok-given.ensures.parts in
     let index : c.index.result.now ≡ g.X.Has.index c.args.layer.now.indexes = c.index.ensures ∙ ap (λ k. g.X.Has.index k.indexes) c.layer.view_is in (
       subst (λ n. IsEveryPart (g.X.Has.index c.args.layer.now.indexes) n) (sym c.told-asked.ensures.parts) (subst (λ o. IsEveryPart o c.in_ok-given.given.parts) index every),
       c.told-asked.ensures.parts,
@@ -86,9 +88,10 @@ returns-clause-cost g c =
     subst (λ k. IsAsking (length k.entries) (g.Q.MapQuestion.most_touches (greatest_level (length k.entries)) asked.parts (length k.entries) c.in_ok-given.given.answer)
     asked c.args.steps.now c.ask.new.steps) c.layer.view_is
     (asked_told g.R.Item.Item.stamp (g.Q.MapQuestion.hits q) (g.R.AnsweringRows.ask_touches q) g.Q.MapQuestion.touches (g.met.Q.MapQuestion.part_touches q) g.Q.MapQuestion.few
-    es l.directory.adds (omega (arith, c.layer.invariant.2, c.layer.invariant.3)) c.index.result.now asked (g.Q.MapQuestion.most_touches level asked.parts n c.in_ok-given.given.answer) here c.in_ok-given.ensures.refused
-    c.in_ok-given.ensures.few c.in_ok-given.ensures.cost
-    (subst (λ k. IfSome c.index.result.now (λ i. k ≡ parts_of i.main.levels)) (sym c.told-asked.ensures.parts) c.in_ok-given.ensures.parts)
+    es l.directory.adds (omega (arith, c.layer.invariant.2, c.layer.invariant.3)) (answering c.index.result.now) asked (g.Q.MapQuestion.most_touches level asked.parts n c.in_ok-given.given.answer)
+    (of_answering g.R.Item.Item.stamp es l.directory.adds c.index.result.now here)
+    (answers_there g.R.Item.Item.stamp es l.directory.adds c.index.result.now here c.in_ok-given.ensures.refused.0 c.in_ok-given.ensures.refused.1) c.in_ok-given.ensures.few c.in_ok-given.ensures.cost
+    (subst (λ k. IfSome (answering c.index.result.now) (λ i. k ≡ parts_of i.main.levels)) (sym c.told-asked.ensures.parts) c.in_ok-given.ensures.parts)
     (subst (λ k. c.ask.new.steps.consulted ≡ c.args.steps.now.consulted + k) (sym c.told-asked.ensures.parts) c.in_ok-given.ensures.consulted)
-    (c.told-asked.ensures.part_bound ∙ c.bounds.ensures.parts ∙ ap (λ k. (bounds_at (length k.entries)).parts) (sym c.layer.view_is)) c.requires.lap c.told-asked.ensures.touches
+    (c.told-asked.ensures.part_bound ∙ c.bounds.ensures.parts ∙ ap (λ k. parts_up_to (greatest_level (length k.entries))) (sym c.layer.view_is)) c.requires.lap c.told-asked.ensures.touches
     (subst (λ a. asked.parts * rate.part + rate.hit * hit_ones + rate.item * (2 * n + 9) ≤ g.Q.MapQuestion.most_touches level asked.parts n a) (sym answer) most))
