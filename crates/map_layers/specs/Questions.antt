@@ -1,5 +1,5 @@
 -- The questions to a layer, and what they touch.
-use Rattle.std.specs.Prelude.{◌≡◌, ℕ, ◌<◌, Bool, true, false, length, Result, Ok, Err, IfOk}
+use Rattle.std.specs.Prelude.{◌≡◌, ℕ, ◌+◌, ◌*◌, ◌<◌, Bool, true, false, length, Result, Ok, Err, IfOk}
 use Rattle.query_laws.specs.StepLedger.{Counts}
 use Rattle.map_structures.specs.Touches.{PartTouches}
 use Rattle.map_model.specs.Answer as answers
@@ -31,13 +31,21 @@ pub record AnsweredState : Type 0 where
   pub parts : ℕ
   pub live : ℕ
 
+-- what a question about crossings may touch in a part of at most 2 ^ level items, once an index answers it
+abbrev pub crossing_touches : ℕ → PartTouches
+crossing_touches level = record { part = 32 * ((level + 3) * (level + 3)); hit = 8 * (level + 3); item = 0 }
+
+-- the same in so many parts, with so many hits
+abbrev pub most_crossing : (level parts hits : ℕ) → ℕ
+most_crossing level parts hits = parts * (crossing_touches level).part + hits * (crossing_touches level).hit
+
 -- what a question touches in a part of at most 2 ^ level items, by its index
 abbrev pub touches_by : Index → ℕ → PartTouches
 touches_by Range level = range.question_touches level
 touches_by Near level = near.question_touches level
 touches_by Top level = top.question_touches level
 touches_by Stab level = stab.question_touches level
-touches_by Cross level = stab.question_touches level
+touches_by Cross level = crossing_touches level
 
 -- what a question touches in a part of at most 2 ^ level items
 abbrev pub touches_for : Question → ℕ → PartTouches
@@ -54,8 +62,8 @@ most_for level parts n (answers.ListedAbove ids) = tops.most_touches level parts
 most_for level parts n (answers.Highest peak) = tops.most_touches level parts 0
 most_for level parts n (answers.Stabbed ids) = stabs.most_touches level parts (length ids)
 most_for level parts n (answers.StabCounted count) = stabs.most_touches level parts 0
-most_for level parts n (answers.Crossed ids) = stabs.most_touches level parts (length ids)
-most_for level parts n (answers.CrossCounted count) = stabs.most_touches level parts 0
+most_for level parts n (answers.Crossed ids) = most_crossing level parts (length ids)
+most_for level parts n (answers.CrossCounted count) = most_crossing level parts 0
 
 -- whether a layer is of the kind that a question is about
 abbrev pub IsOfKind : state.Layer → Question → Bool → Type 0
