@@ -35,12 +35,12 @@ after_none [] = refl
 after_none (None ∷ waits) = ap (λ ws. None ∷ ws) (after_none waits)
 after_none (Some n ∷ waits) = ap (λ ws. Some n ∷ ws) (after_none waits)
 
-pub keeps_memory : {T : Type 0} (r : Result T UpdateFault) {old new : List Memory} → memories.KeepsMemory r old new → KeepsMemory (update_result_of r) old new
-keeps_memory (Ok done) kept = kept
-keeps_memory (Err (Duplicate id)) kept = kept
-keeps_memory (Err (Unknown id)) kept = kept
-keeps_memory (Err Full) kept = kept
-keeps_memory (Err NoMemory) kept = kept
+pub keeps_memory : {T : Type 0} (r : Result T UpdateFault) (old new : List Memory) → memories.KeepsMemory r old new → KeepsMemory (update_result_of r) old new
+keeps_memory (Ok done) old new kept = kept
+keeps_memory (Err (Duplicate id)) old new kept = kept
+keeps_memory (Err (Unknown id)) old new kept = kept
+keeps_memory (Err Full) old new kept = kept
+keeps_memory (Err NoMemory) old new kept = kept
 
 pub one_more : {T : Type 0} (r : Result T UpdateFault) (old new : ℕ) → new ≡ old + one_if (is_ok r) → new ≤ old + 1
 one_more (Ok done) old new is = omega (arith, is)

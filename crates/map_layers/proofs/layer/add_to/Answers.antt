@@ -1,12 +1,8 @@
-use Rattle.std.proofs.Common.{◌≡◌, ◌∙◌, true, length, sym, ap, subst, arith}
-use Rattle.std.specs.Prelude.{IfOk}
+use Rattle.std.proofs.Common.{◌≡◌, true, subst}
 use Rattle.map_model.specs.Cost.{Adds}
 use Rattle.map_model.specs.State.{Item}
 use Rattle.map_shapes.specs.Shape.{model_shape}
 use Rattle.layer_kinds.specs.Layered.{items_of, IsAdd, IsWaiting}
-use Rattle.map_layers.specs.Costs.{IsCost, IsTold}
-use Rattle.map_layers.specs.Layer.{layer_seen, IsAddTo}
-use Rattle.map_layers.specs.Memory.{KeepsMemory}
 use Rattle.map_layers.proofs.LayerSeen.{has_waited, added_to, one_more, keeps_memory, costs, told}
 use Rattle.map_layers.proofs.layer.add_to.Goals as goal
 
@@ -32,7 +28,7 @@ pub returns-in-Some-clause-adds : goal.returns-in-Some-clause-adds
 returns-in-Some-clause-adds g c = one_more c.add.result c.args.layer.now.adds c.add.new.self.adds c.add.ensures.adds
 
 pub returns-in-Some-clause-kept : goal.returns-in-Some-clause-kept
-returns-in-Some-clause-kept g c = rw c.in_map.ensures (keeps_memory c.add.result c.add.ensures.kept)
+returns-in-Some-clause-kept g c = rw c.in_map.ensures (keeps_memory c.add.result (g.X.Indexes.memory c.args.layer.now.indexes) (g.X.Indexes.memory c.add.new.self.indexes) c.add.ensures.kept)
 
 pub returns-in-Some-clause-cost : goal.returns-in-Some-clause-cost
 returns-in-Some-clause-cost g c =

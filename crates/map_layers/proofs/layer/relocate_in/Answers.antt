@@ -1,12 +1,8 @@
-use Rattle.std.proofs.Common.{◌≡◌, ◌∙◌, true, length, sym, ap, subst, arith}
-use Rattle.std.specs.Prelude.{IfOk}
+use Rattle.std.proofs.Common.{◌≡◌, true, subst}
 use Rattle.map_model.specs.Cost.{Moves}
 use Rattle.map_model.specs.State.{Item}
 use Rattle.map_shapes.specs.Shape.{model_shape}
 use Rattle.layer_kinds.specs.Layered.{items_of, IsMove, IsWaiting}
-use Rattle.map_layers.specs.Costs.{IsCost, IsTold}
-use Rattle.map_layers.specs.Layer.{layer_seen, IsMoveTo}
-use Rattle.map_layers.specs.Memory.{KeepsMemory}
 use Rattle.map_layers.proofs.LayerSeen.{has_waited, moved_to, one_more, keeps_memory, costs, told}
 use Rattle.map_layers.proofs.layer.relocate_in.Goals as goal
 
@@ -32,7 +28,7 @@ pub returns-in-Some-clause-adds : goal.returns-in-Some-clause-adds
 returns-in-Some-clause-adds g c = one_more c.relocate.result c.args.layer.now.adds c.relocate.new.self.adds c.relocate.ensures.adds
 
 pub returns-in-Some-clause-kept : goal.returns-in-Some-clause-kept
-returns-in-Some-clause-kept g c = rw c.in_map.ensures (keeps_memory c.relocate.result c.relocate.ensures.kept)
+returns-in-Some-clause-kept g c = rw c.in_map.ensures (keeps_memory c.relocate.result (g.X.Indexes.memory c.args.layer.now.indexes) (g.X.Indexes.memory c.relocate.new.self.indexes) c.relocate.ensures.kept)
 
 pub returns-in-Some-clause-cost : goal.returns-in-Some-clause-cost
 returns-in-Some-clause-cost g c =

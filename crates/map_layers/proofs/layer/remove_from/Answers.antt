@@ -1,12 +1,6 @@
-use Rattle.std.proofs.Common.{◌≡◌, ◌∙◌, true, length, sym, ap, subst, arith}
-use Rattle.std.specs.Prelude.{IfOk}
+use Rattle.std.proofs.Common.{◌≡◌, false}
 use Rattle.map_model.specs.Cost.{Drops}
-use Rattle.map_model.specs.State.{Item}
-use Rattle.map_shapes.specs.Shape.{model_shape}
-use Rattle.layer_kinds.specs.Layered.{items_of, IsRemoval, IsWaiting}
-use Rattle.map_layers.specs.Costs.{IsCost, IsTold}
-use Rattle.map_layers.specs.Layer.{layer_seen, IsRemovalFrom}
-use Rattle.map_layers.specs.Memory.{KeepsMemory}
+use Rattle.layer_kinds.specs.Layered.{items_of}
 use Rattle.map_layers.proofs.LayerSeen.{has_waited, removed_from, keeps_memory, costs, told}
 use Rattle.map_layers.proofs.layer.remove_from.Goals as goal
 
@@ -23,7 +17,7 @@ returns-clause-removed g c =
     (has_waited g.X.Item.Shaped.kind item_of held g.X.Indexes.waits g.met.X.NamedIndexes.by_waits false c.args.id (items_of item_of old.entries) old.indexes new.indexes r e.waits))
 
 pub returns-clause-kept : goal.returns-clause-kept
-returns-clause-kept g c = rw c.in_map.ensures (keeps_memory c.remove.result c.remove.ensures.kept)
+returns-clause-kept g c = rw c.in_map.ensures (keeps_memory c.remove.result (g.X.Indexes.memory c.args.layer.now.indexes) (g.X.Indexes.memory c.remove.new.self.indexes) c.remove.ensures.kept)
 
 pub returns-clause-cost : goal.returns-clause-cost
 returns-clause-cost g c =
