@@ -153,7 +153,7 @@ impl<B: MapStructure> Model for LayerIndex<B> {
 impl<B: MapStructure> LayerIndex<B> {
     /// An index without items, where it is wanted. It takes no memory.
     pub fn new(alloc: Global, wanted: bool) -> LayerIndex<B>
-        ensures { result ≡ (if wanted then Whole no_items else Absent) }
+        ensures made { result ≡ (if wanted then Whole no_items else Absent) }
         ensures of { IsOf B.Part.Part.contents B.Item.stamp result [] 0 }
     {
         let place = if wanted {
@@ -167,7 +167,7 @@ impl<B: MapStructure> LayerIndex<B> {
     /// An index that is made late, of the items of a chain: it waits for all of them, and where there are none it is ready. It takes no memory.
     pub fn begin(alloc: Global, chain: &Chain<B::Item>) -> LayerIndex<B>
         requires few { length chain.now.entries < 2 ^ 29 }
-        ensures { result ≡ begun chain.now.entries }
+        ensures begun { result ≡ begun chain.now.entries }
         ensures of { (stamps : ℕ) → StampsRise B.Item.stamp 0 chain.now.entries stamps
             → IsOf B.Part.Part.contents B.Item.stamp result chain.now.entries stamps }
     {

@@ -8,10 +8,11 @@ use Rattle.layer_kinds.proofs.Adopting.{going, over-of, over, ready, as_waits, e
 use Rattle.layer_kinds.proofs.Waiting.{none_left}
 use Rattle.layer_kinds.proofs.indexes.LayerIndexIndexes.delete.Goals as goal
 
-pub adopt-requires-clause-of : goal.adopt-requires-clause-of
-adopt-requires-clause-of g c =
+pub adopt-requires : goal.adopt-requires
+adopt-requires g c =
     let of = c.requires.of in
-    (c.args.chain.now.entries, of.0, over-of g.B.Part.Part.contents g.B.Item.Item.stamp c.args.self.now c.args.chain.now.entries of.0 of.1)
+    let es = c.args.chain.now.entries in
+    record { of = (es, of.0, over-of g.B.Part.Part.contents g.B.Item.Item.stamp c.args.self.now es of.0 of.1) }
 
 pub let_go-requires-clause-going : goal.let_go-requires-clause-going
 let_go-requires-clause-going g c = subst IsGoing (sym c.adopt.ensures) (going c.args.self.now)
@@ -31,18 +32,16 @@ let_go-requires-clause-of g c =
     let of = c.requires.of in
     (of.0, subst (λ q. IsOver contents stamp q es of.0) (sym c.adopt.ensures) (over contents stamp p es of.0 (over-of contents stamp p es of.0 of.1)))
 
-pub adopt-2-requires-clause-of : goal.adopt-2-requires-clause-of
-adopt-2-requires-clause-of g c =
+pub adopt-requires-2 : goal.adopt-requires-2
+adopt-requires-2 g c =
     let contents = g.B.Part.Part.contents in
     let stamp = g.B.Item.Item.stamp in
     let p = c.args.self.now in
     let es = c.args.chain.now.entries in
-    let of = c.requires.of in (
-      without_handle c.args.handle es,
-      of.0,
-      c.let_go.ensures.of of.0
-          (subst (λ q. IsOver contents stamp q es of.0) (sym c.adopt.ensures) (over contents stamp p es of.0 (over-of contents stamp p es of.0 of.1))),
-    )
+    let of = c.requires.of in
+    let rest = c.let_go.ensures.of of.0
+    (subst (λ q. IsOver contents stamp q es of.0) (sym c.adopt.ensures) (over contents stamp p es of.0 (over-of contents stamp p es of.0 of.1))) in
+    record { of = (without_handle c.args.handle es, of.0, rest) }
 
 pub returns-clause-of : goal.returns-clause-of
 returns-clause-of g c stamps of =

@@ -9,11 +9,11 @@ use Rattle.layer_kinds.proofs.Adopting.{going, over-of, over, ready, as_waits, a
 use Rattle.layer_kinds.proofs.Waiting.{none_left}
 use Rattle.layer_kinds.proofs.indexes.LayerIndexIndexes.insert.Goals as goal
 
-pub adopt-requires-clause-of : goal.adopt-requires-clause-of
-adopt-requires-clause-of g c =
+pub adopt-requires : goal.adopt-requires
+adopt-requires g c =
     let stamp = g.B.Item.Item.stamp in
     let last = c.requires.last in
-    (last.0, stamp last.1, over-of g.B.Part.Part.contents stamp c.args.self.now last.0 (stamp last.1) last.3)
+    record { of = (last.0, stamp last.1, over-of g.B.Part.Part.contents stamp c.args.self.now last.0 (stamp last.1) last.3) }
 
 pub take_in-requires-clause-going : goal.take_in-requires-clause-going
 take_in-requires-clause-going g c = subst IsGoing (sym c.adopt.ensures) (going c.args.self.now)

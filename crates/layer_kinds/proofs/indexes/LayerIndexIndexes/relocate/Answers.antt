@@ -7,11 +7,11 @@ use Rattle.layer_kinds.proofs.Adopting.{going, over-of, over, ready, as_waits, a
 use Rattle.layer_kinds.proofs.Waiting.{none_left}
 use Rattle.layer_kinds.proofs.indexes.LayerIndexIndexes.relocate.Goals as goal
 
-pub adopt-requires-clause-of : goal.adopt-requires-clause-of
-adopt-requires-clause-of g c =
+pub adopt-requires : goal.adopt-requires
+adopt-requires g c =
     let stamp = g.B.Item.Item.stamp in
-    (c.args.chain.now.entries, stamp c.args.item,
-    over-of g.B.Part.Part.contents stamp c.args.self.now c.args.chain.now.entries (stamp c.args.item) c.requires.of)
+    let es = c.args.chain.now.entries in
+    record { of = (es, stamp c.args.item, over-of g.B.Part.Part.contents stamp c.args.self.now es (stamp c.args.item) c.requires.of) }
 
 pub put_anew-requires-clause-going : goal.put_anew-requires-clause-going
 put_anew-requires-clause-going g c = subst IsGoing (sym c.adopt.ensures) (going c.args.self.now)
