@@ -3,3 +3,4 @@ pub mod Items
 pub mod Keeping
 pub mod WithinBounds
 pub mod Touches
+pub mod Turns

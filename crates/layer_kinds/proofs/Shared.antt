@@ -8,7 +8,8 @@ use Rattle.log_levels.specs.Cost.{IsWithin}
 use Rattle.log_levels.proofs.Spending.{IsWithin-of, IsWithin-more, IsWithin-then}
 use Rattle.global_rebuild.specs.Index.{Indexed}
 use Rattle.map_structures.specs.Touches.{touches_at}
-use Rattle.layer_kinds.specs.Shares.{Rate, Rates, share, IsShared, CostsShares}
+use Rattle.map_model.specs.Cost.{Rate}
+use Rattle.layer_kinds.specs.Shares.{Rates, share, IsShared, CostsShares}
 use Rattle.layer_kinds.specs.Indexing.{rates_of}
 
 share-append : (f : Rate → ℕ) (first second : Rates) → share f (first ++ second) ≡ share f first + share f second

@@ -20,7 +20,7 @@ use Rattle.global_rebuild.specs.Index.{Indexed, IsIndexOf}
 use Rattle.global_rebuild.proofs.Weights.{as_many}
 use Rattle.map_structures.specs.Touches.{PartTouches}
 use Rattle.map_structures.specs.Touches as kinds
-use Rattle.map_model.specs.Cost.{greatest_level, halvings, bounds_at}
+use Rattle.map_model.specs.Cost.{greatest_level, halvings, parts_up_to}
 use Rattle.map_model.proofs.Levels.{IsLog-halvings}
 use Rattle.map_shapes.specs.declared.question_cost.QuestionCost.{QuestionCost}
 use Rattle.map_model.specs.State as state
@@ -155,7 +155,7 @@ module _ {Item : Type 0} (stamp : Item → ℕ) (hits : Item → Bool) (touches 
   light : 2 * live_in (λ part. part) i.main + 9 < 2 ^ (level + 1)
   light = omega (arith, greatest-light n few, as_many (λ part. part) stamp i es h)
 
-  pub few_parts : parts_of i.main.levels ≤ (bounds_at n).parts
+  pub few_parts : parts_of i.main.levels ≤ parts_up_to (greatest_level n)
   few_parts = parts.parts level light
 
   abbrev pub touched : ℕ
@@ -176,13 +176,13 @@ module _ {Item : Type 0} (stamp : Item → ℕ) (hits : Item → Bool) (touches 
   pub most-asking : touched ≤ most_of rate n
   most-asking =
       let scaled = times_more rate.hit hit_ones n few_hits in
-      omega (arith, most-parts, more (parts_of i.main.levels) (bounds_at n).parts rate.part few_parts, scaled)
+      omega (arith, most-parts, more (parts_of i.main.levels) (parts_up_to (greatest_level n)) rate.part few_parts, scaled)
 
   pub most-small : most_of rate n < 2 ^ 63
   most-small =
       let low = level-low n few in
       let t = few_of level low in
-      let by_part : (bounds_at n).parts * rate.part ≤ 78 * rate.part = more (bounds_at n).parts 78 rate.part (omega (arith, low)) in
+      let by_part : parts_up_to (greatest_level n) * rate.part ≤ 78 * rate.part = more (parts_up_to (greatest_level n)) 78 rate.part (omega (arith, low)) in
       let by_hit : rate.hit * n ≤ 2 ^ 16 * n = more rate.hit (2 ^ 16) n t.hit in
       let by_item : rate.item * (2 * n + 9) ≤ 2 ^ 16 * (2 * n + 9) = more rate.item (2 ^ 16) (2 * n + 9) t.item in
       omega (arith, by_part, by_hit, by_item, t.part, few)
@@ -230,7 +230,7 @@ module _ {Item : Type 0} (stamp : Item → ℕ) (hits : Item → Bool) (touches 
     (es : List (Entry Item)) (stamps : ℕ) (few : length es ≤ 2 ^ 24) where
   -- asked or not, so many parts and touches at most
   pub few_touches : {old new : Counts} (index : Option (Indexed (Contents Item) Item)) → IsOf (λ part. part) stamp index es stamps → MayBeFew index
-      → MaySpend touches index old new → (index ≡ None → new ≡ old) → ReadsAtMost (bounds_at (length es)).parts (most_of (of_part (greatest_level (length es))) (length es)) old new
+      → MaySpend touches index old new → (index ≡ None → new ≡ old) → ReadsAtMost (parts_up_to (greatest_level (length es))) (most_of (of_part (greatest_level (length es))) (length es)) old new
   few_touches None of parts spent nothing = (omega (arith, ap (λ s. s.consulted) (nothing refl)), omega (arith, ap (λ s. s.touches) (nothing refl)))
   few_touches (Some i) of parts spent nothing = (
     omega (arith, spent.few_consulted, few_parts stamp hits touches of_part one few_of i es of few parts),
@@ -239,14 +239,14 @@ module _ {Item : Type 0} (stamp : Item → ℕ) (hits : Item → Bool) (touches 
 
   pub touching : {T : Type 0} {old new : Counts} (index : Option (Indexed (Contents Item) Item)) (refusable : Bool) (result : Result T AskFault)
       → IsAskRefusal index refusable result → IsOf (λ part. part) stamp index es stamps → MayBeFew index → MaySpend touches index old new
-      → (index ≡ None → new ≡ old) → IsTouching (bounds_at (length es)).parts (most_of (of_part (greatest_level (length es))) (length es)) result old new
+      → (index ≡ None → new ≡ old) → IsTouching (parts_up_to (greatest_level (length es))) (most_of (of_part (greatest_level (length es))) (length es)) result old new
   touching index refusable (Ok given) refused of parts spent nothing = few_touches index of parts spent nothing
   touching index refusable (Err ask.NoIndex) refused of parts spent nothing = nothing (gone index refused)
   touching index refusable (Err ask.NoMemory) refused of parts spent nothing = few_touches index of parts spent nothing
 
   pub asked_told : {old new : Counts} (index : Option (Indexed (Contents Item) Item)) (asked : QuestionCost) (most : ℕ) → IsOf (λ part. part) stamp index es stamps
       → is_some index ≡ true → MayBeFew index → MaySpend touches index old new → IfSome index (λ i. asked.parts ≡ parts_of i.main.levels)
-      → new.consulted ≡ old.consulted + asked.parts → asked.part_bound ≡ (bounds_at (length es)).parts
+      → new.consulted ≡ old.consulted + asked.parts → asked.part_bound ≡ parts_up_to (greatest_level (length es))
       → AtLapStart old → asked.touches ≡ lap_of new.lap_start.touches new.touches
       → asked.parts * (of_part (greatest_level (length es))).part + (of_part (greatest_level (length es))).hit * length (filter hits (map (λ e. e.item) es))
       + (of_part (greatest_level (length es))).item * (2 * length es + 9) ≤ most

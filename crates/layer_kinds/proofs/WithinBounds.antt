@@ -1,127 +1,165 @@
 -- The bounds of a layer are those of its indexes.
-use Rattle.std.proofs.Common.{◌≡◌, ℕ, zero, suc, ◌+◌, ◌-◌, ◌*◌, ◌^◌, ◌<◌, ◌≤◌, ◌∙◌, true, List, [], ◌∷◌, Option, Some, None, cond, sum_by, ap, subst, arith, pow-suc}
+use Rattle.std.proofs.Common.{◌≡◌, ℕ, zero, suc, ◌+◌, ◌-◌, ◌*◌, ◌/◌, ◌^◌, ◌<◌, ◌≤◌, ◌∙◌, true, List, [], ◌∷◌, Option, Some, None, cond, sum_by, length, refl, ap, subst, arith, pow-suc}
 use Rattle.std.specs.List.{range_with_len}
 use Rattle.std.specs.Option.{is_some, option_map_or}
-use Rattle.std.proofs.lemmas.List.Elements.{All-head, All-tail}
 use Rattle.std.proofs.lemmas.List.Sums.{sum_by-cons}
 use Rattle.query_laws.specs.StepLedger.{Counts, AtLapStart, lap_of}
 use Rattle.partial_build.specs.Quota.{quota}
 use Rattle.log_levels.specs.Cost.{IsWithin, quotas}
 use Rattle.log_levels.proofs.Spending.{IsWithin-more, IsWithin-then, quotas-first, quotas-fewer}
 use Rattle.map_structures.specs.Touches.{touches_at}
-use Rattle.map_model.specs.Cost.{Update, greatest_level, turns_up_to, marks_up_to, move_turns_up_to, move_marks_up_to, brings}
+use Rattle.map_model.specs.Cost.{Update, Rate, greatest_level, turns_up_to, marks_up_to, move_marks_up_to, brings}
 use Rattle.map_model.proofs.Levels.{IsLog-halvings}
 use Rattle.map_shapes.specs.declared.spent.Spent.{Spent}
-use Rattle.layer_kinds.specs.Shares.{Rate, Rates, count_of, share, IsLow, AreLow, IsShared, prepare_turns, prepare_marks, insert_turns, insert_marks, delete_turns, delete_marks, move_turns, move_marks}
-use Rattle.layer_kinds.specs.SharesLaws.{IsLowThere}
+use Rattle.layer_kinds.specs.Shares.{Rates, count_of, share, IsShared, prepare_turns, prepare_marks, insert_turns, insert_marks, delete_turns, delete_marks, move_turns, move_marks}
 use Rattle.layer_kinds.specs.Costs.{IsInBounds, IsTold, turns_of, marks_of}
 
 -- ---- the quotas of all levels
 
--- from a level above 0 on
-quotas_from : (k from : ℕ) → 1 ≤ from → quotas 4 12 from (from + k) ≤ 4 * ((k + 1) * from) + 2 * (k * (k + 1)) + 16 * (k + 1)
-quotas_from zero from some =
-    let here : quotas 4 12 from (from + 0) ≡ quota 4 12 from + quotas 4 12 (from + 1) (from + 0) = quotas-first 4 12 from (from + 0) (omega arith) in
-    let none : from + 0 + 1 - (from + 1) ≡ 0 = omega arith in
-    let rest : quotas 4 12 (from + 1) (from + 0) ≡ 0 = ap (λ n. sum_by (quota 4 12) (range_with_len (from + 1) n)) none in
-    let one : quota 4 12 from ≤ 4 * from + 16 = grind (arith, some) in
-    omega (arith, here, rest, one)
-quotas_from (suc k) from some =
-    let here : quotas 4 12 from (from + suc k) ≡ quota 4 12 from + quotas 4 12 (from + 1) (from + suc k) = quotas-first 4 12 from (from + suc k) (omega arith) in
-    let same : from + 1 + k ≡ from + suc k = omega arith in
-    let rest : quotas 4 12 (from + 1) (from + suc k) ≤ 4 * ((k + 1) * (from + 1)) + 2 * (k * (k + 1)) + 16 * (k + 1) =
-    subst (λ n. quotas 4 12 (from + 1) n ≤ 4 * ((k + 1) * (from + 1)) + 2 * (k * (k + 1)) + 16 * (k + 1)) same (quotas_from k (from + 1) (omega arith)) in
-    let one : quota 4 12 from ≤ 4 * from + 16 = grind (arith, some) in
-    let sum : 4 * from + 16 + (4 * ((k + 1) * (from + 1)) + 2 * (k * (k + 1)) + 16 * (k + 1))
-    ≡ 4 * ((suc k + 1) * from) + 2 * (suc k * (suc k + 1)) + 16 * (suc k + 1) = grind arith in
-    omega (arith, here, rest, one, sum)
+module _ (slope base : ℕ) where
+  quota-above : (level : ℕ) → 1 ≤ level → quota slope base level ≡ slope * level + base + 4
+  quota-above zero some = absurd (omega (arith, some))
+  quota-above (suc k) some = refl
 
-quotas-closed : (g : ℕ) → 6 * quotas 4 12 0 g ≤ turns_up_to g
-quotas-closed zero =
-    let here : quotas 4 12 0 0 ≡ quota 4 12 0 + quotas 4 12 1 0 = quotas-first 4 12 0 0 (omega arith) in
-    omega (arith, here)
-quotas-closed (suc k) =
-    let here : quotas 4 12 0 (suc k) ≡ quota 4 12 0 + quotas 4 12 1 (suc k) = quotas-first 4 12 0 (suc k) (omega arith) in
-    let same : 1 + k ≡ suc k = omega arith in
-    let rest : quotas 4 12 1 (suc k) ≤ 4 * ((k + 1) * 1) + 2 * (k * (k + 1)) + 16 * (k + 1) =
-    subst (λ n. quotas 4 12 1 n ≤ 4 * ((k + 1) * 1) + 2 * (k * (k + 1)) + 16 * (k + 1)) same (quotas_from k 1 (omega arith)) in
-    let sum : 6 * (8 + (4 * ((k + 1) * 1) + 2 * (k * (k + 1)) + 16 * (k + 1))) ≡ 12 * (suc k * suc k) + 108 * suc k + 48 = grind arith in
-    omega (arith, here, rest, sum)
+  -- from a level above 0 on
+  quotas_from : (k from : ℕ) → 1 ≤ from
+      → 2 * quotas slope base from (from + k) ≤ slope * (2 * ((k + 1) * from) + k * (k + 1)) + 2 * ((k + 1) * (base + 4))
+  quotas_from zero from some =
+      let here : quotas slope base from (from + 0) ≡ quota slope base from + quotas slope base (from + 1) (from + 0) =
+      quotas-first slope base from (from + 0) (omega arith) in
+      let none : from + 0 + 1 - (from + 1) ≡ 0 = omega arith in
+      let rest : quotas slope base (from + 1) (from + 0) ≡ 0 = ap (λ n. sum_by (quota slope base) (range_with_len (from + 1) n)) none in
+      let one = quota-above from some in
+      let sum : slope * (2 * ((0 + 1) * from) + 0 * (0 + 1)) + 2 * ((0 + 1) * (base + 4)) ≡ 2 * (slope * from + base + 4) = grind arith in
+      omega (arith, here, rest, one, sum)
+  quotas_from (suc k) from some =
+      let here : quotas slope base from (from + suc k) ≡ quota slope base from + quotas slope base (from + 1) (from + suc k) =
+      quotas-first slope base from (from + suc k) (omega arith) in
+      let same : from + 1 + k ≡ from + suc k = omega arith in
+      let rest : 2 * quotas slope base (from + 1) (from + suc k) ≤ slope * (2 * ((k + 1) * (from + 1)) + k * (k + 1)) + 2 * ((k + 1) * (base + 4)) =
+      subst (λ n. 2 * quotas slope base (from + 1) n ≤ slope * (2 * ((k + 1) * (from + 1)) + k * (k + 1)) + 2 * ((k + 1) * (base + 4))) same
+      (quotas_from k (from + 1) (omega arith)) in
+      let one = quota-above from some in
+      let sum : 2 * (slope * from + base + 4) + (slope * (2 * ((k + 1) * (from + 1)) + k * (k + 1)) + 2 * ((k + 1) * (base + 4)))
+      ≡ slope * (2 * ((suc k + 1) * from) + suc k * (suc k + 1)) + 2 * ((suc k + 1) * (base + 4)) = grind arith in
+      omega (arith, here, rest, one, sum)
 
--- a lower rate has lower quotas
-scaled : (slope level : ℕ) → slope ≤ 4 → slope * level ≤ 4 * level
-scaled slope level low = grind (arith, low)
+  quotas-closed : (g : ℕ) → 2 * quotas slope base 0 g ≤ slope * (g * g) + (slope + 2 * base + 8) * g + base + 4
+  quotas-closed zero =
+      let here : quotas slope base 0 0 ≡ quota slope base 0 + quotas slope base 1 0 = quotas-first slope base 0 0 (omega arith) in
+      let sum : slope * (0 * 0) + (slope + 2 * base + 8) * 0 + base + 4 ≡ base + 4 = grind arith in
+      omega (arith, here, sum)
+  quotas-closed (suc k) =
+      let here : quotas slope base 0 (suc k) ≡ quota slope base 0 + quotas slope base 1 (suc k) = quotas-first slope base 0 (suc k) (omega arith) in
+      let same : 1 + k ≡ suc k = omega arith in
+      let rest : 2 * quotas slope base 1 (suc k) ≤ slope * (2 * ((k + 1) * 1) + k * (k + 1)) + 2 * ((k + 1) * (base + 4)) =
+      subst (λ n. 2 * quotas slope base 1 n ≤ slope * (2 * ((k + 1) * 1) + k * (k + 1)) + 2 * ((k + 1) * (base + 4))) same (quotas_from k 1 (omega arith)) in
+      let sum : base + 4 + (slope * (2 * ((k + 1) * 1) + k * (k + 1)) + 2 * ((k + 1) * (base + 4)))
+      ≡ slope * (suc k * suc k) + (slope + 2 * base + 8) * suc k + base + 4 = grind arith in
+      omega (arith, here, rest, sum)
 
-quota-low : (rate : Rate) → IsLow rate → (level : ℕ) → quota rate.slope rate.base level ≤ quota 4 12 level
-quota-low rate low zero = omega (arith, low.1)
-quota-low rate low (suc k) = grind (arith, scaled rate.slope (suc k) low.0, low.1)
+six_halves : (q p : ℕ) → 2 * q ≤ p → 6 * q ≤ 6 * p / 2
+six_halves q p less = omega (arith, less)
 
-sums-low : (f h : ℕ → ℕ) → ((k : ℕ) → f k ≤ h k) → (ks : List ℕ) → sum_by f ks ≤ sum_by h ks
-sums-low f h low [] = omega arith
-sums-low f h low (k ∷ ks) = omega (arith, sum_by-cons f k ks, sum_by-cons h k ks, low k, sums-low f h low ks)
+seven_halves : (q p : ℕ) → 2 * q ≤ p → 7 * q ≤ 7 * p / 2
+seven_halves q p less = omega (arith, less)
 
-quotas-low : (g : ℕ) (rate : Rate) → IsLow rate → 6 * quotas rate.slope rate.base 0 g ≤ turns_up_to g
-quotas-low g rate low =
-    omega (arith, quotas-closed g, sums-low (quota rate.slope rate.base) (quota 4 12) (quota-low rate low) (range_with_len 0 (g + 1 - 0)))
+six_ticks : (g : ℕ) (rate : Rate) → 6 * quotas rate.slope rate.base 0 g ≤ turns_up_to 6 rate g
+six_ticks g rate = six_halves (quotas rate.slope rate.base 0 g)
+    (rate.slope * (g * g) + (rate.slope + 2 * rate.base + 8) * g + rate.base + 4)
+    (quotas-closed rate.slope rate.base g)
 
--- ---- two shares together
+seven_ticks : (g : ℕ) (rate : Rate) → 7 * quotas rate.slope rate.base 0 g ≤ turns_up_to 7 rate g
+seven_ticks g rate = seven_halves (quotas rate.slope rate.base 0 g)
+    (rate.slope * (g * g) + (rate.slope + 2 * rate.base + 8) * g + rate.base + 4)
+    (quotas-closed rate.slope rate.base g)
 
-module _ (f f' : Rate → ℕ) (most : ℕ) (each : (rate : Rate) → IsLow rate → f rate + f' rate ≤ most) where
-  shares : (rates : Rates) → AreLow rates → share f rates + share f' rates ≤ count_of rates * most
-  shares [] low = omega arith
-  shares (r ∷ rest) low =
-      let more = shares rest (All-tail IsLowThere r rest low) in
-      let here = one r (All-head IsLowThere r rest low) in
-      let count = sum_by-cons (λ x. cond (is_some x) 1 0) r rest in
-      let shared : (cond (is_some r) 1 0 + count_of rest) * most ≡ cond (is_some r) 1 0 * most + count_of rest * most = grind arith in
-      omega (arith, sum_by-cons (λ x. option_map_or f x 0) r rest, sum_by-cons (λ x. option_map_or f' x 0) r rest, ap (λ n. n * most) count, shared, here, more)
+-- ---- one share, and two together
+
+module _ (f most : Rate → ℕ) (each : (rate : Rate) → f rate ≤ most rate) where
+  share-more : (rates : Rates) → share f rates ≤ share most rates
+  share-more [] = omega arith
+  share-more (r ∷ rest) =
+      omega (arith, sum_by-cons (λ x. option_map_or f x 0) r rest, sum_by-cons (λ x. option_map_or most x 0) r rest, one r, share-more rest)
     where
-      one : (r : Option Rate) → IsLowThere r → option_map_or f r 0 + option_map_or f' r 0 ≤ cond (is_some r) 1 0 * most
-      one None low = omega arith
-      one (Some rate) low = omega (arith, each rate low)
+      one : (r : Option Rate) → option_map_or f r 0 ≤ option_map_or most r 0
+      one None = omega arith
+      one (Some rate) = each rate
 
-module _ (rates : Rates) (low : AreLow rates) (g : ℕ) where
+module _ (f f' most : Rate → ℕ) (each : (rate : Rate) → f rate + f' rate ≤ most rate) where
+  shares : (rates : Rates) → share f rates + share f' rates ≤ share most rates
+  shares [] = omega arith
+  shares (r ∷ rest) =
+      omega (arith, sum_by-cons (λ x. option_map_or f x 0) r rest, sum_by-cons (λ x. option_map_or f' x 0) r rest,
+          sum_by-cons (λ x. option_map_or most x 0) r rest, one r, shares rest)
+    where
+      one : (r : Option Rate) → option_map_or f r 0 + option_map_or f' r 0 ≤ option_map_or most r 0
+      one None = omega arith
+      one (Some rate) = each rate
+
+-- the same number of each index
+pub share_same : (n : ℕ) (rates : Rates) → share (λ rate. n) rates ≡ count_of rates * n
+share_same n [] = refl
+share_same n (r ∷ rest) =
+    let count = sum_by-cons (λ x. cond (is_some x) 1 0) r rest in
+    let both : (cond (is_some r) 1 0 + count_of rest) * n ≡ cond (is_some r) 1 0 * n + count_of rest * n = grind arith in
+    omega (arith, sum_by-cons (λ x. option_map_or (λ rate. n) x 0) r rest, ap (λ k. k * n) count, both, one r, share_same n rest)
+  where
+    one : (r : Option Rate) → option_map_or (λ rate. n) r 0 ≡ cond (is_some r) 1 0 * n
+    one None = refl
+    one (Some rate) = omega arith
+
+-- no more are there than there may be
+pub count_few : (rates : Rates) → count_of rates ≤ length rates
+count_few [] = omega arith
+count_few (r ∷ rest) = omega (arith, sum_by-cons (λ x. cond (is_some x) 1 0) r rest, one r, count_few rest)
+  where
+    one : (r : Option Rate) → cond (is_some r) 1 0 ≤ 1
+    one None = omega arith
+    one (Some rate) = omega arith
+
+module _ (rates : Rates) (g : ℕ) where
   -- what an update costs, by the level
   abbrev pub IsAtMost : Counts → Counts → Type 0
-  IsAtMost old new = IsWithin (count_of rates * turns_up_to g) (count_of rates * marks_up_to g) (touches_at g) old new
+  IsAtMost old new = IsWithin (share (λ rate. turns_up_to 6 rate g) rates) (share (λ rate. marks_up_to g) rates) (touches_at g) old new
 
   pub refused-cost : {old new : Counts} → IsShared (prepare_turns g) (prepare_marks g) rates g old new → IsAtMost old new
   refused-cost h = IsWithin-more h
-      (omega (arith, shares (prepare_turns g) (prepare_turns g) (2 * turns_up_to g) (λ rate is. omega (arith, quotas-low g rate is)) rates low))
-      (omega (arith, shares (prepare_marks g) (prepare_marks g) (2 * marks_up_to g) (λ rate is. omega arith) rates low))
+      (share-more (prepare_turns g) (λ rate. turns_up_to 6 rate g) (λ rate. omega (arith, six_ticks g rate)) rates)
+      (share-more (prepare_marks g) (λ rate. marks_up_to g) (λ rate. omega arith) rates)
       (omega arith)
 
   pub added-cost : {old mid new : Counts} → IsShared (prepare_turns g) (prepare_marks g) rates g old mid
       → IsShared (insert_turns g) (insert_marks g) rates g mid new → IsAtMost old new
   added-cost h h' = IsWithin-more (IsWithin-then h h')
-      (shares (prepare_turns g) (insert_turns g) (turns_up_to g) (λ rate is. omega (arith, quotas-low g rate is)) rates low)
-      (shares (prepare_marks g) (insert_marks g) (marks_up_to g) (λ rate is. omega arith) rates low)
+      (shares (prepare_turns g) (insert_turns g) (λ rate. turns_up_to 6 rate g) (λ rate. omega (arith, six_ticks g rate)) rates)
+      (shares (prepare_marks g) (insert_marks g) (λ rate. marks_up_to g) (λ rate. omega arith) rates)
       (omega arith)
 
   pub removed-cost : {old mid new : Counts} → IsShared (prepare_turns g) (prepare_marks g) rates g old mid
       → IsShared (delete_turns g) (delete_marks g) rates g mid new → IsAtMost old new
   removed-cost h h' = IsWithin-more (IsWithin-then h h')
-      (shares (prepare_turns g) (delete_turns g) (turns_up_to g)
-      (λ rate is. omega (arith, quotas-low g rate is, quotas-fewer rate.slope rate.base 0 g)) rates low)
-      (shares (prepare_marks g) (delete_marks g) (marks_up_to g) (λ rate is. omega arith) rates low)
+      (shares (prepare_turns g) (delete_turns g) (λ rate. turns_up_to 6 rate g)
+      (λ rate. omega (arith, six_ticks g rate, quotas-fewer rate.slope rate.base 0 g)) rates)
+      (shares (prepare_marks g) (delete_marks g) (λ rate. marks_up_to g) (λ rate. omega arith) rates)
       (omega arith)
 
   -- what a move costs, by the level
   abbrev pub IsMoveAtMost : Counts → Counts → Type 0
-  IsMoveAtMost old new = IsWithin (count_of rates * move_turns_up_to g) (count_of rates * move_marks_up_to g) (touches_at g) old new
+  IsMoveAtMost old new = IsWithin (share (λ rate. turns_up_to 7 rate g) rates) (share (λ rate. move_marks_up_to g) rates) (touches_at g) old new
 
   pub refused_move-cost : {old new : Counts} → IsShared (prepare_turns g) (prepare_marks g) rates g old new → IsMoveAtMost old new
   refused_move-cost h = IsWithin-more h
-      (omega (arith, shares (prepare_turns g) (prepare_turns g) (2 * move_turns_up_to g) (λ rate is. omega (arith, quotas-low g rate is)) rates low))
-      (omega (arith, shares (prepare_marks g) (prepare_marks g) (2 * move_marks_up_to g) (λ rate is. omega arith) rates low))
+      (share-more (prepare_turns g) (λ rate. turns_up_to 7 rate g) (λ rate. omega (arith, seven_ticks g rate)) rates)
+      (share-more (prepare_marks g) (λ rate. move_marks_up_to g) (λ rate. omega arith) rates)
       (omega arith)
 
   pub moved-cost : {old mid new : Counts} → IsShared (prepare_turns g) (prepare_marks g) rates g old mid
       → IsShared (move_turns g) (move_marks g) rates g mid new → IsMoveAtMost old new
   moved-cost h h' = IsWithin-more (IsWithin-then h h')
-      (shares (prepare_turns g) (move_turns g) (move_turns_up_to g)
-      (λ rate is. omega (arith, quotas-low g rate is, quotas-fewer rate.slope rate.base 0 g)) rates low)
-      (shares (prepare_marks g) (move_marks g) (move_marks_up_to g) (λ rate is. omega arith) rates low)
+      (shares (prepare_turns g) (move_turns g) (λ rate. turns_up_to 7 rate g)
+      (λ rate. omega (arith, seven_ticks g rate, quotas-fewer rate.slope rate.base 0 g)) rates)
+      (shares (prepare_marks g) (move_marks g) (λ rate. move_marks_up_to g) (λ rate. omega arith) rates)
       (omega arith)
 
 -- ---- a layer
@@ -139,16 +177,16 @@ greatest-light n few =
     light (2 * n + 10) (greatest_level n) log.1
 
 -- what an update of n items costs that is told
-pub IsTold-of : (update : Update) (indexes n turns marks : ℕ) {spent : Spent} {old new : Counts} → IsInBounds update indexes n old new → AtLapStart old
-    → turns ≡ turns_of update indexes n → marks ≡ marks_of update indexes n → turns < 2 ^ 32 → marks < 2 ^ 32
-    → (brings update ≡ true → old.turns + 3 * indexes ≤ new.turns)
+pub IsTold-of : (update : Update) (rates : Rates) (n turns marks : ℕ) {spent : Spent} {old new : Counts} → IsInBounds update rates n old new → AtLapStart old
+    → turns ≡ turns_of update rates n → marks ≡ marks_of update rates n → turns < 2 ^ 32 → marks < 2 ^ 32
+    → (brings update ≡ true → old.turns + 3 * count_of rates ≤ new.turns)
     → spent ≡ record {
       turns = lap_of new.lap_start.turns new.turns;
       turn_bound = turns;
       marks = lap_of new.lap_start.marks new.marks;
       mark_bound = marks;
-    } → IsTold update indexes n spent old new
-IsTold-of update indexes n turns marks {spent} {old} {new} h lap turns_are marks_are few_turns few_marks some told =
+    } → IsTold update rates n spent old new
+IsTold-of update rates n turns marks {spent} {old} {new} h lap turns_are marks_are few_turns few_marks some told =
     let from_turns : new.lap_start.turns ≡ old.turns = ap (λ l. l.turns) h.spent.same_lap ∙ lap.no_turns in
     let from_marks : new.lap_start.marks ≡ old.marks = ap (λ l. l.marks) h.spent.same_lap ∙ lap.no_marks in
     let risen : old.turns ≤ new.turns = omega (arith, h.spent.turns_spent) in

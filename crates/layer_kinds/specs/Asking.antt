@@ -4,7 +4,7 @@ use Rattle.query_laws.specs.StepLedger.{Counts}
 use Rattle.log_levels.specs.Levels.{parts_of}
 use Rattle.global_rebuild.specs.Index.{Indexed}
 use Rattle.map_structures.specs.Touches.{PartTouches}
-use Rattle.map_model.specs.Cost.{bounds_at}
+use Rattle.map_model.specs.Cost.{greatest_level, parts_up_to}
 use Rattle.map_shapes.specs.declared.question_cost.QuestionCost.{QuestionCost}
 use Rattle.layer_kinds.specs.declared.faults.AskFault.{AskFault}
 use Rattle.layer_kinds.specs.declared.faults.AskFault.TheVariants.{NoIndex, NoMemory}
@@ -16,11 +16,11 @@ IsEveryPart (Some index) parts = (parts ≡ parts_of index.main.levels) × All (
 
 -- the most touches of any question to n items, by those in one part
 abbrev pub most_of : PartTouches → ℕ → ℕ
-most_of touches n = (bounds_at n).parts * touches.part + touches.hit * n + touches.item * (2 * n + 9)
+most_of touches n = parts_up_to (greatest_level n) * touches.part + touches.hit * n + touches.item * (2 * n + 9)
 
 -- A question to n items that is answered costs so many touches at most, and no turn and no mark; how many parts were consulted and how many touches is told.
 pub record IsAsking (n most : ℕ) (asked : QuestionCost) (old new : Counts) : Type 0 where
-  pub part_bound : asked.part_bound ≡ (bounds_at n).parts
+  pub part_bound : asked.part_bound ≡ parts_up_to (greatest_level n)
   pub few_parts : asked.parts ≤ asked.part_bound
   pub some_part : 0 < n → 1 ≤ asked.parts
   pub consulted : new.consulted ≡ old.consulted + asked.parts

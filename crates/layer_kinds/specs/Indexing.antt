@@ -4,7 +4,8 @@ use Rattle.std.specs.Option.{option_map}
 use Rattle.builder_trait.specs.Parts.{Contents}
 use Rattle.id_chain.specs.Chain.{Entry}
 use Rattle.global_rebuild.specs.Index.{Indexed, IsIndexOf, IsPrepared}
-use Rattle.layer_kinds.specs.Shares.{Rate, Rates}
+use Rattle.map_model.specs.Cost.{Rate}
+use Rattle.layer_kinds.specs.Shares.{Rates}
 
 module _ {P Item : Type 0} where
   -- the rate of an index, where it is there

@@ -1,5 +1,4 @@
 pub mod Shares
-pub mod SharesLaws
 pub mod Indexing
 pub mod Memory
 pub mod Layered

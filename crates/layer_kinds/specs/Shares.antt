@@ -1,14 +1,10 @@
 -- What updates of several indexes cost, each a share.
-use Rattle.std.specs.Prelude.{ℕ, ◌+◌, ◌*◌, ◌^◌, ◌<◌, ◌≤◌, All, List, Option, IfSome, count_by, sum_by}
+use Rattle.std.specs.Prelude.{ℕ, ◌+◌, ◌*◌, ◌^◌, ◌<◌, List, Option, count_by, sum_by}
 use Rattle.std.specs.Option.{is_some, option_map_or}
 use Rattle.query_laws.specs.StepLedger.{Counts}
 use Rattle.log_levels.specs.Cost.{IsWithin, quotas}
 use Rattle.map_structures.specs.Touches.{touches_at}
-
--- the slope and the base of a structure
-pub record Rate : Type 0 where
-  pub slope : ℕ
-  pub base : ℕ
+use Rattle.map_model.specs.Cost.{Rate}
 
 -- of each index its rate, where it is there
 abbrev pub Rates : Type 0
@@ -21,14 +17,6 @@ count_of rates = count_by is_some rates
 -- the sum of the shares of the indexes that are there
 abbrev pub share : (Rate → ℕ) → Rates → ℕ
 share f rates = sum_by (λ r. option_map_or f r 0) rates
-
--- a rate that structures of the map may have
-abbrev pub IsLow : Rate → Type 0
-IsLow rate = (rate.slope ≤ 4) × (rate.base ≤ 12)
-
--- each rate is one that structures of the map may have
-abbrev pub AreLow : Rates → Type 0
-AreLow rates = All (λ r. IfSome r IsLow) rates
 
 -- at most the shares of turns and marks of these indexes together, and the touches that structures of the map may take
 abbrev pub IsShared : (Rate → ℕ) → (Rate → ℕ) → Rates → ℕ → Counts → Counts → Type 0

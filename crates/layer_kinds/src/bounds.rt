@@ -1,8 +1,10 @@
 //! What an update and a question of a layer may cost.
-ghost use Rattle.std.specs.Prelude.{◌≡◌, ◌+◌, ◌*◌, ◌^◌, ◌<◌, ◌≤◌};
+ghost use Rattle.std.specs.Prelude.{◌≡◌, ◌+◌, ◌*◌, ◌^◌, ◌<◌, ◌≤◌, length};
 ghost use Rattle.query_laws.specs.StepLedger.{lap_of};
-ghost use Rattle.map_model.specs.Cost.{bounds_at, greatest_level};
+ghost use Rattle.map_model.specs.Cost.{Adds, Moves, greatest_level, parts_up_to, turns_up_to};
+ghost use Rattle.layer_kinds.specs.Costs.{turns_of, marks_of};
 
+use crate::Indexes;
 use map_shapes::Spent;
 use query_laws::step_ledger::Steps;
 use std::sync::ledger::Ledger;
@@ -18,15 +20,16 @@ pub struct Bounds {
 }
 
 impl Bounds {
-    /// Those of a layer of so many live items and indexes.
-    pub fn new(live: usize, indexes: u64) -> Bounds
+    /// Those of a layer of so many live items, over four indexes at most.
+    #[tactic(auto, using(crate::proofs::WithinBounds::share_same, crate::proofs::WithinBounds::count_few))]
+    pub fn new<X: Indexes>(live: usize, indexes: &X) -> Bounds
         requires few { live ≤ 2 ^ 24 }
-        requires few_indexes { indexes ≤ 4 }
-        ensures turns { result.turns ≡ indexes * (bounds_at live).turns }
-        ensures marks { result.marks ≡ indexes * (bounds_at live).marks }
-        ensures move_turns { result.move_turns ≡ indexes * (bounds_at live).move_turns }
-        ensures move_marks { result.move_marks ≡ indexes * (bounds_at live).move_marks }
-        ensures parts { result.parts ≡ (bounds_at live).parts }
+        requires few_indexes { length (X.rates indexes.now) ≤ 4 }
+        ensures turns { result.turns ≡ turns_of Adds (X.rates indexes.now) live }
+        ensures marks { result.marks ≡ marks_of Adds (X.rates indexes.now) live }
+        ensures move_turns { result.move_turns ≡ turns_of Moves (X.rates indexes.now) live }
+        ensures move_marks { result.move_marks ≡ marks_of Moves (X.rates indexes.now) live }
+        ensures parts { result.parts ≡ parts_up_to (greatest_level live) }
         ensures few_turns { result.turns < 2 ^ 32 }
         ensures few_marks { result.marks < 2 ^ 32 }
         ensures few_move_turns { result.move_turns < 2 ^ 32 }
@@ -34,14 +37,29 @@ impl Bounds {
     {
         let level = greatest_level(live as u64);
         let height = u64::from(level);
+        let count = indexes.count();
         Bounds {
-            turns: indexes * (12 * (height * height) + 108 * height + 48),
-            marks: indexes * (18 * height + 6),
-            move_turns: indexes * (14 * (height * height) + 126 * height + 56),
-            move_marks: indexes * (20 * height + 6),
+            turns: indexes.turns_up_to(6, level),
+            marks: count * (18 * height + 6),
+            move_turns: indexes.turns_up_to(7, level),
+            move_marks: count * (20 * height + 6),
             parts: 3 * (level + 1),
         }
     }
+}
+
+/// The most turns of so many ticks in an index of this slope and base, at all levels up to one.
+#[tactic(auto, using(crate::proofs::Turns::few_turns))]
+pub(crate) fn turns_up_to(ticks: u64, slope: u64, base: u64, level: u32) -> u64
+    requires few_ticks { ticks ≤ 7 }
+    requires low_slope { slope ≤ 20 }
+    requires low_base { base ≤ 60 }
+    requires few_levels { level ≤ 25 }
+    ensures value { result ≡ turns_up_to ticks (record { slope = slope; base = base }) level }
+    ensures low { result ≤ 2 ^ 16 }
+{
+    let height = u64::from(level);
+    ticks * (slope * (height * height) + (slope + 2 * base + 8) * height + base + 4) / 2
 }
 
 /// The greatest h such that `2^h` is at most twice the live count and ten: no part is of a higher level.

@@ -6,11 +6,12 @@ ghost use Rattle.std.specs.Prelude.{◌≡◌, ℕ, ◌+◌, ◌*◌, ◌^◌, �
 ghost use Rattle.std.specs.Option.{is_some};
 ghost use Rattle.id_chain.specs.Chain.{Entry, HandlesDiffer, is_linked, without_handle};
 ghost use Rattle.chain_walk.specs.Walk.{renewed};
-ghost use Rattle.layer_kinds.specs.Shares.{Rates, AreLow, count_of, CostsShares, prepare_turns, prepare_marks, insert_turns, insert_marks, delete_turns, delete_marks, move_turns, move_marks};
-ghost use Rattle.layer_kinds.specs.SharesLaws.{AreLow-one, AreLow-both};
+ghost use Rattle.map_model.specs.Cost.{turns_up_to};
+ghost use Rattle.layer_kinds.specs.Shares.{Rates, count_of, share, CostsShares, prepare_turns, prepare_marks, insert_turns, insert_marks, delete_turns, delete_marks, move_turns, move_marks};
 ghost use Rattle.layer_kinds.specs.Indexing.{rates_of, IsOf, IsReady};
 ghost use Rattle.layer_kinds.specs.Memory.{Memory, memories_of, Each, IsReadied, KeepsAll};
 
+use crate::bounds::turns_up_to;
 use builder_trait::{Builder, Part};
 use global_rebuild::Index;
 pub use has::Has;
@@ -43,6 +44,14 @@ pub trait Indexes: Drop + Sized {
     fn count(&self) -> u64
         requires few { length (rates self.now) ≤ 16 }
         ensures { result ≡ count_of (rates self.now) };
+
+    /// The most turns of so many ticks in each, at all levels up to one.
+    fn turns_up_to(&self, ticks: u64, level: u32) -> u64
+        requires few { length (rates self.now) ≤ 16 }
+        requires few_ticks { ticks ≤ 7 }
+        requires few_levels { level ≤ 25 }
+        ensures value { result ≡ share (λ rate. turns_up_to ticks rate level) (rates self.now) }
+        ensures low { result ≤ 2 ^ 16 * length (rates self.now) };
 
     /// Readies the next update.
     ///
@@ -101,9 +110,6 @@ pub trait Indexes: Drop + Sized {
         ensures held { Each KeepsAll (memory self.old) (memory self.new) }
         ensures some_turns { steps.old.turns + 3 * count_of (rates self.old) ≤ steps.new.turns }
         ensures cost { CostsShares move_turns move_marks (2 * length chain.now.entries + 10) (rates self.old) steps.old steps.new };
-
-    /// All are of structures of the map.
-    ghost low: { (s : Self) → AreLow (rates s) };
 }
 
 /// One index of a layer, where it was named.
@@ -154,6 +160,14 @@ where
         u64::from(self.index.is_some())
     }
 
+    fn turns_up_to(&self, ticks: u64, level: u32) -> u64 {
+        if self.index.is_some() {
+            turns_up_to(ticks, B::SLOPE, B::BASE, level)
+        } else {
+            0
+        }
+    }
+
     fn prepare<L: Ledger>(
         &mut self,
         chain: &Chain<B::Item>,
@@ -190,8 +204,6 @@ where
         };
         index.commit_move(chain, handle, item, steps);
     }
-
-    ghost low = { λ s. AreLow-one (record { slope = B.SLOPE; base = B.BASE }) s B.few };
 }
 
 impl<A: Indexes, B: Indexes<Item = A::Item>> Indexes for (A, B) {
@@ -207,6 +219,10 @@ impl<A: Indexes, B: Indexes<Item = A::Item>> Indexes for (A, B) {
 
     fn count(&self) -> u64 {
         self.0.count() + self.1.count()
+    }
+
+    fn turns_up_to(&self, ticks: u64, level: u32) -> u64 {
+        self.0.turns_up_to(ticks, level) + self.1.turns_up_to(ticks, level)
     }
 
     #[tactic(auto, using(crate::proofs::Shared::costs_then))]
@@ -242,6 +258,4 @@ impl<A: Indexes, B: Indexes<Item = A::Item>> Indexes for (A, B) {
         self.0.relocate(chain, handle, item, steps);
         self.1.relocate(chain, handle, item, steps);
     }
-
-    ghost low = { λ s. AreLow-both (A.rates s.0) (B.rates s.1) (A.low s.0) (B.low s.1) };
 }

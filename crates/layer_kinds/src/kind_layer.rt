@@ -8,11 +8,10 @@ ghost use Rattle.query_laws.specs.StepLedger.{AtLapStart};
 ghost use Rattle.map_model.specs.Index.{one_if};
 ghost use Rattle.map_model.specs.Answer.{latest};
 ghost use Rattle.map_model.specs.State as state;
-ghost use Rattle.map_model.specs.Cost.{Adds, Drops, Moves, bounds_at};
+ghost use Rattle.map_model.specs.Cost.{Adds, Drops, Moves, greatest_level, parts_up_to};
 ghost use Rattle.map_shapes.specs.Shape.{model_shape};
 ghost use Rattle.id_directory.specs.Directory.{handle_of};
 ghost use Rattle.layer_kinds.specs.declared.faults.UpdateFault.TheVariants as faults;
-ghost use Rattle.layer_kinds.specs.Shares.{count_of};
 ghost use Rattle.layer_kinds.specs.Layered.{items_of, IsAdd, IsMove, IsRemoval};
 ghost use Rattle.layer_kinds.specs.Costs.{turns_of, marks_of, IsCost, IsTold};
 ghost use Rattle.layer_kinds.specs.Memory.{KeepsMemory};
@@ -85,17 +84,17 @@ impl<X: Indexes> KindLayer<X> {
 
     /// What its updates and questions may cost now: a drop what an add may.
     pub fn bounds(&self) -> Bounds
-        ensures turns { result.turns ≡ turns_of Adds (count_of (X.rates self.now.indexes)) (length self.now.entries) }
-        ensures marks { result.marks ≡ marks_of Adds (count_of (X.rates self.now.indexes)) (length self.now.entries) }
-        ensures move_turns { result.move_turns ≡ turns_of Moves (count_of (X.rates self.now.indexes)) (length self.now.entries) }
-        ensures move_marks { result.move_marks ≡ marks_of Moves (count_of (X.rates self.now.indexes)) (length self.now.entries) }
-        ensures parts { result.parts ≡ (bounds_at (length self.now.entries)).parts }
+        ensures turns { result.turns ≡ turns_of Adds (X.rates self.now.indexes) (length self.now.entries) }
+        ensures marks { result.marks ≡ marks_of Adds (X.rates self.now.indexes) (length self.now.entries) }
+        ensures move_turns { result.move_turns ≡ turns_of Moves (X.rates self.now.indexes) (length self.now.entries) }
+        ensures move_marks { result.move_marks ≡ marks_of Moves (X.rates self.now.indexes) (length self.now.entries) }
+        ensures parts { result.parts ≡ parts_up_to (greatest_level (length self.now.entries)) }
         ensures few_turns { result.turns < 2 ^ 32 }
         ensures few_marks { result.marks < 2 ^ 32 }
         ensures few_move_turns { result.move_turns < 2 ^ 32 }
         ensures few_move_marks { result.move_marks < 2 ^ 32 }
     {
-        Bounds::new(self.len(), self.indexes.count())
+        Bounds::new(self.len(), &self.indexes)
     }
 
     /// The shape of the item with an identifier.
@@ -129,8 +128,8 @@ impl<X: Indexes> KindLayer<X> {
         ensures limit { self.new.most_items ≡ self.old.most_items }
         ensures there { X.rates self.new.indexes ≡ X.rates self.old.indexes }
         ensures kept { KeepsMemory result (X.memory self.old.indexes) (X.memory self.new.indexes) }
-        ensures cost { IsCost Adds (count_of (X.rates self.old.indexes)) (length self.old.entries) result steps.old steps.new }
-        ensures told { IfOk result (λ spent. IsTold Adds (count_of (X.rates self.old.indexes)) (length self.old.entries) spent steps.old steps.new) }
+        ensures cost { IsCost Adds (X.rates self.old.indexes) (length self.old.entries) result steps.old steps.new }
+        ensures told { IfOk result (λ spent. IsTold Adds (X.rates self.old.indexes) (length self.old.entries) spent steps.old steps.new) }
     {
         let bounds = self.bounds();
         let id = item.id();
@@ -169,8 +168,8 @@ impl<X: Indexes> KindLayer<X> {
         ensures limit { self.new.most_items ≡ self.old.most_items }
         ensures there { X.rates self.new.indexes ≡ X.rates self.old.indexes }
         ensures kept { KeepsMemory result (X.memory self.old.indexes) (X.memory self.new.indexes) }
-        ensures cost { IsCost Drops (count_of (X.rates self.old.indexes)) (length self.old.entries) result steps.old steps.new }
-        ensures told { IfOk result (λ spent. IsTold Drops (count_of (X.rates self.old.indexes)) (length self.old.entries) spent steps.old steps.new) }
+        ensures cost { IsCost Drops (X.rates self.old.indexes) (length self.old.entries) result steps.old steps.new }
+        ensures told { IfOk result (λ spent. IsTold Drops (X.rates self.old.indexes) (length self.old.entries) spent steps.old steps.new) }
     {
         let bounds = self.bounds();
         let Some(handle) = self.directory.find(id) else {
@@ -200,8 +199,8 @@ impl<X: Indexes> KindLayer<X> {
         ensures limit { self.new.most_items ≡ self.old.most_items }
         ensures there { X.rates self.new.indexes ≡ X.rates self.old.indexes }
         ensures kept { KeepsMemory result (X.memory self.old.indexes) (X.memory self.new.indexes) }
-        ensures cost { IsCost Moves (count_of (X.rates self.old.indexes)) (length self.old.entries) result steps.old steps.new }
-        ensures told { IfOk result (λ spent. IsTold Moves (count_of (X.rates self.old.indexes)) (length self.old.entries) spent steps.old steps.new) }
+        ensures cost { IsCost Moves (X.rates self.old.indexes) (length self.old.entries) result steps.old steps.new }
+        ensures told { IfOk result (λ spent. IsTold Moves (X.rates self.old.indexes) (length self.old.entries) spent steps.old steps.new) }
     {
         let bounds = self.bounds();
         let id = item.id();

@@ -5,11 +5,11 @@
 //! identifier beside them.
 //!
 //! A call costs at most the sum of the shares of the indexes that are there, each by its own slope and base, also where the last was
-//! refused memory. With n items before and h the greatest number with `2^h <= 2n + 10`, an add or a drop, done or refused memory, takes at
-//! most `12h^2 + 108h + 48` turns and `18h + 6` marks in each index. A move, which is a drop and an add under one preparation, takes at most
-//! `14h^2 + 126h + 56` turns and `20h + 6` marks. Each touches 16 entries a turn and `16 * (h + 2)^2` a mark at most. An update that is refused
-//! for another cause takes nothing. A question is put to each complete part of one index, of which no level has more than
-//! three.
+//! refused memory. With n items before and h the greatest number with `2^h <= 2n + 10`, an add or a drop, done or refused memory, takes in an
+//! index of slope S and base A at most `3Sh^2 + (3S + 6A + 24)h + 3A + 12` turns and `18h + 6` marks. A move, which is a drop and an add under
+//! one preparation, takes at most seven sixths of these turns, and `20h + 6` marks. Each touches 16 entries a turn and `16 * (h + 2)^2` a mark
+//! at most. An update that is refused for another cause takes nothing. A question is put to each complete part of one index, of which no level
+//! has more than three.
 //!
 //! Several indexes are pairs of indexes, and no struct with a field for each: a further one adds no proof. A layer of one kind is a crate of
 //! its own, since its calls decide on the order of refusals, and that memory is taken before anything changes.

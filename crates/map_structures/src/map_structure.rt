@@ -6,10 +6,10 @@ use builder_trait::flat::FlatBuilder;
 use builder_trait::{Builder, Part, Rows, RowsBuilder};
 use map_shapes::Shaped;
 
-/// A structure that keeps to the numbers of the map: its turns are within a slope of 4 and a base of 12, and a mark touches no more than
+/// A structure that keeps to the numbers of the map: its turns are within a slope of 20 and a base of 60, and a mark touches no more than
 /// `16 * (h + 2)^2` in a part of at most `2^h` items.
 pub trait MapStructure: Builder {
-    ghost few: { (Self.SLOPE ≤ 4) × (Self.BASE ≤ 12) };
+    ghost few: { (Self.SLOPE ≤ 20) × (Self.BASE ≤ 60) };
 
     ghost few_touches: { (h : ℕ) → Self.Part.mark_touches h ≤ touches_at h };
 }
@@ -24,7 +24,7 @@ impl<I: Shaped> MapStructure for FlatBuilder<I> {
 
 /// The rows of such a structure.
 pub trait MapRows: Rows {
-    ghost few: { (Self.SLOPE ≤ 4) × (Self.BASE ≤ 12) };
+    ghost few: { (Self.SLOPE ≤ 20) × (Self.BASE ≤ 60) };
 
     ghost few_touches: { (h : ℕ) → Self.mark_touches h ≤ touches_at h };
 }

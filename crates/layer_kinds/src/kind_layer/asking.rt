@@ -3,7 +3,7 @@ ghost use Rattle.std.specs.Prelude.{◌≡◌, IfOk, length};
 ghost use Rattle.query_laws.specs.StepLedger.{AtLapStart, lap_of};
 ghost use Rattle.map_model.specs.Answer.{answer_over};
 ghost use Rattle.map_model.specs.Command.{lists_ids};
-ghost use Rattle.map_model.specs.Cost.{bounds_at};
+ghost use Rattle.map_model.specs.Cost.{greatest_level, parts_up_to};
 ghost use Rattle.layer_kinds.specs.Layered.{items_of, IsAskRefusal};
 ghost use Rattle.layer_kinds.specs.Asking.{IsEveryPart, IsAsking, IsReading, IsTouching, most_of};
 
@@ -36,8 +36,8 @@ where
     ensures every_part { IfOk result (λ given. IsEveryPart (X.index layer.now.indexes) given.1.parts × (given.1.parts ≡ given.0.parts)
         × (given.0.live ≡ length layer.now.entries)) }
     ensures cost { IfOk result (λ given. let n = length layer.now.entries in
-        IsAsking n (Q.most_touches (bounds_at n).level given.1.parts n given.0.answer) given.1 steps.old steps.new) }
-    ensures touches { let n = length layer.now.entries in IsTouching (bounds_at n).parts (most_of (Q.touches (bounds_at n).level) n) result steps.old steps.new }
+        IsAsking n (Q.most_touches (greatest_level n) given.1.parts n given.0.answer) given.1 steps.old steps.new) }
+    ensures touches { let n = length layer.now.entries in IsTouching (parts_up_to (greatest_level n)) (most_of (Q.touches (greatest_level n)) n) result steps.old steps.new }
     ensures reads { IsReading steps.old steps.new }
 {
     let given = layer.indexes.index().ask(alloc, question, steps)?;

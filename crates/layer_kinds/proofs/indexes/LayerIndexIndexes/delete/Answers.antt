@@ -1,7 +1,8 @@
 use Rattle.std.proofs.Common.{◌∙◌, refl, sym, subst, arith}
 use Rattle.global_rebuild.specs.Index.{IsIndexOf}
 use Rattle.global_rebuild.proofs.Weights.{as_many}
-use Rattle.layer_kinds.specs.Shares.{Rate, delete_turns, delete_marks}
+use Rattle.map_model.specs.Cost.{Rate}
+use Rattle.layer_kinds.specs.Shares.{delete_turns, delete_marks}
 use Rattle.layer_kinds.specs.Indexing.{IsOf}
 use Rattle.layer_kinds.specs.Memory.{KeepsAll}
 use Rattle.layer_kinds.proofs.Keeping.{Each-there, Each-none, keeps_all}

@@ -4,7 +4,8 @@ use Rattle.id_chain.specs.Chain.{Entry, HandlesDiffer, item_at}
 use Rattle.id_chain.proofs.Entries.{Apart-parts, item_at-split, linked_head}
 use Rattle.global_rebuild.specs.Index.{IsIndexOf}
 use Rattle.global_rebuild.proofs.Weights.{as_many}
-use Rattle.layer_kinds.specs.Shares.{Rate, IsShared, insert_turns, insert_marks}
+use Rattle.map_model.specs.Cost.{Rate}
+use Rattle.layer_kinds.specs.Shares.{IsShared, insert_turns, insert_marks}
 use Rattle.layer_kinds.specs.Indexing.{rates_of, IsOf}
 use Rattle.layer_kinds.specs.Memory.{KeepsAll}
 use Rattle.layer_kinds.proofs.Keeping.{Each-there, Each-none, keeps_all}

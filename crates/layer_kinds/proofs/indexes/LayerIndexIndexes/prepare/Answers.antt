@@ -2,7 +2,8 @@ use Rattle.std.proofs.Common.{◌∙◌, ◌*◌, ap, sym, subst, arith}
 use Rattle.log_levels.specs.Cost.{quotas}
 use Rattle.global_rebuild.specs.Index.{IsIndexOf}
 use Rattle.global_rebuild.proofs.Weights.{as_many, four_ticks}
-use Rattle.layer_kinds.specs.Shares.{Rate, IsShared, prepare_turns, prepare_marks}
+use Rattle.map_model.specs.Cost.{Rate}
+use Rattle.layer_kinds.specs.Shares.{IsShared, prepare_turns, prepare_marks}
 use Rattle.layer_kinds.specs.Indexing.{rates_of, IsOf}
 use Rattle.layer_kinds.specs.Memory.{IsReadied}
 use Rattle.layer_kinds.proofs.Keeping.{Each-there, Each-none, readied}

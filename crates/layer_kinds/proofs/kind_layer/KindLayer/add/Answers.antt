@@ -97,8 +97,8 @@ returns-then-is_err-clause-cost g c =
     let same : c.chain-2.result.now.entries ≡ l.directory.entries = search rules in
     let level = greatest_level n in
     let light : 2 * n + 10 < 2 ^ (level + 1) = greatest-light n (omega (arith, c.self.invariant.2, c.self.invariant.3)) in
-    subst (λ k. IsInBounds Adds (count_of (g.X.Indexes.rates k.indexes)) (length k.entries) c.args.steps.now c.prepare.new.steps) c.self.view_is
-    (refused-cost (g.X.Indexes.rates l.indexes) (g.met.X.Indexes.low l.indexes) level (c.prepare.ensures.cost.within level (omega (arith, light, ap length same))))
+    subst (λ k. IsInBounds Adds (g.X.Indexes.rates k.indexes) (length k.entries) c.args.steps.now c.prepare.new.steps) c.self.view_is
+    (refused-cost (g.X.Indexes.rates l.indexes) level (c.prepare.ensures.cost.within level (omega (arith, light, ap length same))))
 
 pub returns-clause-cost : goal.returns-clause-cost
 returns-clause-cost g c =
@@ -110,8 +110,8 @@ returns-clause-cost g c =
     ap length all ∙ length-append l.directory.entries (record { handle = c.add-handle.result; item = c.stamped.result } ∷ []) in
     let level = greatest_level n in
     let light : 2 * n + 10 < 2 ^ (level + 1) = greatest-light n (omega (arith, c.self.invariant.2, c.self.invariant.3)) in
-    subst (λ k. IsInBounds Adds (count_of (g.X.Indexes.rates k.indexes)) (length k.entries) c.args.steps.now c.insert.new.steps) c.self.view_is
-    (added-cost (g.X.Indexes.rates l.indexes) (g.met.X.Indexes.low l.indexes) level (c.prepare.ensures.cost.within level (omega (arith, light, ap length same)))
+    subst (λ k. IsInBounds Adds (g.X.Indexes.rates k.indexes) (length k.entries) c.args.steps.now c.insert.new.steps) c.self.view_is
+    (added-cost (g.X.Indexes.rates l.indexes) level (c.prepare.ensures.cost.within level (omega (arith, light, ap length same)))
     (subst (λ rs. IsShared (insert_turns level) (insert_marks level) rs level c.prepare.new.steps c.insert.new.steps) c.prepare.ensures.there
     (c.insert.ensures.cost.within level (omega (arith, light, more)))))
 
@@ -126,8 +126,8 @@ returns-clause-told g c =
     let there : count_of (g.X.Indexes.rates c.prepare.new.self) ≡ count_of rates =
     ap count_of c.prepare.ensures.there ∙ ap (λ k. count_of (g.X.Indexes.rates k.indexes)) c.self.view_is in
     let some_turns : c.args.steps.now.turns + 3 * count_of rates ≤ c.insert.new.steps.turns = omega (arith, later, c.insert.ensures.some_turns, there) in
-    let cost : IsInBounds Adds (count_of rates) (length c.args.self.now.entries) c.args.steps.now c.insert.new.steps = returns-clause-cost g c in
-    IsTold-of Adds (count_of rates) (length c.args.self.now.entries) c.bounds-bounds.result.turns c.bounds-bounds.result.marks cost c.requires.lap
+    let cost : IsInBounds Adds rates (length c.args.self.now.entries) c.args.steps.now c.insert.new.steps = returns-clause-cost g c in
+    IsTold-of Adds rates (length c.args.self.now.entries) c.bounds-bounds.result.turns c.bounds-bounds.result.marks cost c.requires.lap
     c.bounds-bounds.ensures.turns c.bounds-bounds.ensures.marks c.bounds-bounds.ensures.few_turns c.bounds-bounds.ensures.few_marks (λ adds. some_turns) c.spent.ensures
 
 pub returns-then-is_full-clause-kept : goal.returns-then-is_full-clause-kept

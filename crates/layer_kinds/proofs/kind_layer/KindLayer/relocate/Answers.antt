@@ -104,9 +104,9 @@ returns-in_err-prepare-clause-cost g c =
     let refused : c.from_residual.result ≡ Err faults.NoMemory = search rules in
     let level = greatest_level n in
     let light : 2 * n + 10 < 2 ^ (level + 1) = greatest-light n (omega (arith, c.self.invariant.2, c.self.invariant.3)) in
-    subst (λ r. IsCost Moves (count_of (g.X.Indexes.rates c.args.self.now.indexes)) (length c.args.self.now.entries) r c.args.steps.now c.prepare.new.steps) (sym refused)
-    (subst (λ k. IsInBounds Moves (count_of (g.X.Indexes.rates k.indexes)) (length k.entries) c.args.steps.now c.prepare.new.steps) c.self.view_is
-    (refused_move-cost rates (g.met.X.Indexes.low l.indexes) level (c.prepare.ensures.cost.within level (omega (arith, light, ap length same)))))
+    subst (λ r. IsCost Moves (g.X.Indexes.rates c.args.self.now.indexes) (length c.args.self.now.entries) r c.args.steps.now c.prepare.new.steps) (sym refused)
+    (subst (λ k. IsInBounds Moves (g.X.Indexes.rates k.indexes) (length k.entries) c.args.steps.now c.prepare.new.steps) c.self.view_is
+    (refused_move-cost rates level (c.prepare.ensures.cost.within level (omega (arith, light, ap length same)))))
 
 pub returns-clause-cost : goal.returns-clause-cost
 returns-clause-cost g c =
@@ -117,8 +117,8 @@ returns-clause-cost g c =
     let same' : c.chain-2.result.now.entries ≡ l.directory.entries = search rules in
     let level = greatest_level n in
     let light : 2 * n + 10 < 2 ^ (level + 1) = greatest-light n (omega (arith, c.self.invariant.2, c.self.invariant.3)) in
-    subst (λ k. IsInBounds Moves (count_of (g.X.Indexes.rates k.indexes)) (length k.entries) c.args.steps.now c.relocate.new.steps) c.self.view_is
-    (moved-cost rates (g.met.X.Indexes.low l.indexes) level (c.prepare.ensures.cost.within level (omega (arith, light, ap length same)))
+    subst (λ k. IsInBounds Moves (g.X.Indexes.rates k.indexes) (length k.entries) c.args.steps.now c.relocate.new.steps) c.self.view_is
+    (moved-cost rates level (c.prepare.ensures.cost.within level (omega (arith, light, ap length same)))
     (subst (λ rs. IsShared (move_turns level) (move_marks level) rs level c.prepare.new.steps c.relocate.new.steps) c.prepare.ensures.there
     (c.relocate.ensures.cost.within level (omega (arith, light, ap length same')))))
 
@@ -134,8 +134,8 @@ returns-clause-told g c =
     let there : count_of (g.X.Indexes.rates c.prepare.new.self) ≡ count_of rates =
     ap count_of c.prepare.ensures.there ∙ ap (λ k. count_of (g.X.Indexes.rates k.indexes)) c.self.view_is in
     let some_turns : c.args.steps.now.turns + 3 * count_of rates ≤ c.relocate.new.steps.turns = omega (arith, later, c.relocate.ensures.some_turns, there) in
-    let cost : IsInBounds Moves (count_of rates) (length c.args.self.now.entries) c.args.steps.now c.relocate.new.steps = returns-clause-cost g c in
-    IsTold-of Moves (count_of rates) (length c.args.self.now.entries) c.bounds-bounds.result.move_turns c.bounds-bounds.result.move_marks cost c.requires.lap
+    let cost : IsInBounds Moves rates (length c.args.self.now.entries) c.args.steps.now c.relocate.new.steps = returns-clause-cost g c in
+    IsTold-of Moves rates (length c.args.self.now.entries) c.bounds-bounds.result.move_turns c.bounds-bounds.result.move_marks cost c.requires.lap
     c.bounds-bounds.ensures.move_turns c.bounds-bounds.ensures.move_marks c.bounds-bounds.ensures.few_move_turns c.bounds-bounds.ensures.few_move_marks
     (λ brings. some_turns) c.spent.ensures
 

@@ -4,7 +4,7 @@ use Rattle.id_chain.specs.Chain.{without_handle}
 use Rattle.id_directory.specs.Directory.{handle_of, without, IdsDiffer}
 use Rattle.map_model.specs.Cost.{Drops, greatest_level}
 use Rattle.layer_kinds.specs.declared.faults.UpdateFault.TheVariants as faults
-use Rattle.layer_kinds.specs.Shares.{count_of, IsShared, delete_turns, delete_marks}
+use Rattle.layer_kinds.specs.Shares.{IsShared, delete_turns, delete_marks}
 use Rattle.layer_kinds.specs.Costs.{IsCost, IsInBounds}
 use Rattle.layer_kinds.specs.Layered.{items_of, IsRemoval}
 use Rattle.layer_kinds.specs.Memory.{Each, IsReadied, LosesOne, KeepsMemory}
@@ -71,9 +71,9 @@ returns-in_err-prepare-clause-cost g c =
     let refused : c.from_residual.result ≡ Err faults.NoMemory = search rules in
     let level = greatest_level n in
     let light : 2 * n + 10 < 2 ^ (level + 1) = greatest-light n (omega (arith, c.self.invariant.2, c.self.invariant.3)) in
-    subst (λ r. IsCost Drops (count_of (g.X.Indexes.rates c.args.self.now.indexes)) (length c.args.self.now.entries) r c.args.steps.now c.prepare.new.steps) (sym refused)
-    (subst (λ k. IsInBounds Drops (count_of (g.X.Indexes.rates k.indexes)) (length k.entries) c.args.steps.now c.prepare.new.steps) c.self.view_is
-    (refused-cost rates (g.met.X.Indexes.low l.indexes) level (c.prepare.ensures.cost.within level (omega (arith, light, ap length same)))))
+    subst (λ r. IsCost Drops (g.X.Indexes.rates c.args.self.now.indexes) (length c.args.self.now.entries) r c.args.steps.now c.prepare.new.steps) (sym refused)
+    (subst (λ k. IsInBounds Drops (g.X.Indexes.rates k.indexes) (length k.entries) c.args.steps.now c.prepare.new.steps) c.self.view_is
+    (refused-cost rates level (c.prepare.ensures.cost.within level (omega (arith, light, ap length same)))))
 
 pub returns-clause-cost : goal.returns-clause-cost
 returns-clause-cost g c =
@@ -84,8 +84,8 @@ returns-clause-cost g c =
     let same' : c.chain-2.result.now.entries ≡ l.directory.entries = search rules in
     let level = greatest_level n in
     let light : 2 * n + 10 < 2 ^ (level + 1) = greatest-light n (omega (arith, c.self.invariant.2, c.self.invariant.3)) in
-    subst (λ k. IsInBounds Drops (count_of (g.X.Indexes.rates k.indexes)) (length k.entries) c.args.steps.now c.delete.new.steps) c.self.view_is
-    (removed-cost rates (g.met.X.Indexes.low l.indexes) level (c.prepare.ensures.cost.within level (omega (arith, light, ap length same)))
+    subst (λ k. IsInBounds Drops (g.X.Indexes.rates k.indexes) (length k.entries) c.args.steps.now c.delete.new.steps) c.self.view_is
+    (removed-cost rates level (c.prepare.ensures.cost.within level (omega (arith, light, ap length same)))
     (subst (λ rs. IsShared (delete_turns level) (delete_marks level) rs level c.prepare.new.steps c.delete.new.steps) c.prepare.ensures.there
     (c.delete.ensures.cost.within level (omega (arith, light, ap length same')))))
 
@@ -93,8 +93,8 @@ pub returns-clause-told : goal.returns-clause-told
 returns-clause-told g c =
     let l = c.args.self.now in
     let rates = g.X.Indexes.rates l.indexes in
-    let cost : IsInBounds Drops (count_of rates) (length l.entries) c.args.steps.now c.delete.new.steps = returns-clause-cost g c in
-    IsTold-of Drops (count_of rates) (length l.entries) c.bounds-bounds.result.turns c.bounds-bounds.result.marks cost c.requires.lap c.bounds-bounds.ensures.turns c.bounds-bounds.ensures.marks
+    let cost : IsInBounds Drops rates (length l.entries) c.args.steps.now c.delete.new.steps = returns-clause-cost g c in
+    IsTold-of Drops rates (length l.entries) c.bounds-bounds.result.turns c.bounds-bounds.result.marks cost c.requires.lap c.bounds-bounds.ensures.turns c.bounds-bounds.ensures.marks
     c.bounds-bounds.ensures.few_turns c.bounds-bounds.ensures.few_marks (λ adds. absurd cc) c.spent.ensures
 
 pub returns-in_err-prepare-clause-kept : goal.returns-in_err-prepare-clause-kept

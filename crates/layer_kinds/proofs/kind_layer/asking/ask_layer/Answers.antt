@@ -4,7 +4,7 @@ use Rattle.std.specs.Option.{is_some}
 use Rattle.std.proofs.lemmas.List.{length-map}
 use Rattle.log_levels.specs.Levels.{parts_of}
 use Rattle.map_model.specs.Answer.{answer_over}
-use Rattle.map_model.specs.Cost.{greatest_level, bounds_at}
+use Rattle.map_model.specs.Cost.{greatest_level, parts_up_to}
 use Rattle.layer_kinds.specs.Indexing.{IsOf}
 use Rattle.layer_kinds.specs.Layered.{items_of, IsAskRefusal}
 use Rattle.layer_kinds.specs.Asking.{IsAsking, IsEveryPart, IsTouching, ReadsAtMost, most_of}
@@ -20,7 +20,7 @@ returns-in_err-given-clause-touches g c =
     let here : IsOf (λ part. part) g.R.Item.Item.stamp c.index.result.now es l.directory.adds =
     subst (λ o. IsOf (λ part. part) g.R.Item.Item.stamp o es l.directory.adds) (sym c.index.ensures) of in
     let refused : IsAskRefusal c.index.result.now g.Q.Question.refusable c.from_residual.result = search rules in
-    subst (λ k. IsTouching (bounds_at (length k.entries)).parts (most_of (g.Q.MapQuestion.touches (greatest_level (length k.entries))) (length k.entries)) c.from_residual.result c.args.steps.now c.ask.new.steps) c.layer.view_is
+    subst (λ k. IsTouching (parts_up_to (greatest_level (length k.entries))) (most_of (g.Q.MapQuestion.touches (greatest_level (length k.entries))) (length k.entries)) c.from_residual.result c.args.steps.now c.ask.new.steps) c.layer.view_is
     (touching g.R.Item.Item.stamp (g.Q.MapQuestion.hits q) (g.R.AnsweringRows.ask_touches q) g.Q.MapQuestion.touches (g.met.Q.MapQuestion.part_touches q) g.Q.MapQuestion.few
     es l.directory.adds (omega (arith, c.layer.invariant.2, c.layer.invariant.3)) c.index.result.now g.Q.Question.refusable c.from_residual.result refused here c.ask.ensures.few c.ask.ensures.cost c.ask.ensures.nothing)
 
@@ -32,7 +32,7 @@ returns-clause-touches g c =
     let of = g.met.X.Has.is_of l.indexes es l.directory.adds c.layer.invariant.1 in
     let here : IsOf (λ part. part) g.R.Item.Item.stamp c.index.result.now es l.directory.adds =
     subst (λ o. IsOf (λ part. part) g.R.Item.Item.stamp o es l.directory.adds) (sym c.index.ensures) of in
-    subst (λ k. ReadsAtMost (bounds_at (length k.entries)).parts (most_of (g.Q.MapQuestion.touches (greatest_level (length k.entries))) (length k.entries)) c.args.steps.now c.ask.new.steps) c.layer.view_is
+    subst (λ k. ReadsAtMost (parts_up_to (greatest_level (length k.entries))) (most_of (g.Q.MapQuestion.touches (greatest_level (length k.entries))) (length k.entries)) c.args.steps.now c.ask.new.steps) c.layer.view_is
     (few_touches g.R.Item.Item.stamp (g.Q.MapQuestion.hits q) (g.R.AnsweringRows.ask_touches q) g.Q.MapQuestion.touches (g.met.Q.MapQuestion.part_touches q) g.Q.MapQuestion.few
     es l.directory.adds (omega (arith, c.layer.invariant.2, c.layer.invariant.3)) c.index.result.now here c.ask.ensures.few c.ask.ensures.cost c.ask.ensures.nothing)
 
@@ -90,5 +90,5 @@ returns-clause-cost g c =
     c.in_ok-given.ensures.few c.in_ok-given.ensures.cost
     (subst (λ k. IfSome c.index.result.now (λ i. k ≡ parts_of i.main.levels)) (sym c.told-asked.ensures.parts) c.in_ok-given.ensures.parts)
     (subst (λ k. c.ask.new.steps.consulted ≡ c.args.steps.now.consulted + k) (sym c.told-asked.ensures.parts) c.in_ok-given.ensures.consulted)
-    (c.told-asked.ensures.part_bound ∙ c.bounds.ensures.parts ∙ ap (λ k. (bounds_at (length k.entries)).parts) (sym c.layer.view_is)) c.requires.lap c.told-asked.ensures.touches
+    (c.told-asked.ensures.part_bound ∙ c.bounds.ensures.parts ∙ ap (λ k. parts_up_to (greatest_level (length k.entries))) (sym c.layer.view_is)) c.requires.lap c.told-asked.ensures.touches
     (subst (λ a. asked.parts * rate.part + rate.hit * hit_ones + rate.item * (2 * n + 9) ≤ g.Q.MapQuestion.most_touches level asked.parts n a) (sym answer) most))
