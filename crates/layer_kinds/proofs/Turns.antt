@@ -1,5 +1,5 @@
 -- Turns of an index, at all levels up to one.
-use Rattle.std.proofs.Common.{◌≡◌, ℕ, ◌+◌, ◌*◌, ◌≤◌, arith}
+use Rattle.std.proofs.Common.{◌≡◌, ℕ, ◌+◌, ◌*◌, ◌/◌, ◌^◌, ◌≤◌, arith}
 
 more : (a b n : ℕ) → a ≤ b → a * n ≤ b * n
 more a b n less = grind (arith, less)
@@ -19,3 +19,15 @@ few_turns slope base height low low' few =
       omega (arith, product slope (height * height) 20 (25 * 25) low square),
       omega (arith, product (slope + 2 * base + 8) height 148 25 (omega (arith, low, low')) few),
     )
+
+-- so many ticks
+pub low_turns : (ticks slope base height : ℕ) → ticks ≤ 7 → slope ≤ 20 → base ≤ 60 → height ≤ 25
+    → ticks * (slope * (height * height) + (slope + 2 * base + 8) * height + base + 4) / 2 ≤ 2 ^ 16
+low_turns ticks slope base height few low low' few' =
+    let t = few_turns slope base height low low' few' in
+    let all : slope * (height * height) + (slope + 2 * base + 8) * height + base + 4 ≤ 16264 = omega (arith, t.1, t.2, low') in
+    let most = product ticks (slope * (height * height) + (slope + 2 * base + 8) * height + base + 4) 7 16264 few all in
+    half (ticks * (slope * (height * height) + (slope + 2 * base + 8) * height + base + 4)) (omega (arith, most))
+  where
+    half : (n : ℕ) → n ≤ 113848 → n / 2 ≤ 2 ^ 16
+    half n less = omega (arith, less)

@@ -18,8 +18,7 @@ use Rattle.layer_kinds.specs.Costs.{IsInBounds, IsTold, turns_of, marks_of}
 
 module _ (slope base : ℕ) where
   quota-above : (level : ℕ) → 1 ≤ level → quota slope base level ≡ slope * level + base + 4
-  quota-above zero some = absurd (omega (arith, some))
-  quota-above (suc k) some = refl
+  quota-above level some = grind (arith, some)
 
   -- from a level above 0 on
   quotas_from : (k from : ℕ) → 1 ≤ from
@@ -99,14 +98,14 @@ module _ (f f' most : Rate → ℕ) (each : (rate : Rate) → f rate + f' rate �
 
 -- the same number of each index
 pub share_same : (n : ℕ) (rates : Rates) → share (λ rate. n) rates ≡ count_of rates * n
-share_same n [] = refl
+share_same n [] = omega arith
 share_same n (r ∷ rest) =
     let count = sum_by-cons (λ x. cond (is_some x) 1 0) r rest in
     let both : (cond (is_some r) 1 0 + count_of rest) * n ≡ cond (is_some r) 1 0 * n + count_of rest * n = grind arith in
     omega (arith, sum_by-cons (λ x. option_map_or (λ rate. n) x 0) r rest, ap (λ k. k * n) count, both, one r, share_same n rest)
   where
     one : (r : Option Rate) → option_map_or (λ rate. n) r 0 ≡ cond (is_some r) 1 0 * n
-    one None = refl
+    one None = omega arith
     one (Some rate) = omega arith
 
 -- no more are there than there may be

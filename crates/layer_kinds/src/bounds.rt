@@ -49,7 +49,7 @@ impl Bounds {
 }
 
 /// The most turns of so many ticks in an index of this slope and base, at all levels up to one.
-#[tactic(auto, using(crate::proofs::Turns::few_turns))]
+#[tactic(auto, using(crate::proofs::Turns::few_turns, crate::proofs::Turns::low_turns))]
 pub(crate) fn turns_up_to(ticks: u64, slope: u64, base: u64, level: u32) -> u64
     requires few_ticks { ticks ≤ 7 }
     requires low_slope { slope ≤ 20 }
