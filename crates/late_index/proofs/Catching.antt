@@ -1,5 +1,5 @@
 -- A late index that gets the items of a chain.
-use Rattle.std.proofs.Common.{◌≡◌, ◌≢◌, ℕ, ◌+◌, ◌-◌, ◌*◌, ◌^◌, ◌<◌, ◌≤◌, ◌⊎◌, ⊎_elim, List, [], ◌∷◌, ◌++◌, Option, Some, None, length, map, refl, sym, ap, subst, arith}
+use Rattle.std.proofs.Common.{◌≡◌, ◌≢◌, ℕ, ◌+◌, ◌-◌, ◌*◌, ◌^◌, ◌<◌, ◌≤◌, ◌⊎◌, ⊎_elim, List, [], ◌∷◌, ◌++◌, Option, Some, None, inl, inr, length, map, refl, sym, ap, subst, arith}
 use Rattle.std.proofs.lemmas.List.{length-append}
 use Rattle.std.proofs.lemmas.List.Elements.{All-nil}
 use Rattle.query_laws.specs.Permuted.{Permuted, nothing}
@@ -9,10 +9,10 @@ use Rattle.id_chain.specs.StampsRise.{StampsRise}
 use Rattle.id_chain.proofs.Stamps.{StampsRise-append}
 use Rattle.part_store.specs.Store.{Stored}
 use Rattle.log_levels.specs.Levels.{weight_of}
-use Rattle.log_levels.specs.Trades.{AreLent}
+use Rattle.log_levels.specs.Trades.{AreLent, IsStocked}
 use Rattle.log_method.specs.Stack.{Stacked}
 use Rattle.chain_walk.specs.Walk.{Walked, IsWalkOf, IsKept, HandsOver, live_in, stamp_at}
-use Rattle.chain_walk.specs.Memory.{LendsFew}
+use Rattle.chain_walk.specs.Memory.{HoldsNoLess, LendsFew}
 use Rattle.chain_walk.proofs.Walking.{item_of}
 use Rattle.chain_walk.proofs.Handing.{few_before, as_walked}
 use Rattle.chain_walk.proofs.Appending.{IsWalkOf-appended}
@@ -72,6 +72,25 @@ module _ {P Item : Type 0} {contents : P → Contents Item} {stamp : Item → �
     live = rw (k.live, k.cursor) h.live;
     below = rw (k.items, k.cursor) h.below;
   }
+
+  module _ {l : LateState P Item} {r' : Walked P Item} (store : Stored) (k : IsKept contents l.walk r') {es : List (Entry Item)} where
+    pub kept_late : {stamps : ℕ} → IsLateOf contents stamp l es stamps
+        → IsLateOf contents stamp (record { store = store; walk = r'; waiting = l.waiting }) es stamps
+    kept_late h = record {
+      walk = kept k h.walk;
+      at_most = omega (arith, h.at_most, ap length k.live);
+      at_least = omega (arith, h.at_least, ap length k.live);
+      light = omega (arith, h.light, ap length k.live, k.weight);
+      rise = h.rise;
+      differ = h.differ;
+      few = h.few;
+    }
+
+    -- two ticks find it, where no more items wait than may
+    pub readied : {stamps : ℕ} → IsLateOf contents stamp l es stamps → IsShortOf contents (goal_of l) l es
+        → (weight_of r'.stack.levels < 2 ^ 31 → IsStocked r'.stack.levels store 2)
+        → IsPrepared contents (record { store = store; walk = r'; waiting = l.waiting }) es
+    readied h short stocked = record { short = omega (arith, short, ap length k.live); stocked = stocked (omega (arith, light h, k.weight)) }
 
   pub handed_kept : {r r' r'' : Walked P Item} {most : ℕ} → HandsOver contents most r r' → IsKept contents r' r'' → HandsOver contents most r r''
   handed_kept h k = record {
@@ -147,3 +166,10 @@ module _ {P Item : Type 0} {stack : Stacked P Item} {store : Stored} (o : OwnsMe
     };
     few = λ k. omega (arith, o.few k, m.few k);
   }
+
+-- no less is in memory, and then again
+pub holds_then : {s t u : Stored} → HoldsNoLess s t → HoldsNoLess t u → HoldsNoLess s u
+holds_then h k = record {
+  builders = λ n. omega (arith, h.builders n, k.builders n);
+  tables = λ n. omega (arith, h.tables n, k.tables n);
+}

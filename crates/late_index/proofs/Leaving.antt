@@ -37,6 +37,35 @@ at_or_not : (cursor : Option ℕ) (handle : ℕ) → (cursor ≡ Some handle) �
 at_or_not None handle = inr (λ none. absurd cc)
 at_or_not (Some at) handle = elim (cases_eq at handle) [ inl same ↦ inl (ap Some same) | inr apart ↦ inr (λ same. apart cc) ]
 
+-- a walk lets go of an item that was handed over, of the one at the cursor, or of one after it
+module _ {P Item : Type 0} {contents : P → Contents Item} {stamp : Item → ℕ} {handle : ℕ} {gone : Item} {next : Option ℕ} {es : List (Entry Item)}
+    {r : Walked P Item} where
+  pub lets_deleted : {r' : Walked P Item} → is_linked handle (before_cursor r.cursor es) ≡ true → r'.cursor ≡ r.cursor
+      → Deletes contents stamp (stamp gone) r.stack.levels r'.stack.levels → LetsGo contents stamp handle gone next es true r r'
+  lets_deleted walked same deletes = record {
+    handed_over = sym walked;
+    deleted = λ yes. (same, deletes);
+    at = λ no. absurd cc;
+    elsewhere = λ no. absurd cc;
+  }
+
+  pub lets_at : {r' : Walked P Item} → is_linked handle (before_cursor r.cursor es) ≡ false → r.cursor ≡ Some handle → r' ≡ record r { cursor = next }
+      → LetsGo contents stamp handle gone next es false r r'
+  lets_at later at moved = record {
+    handed_over = sym later;
+    deleted = λ yes. absurd cc;
+    at = λ no here. moved;
+    elsewhere = λ no other. absurd (other at);
+  }
+
+  pub lets_after : is_linked handle (before_cursor r.cursor es) ≡ false → r.cursor ≢ Some handle → LetsGo contents stamp handle gone next es false r r
+  lets_after later apart = record {
+    handed_over = sym later;
+    deleted = λ yes. absurd cc;
+    at = λ no here. absurd (apart here);
+    elsewhere = λ no other. refl;
+  }
+
 -- an item that wasn't handed over leaves the stack as it is
 pub stays : {P Item : Type 0} {contents : P → Contents Item} {stamp : Item → ℕ} {handle : ℕ} {gone : Item} {next : Option ℕ} {es : List (Entry Item)} {was : Bool}
     {r r' : Walked P Item} → LetsGo contents stamp handle gone next es was r r' → was ≡ false → r'.stack ≡ r.stack
@@ -141,8 +170,8 @@ module _ {P Item : Type 0} {contents : P → Contents Item} {stamp : Item → �
       | inr other ↦ rw (o.elsewhere no other) (left_after (sym o.handed_over ∙ no) other store)
     ]
 
-module _ {P Item : Type 0} {contents : P → Contents Item} {stamp : Item → ℕ} {l : LateState P Item} {es : List (Entry Item)} {handle : ℕ} {gone item : Item}
-    (f : IsLeft contents stamp l es (stamp item) handle gone) where
+module _ {P Item : Type 0} {contents : P → Contents Item} {stamp : Item → ℕ} {l : LateState P Item} {es : List (Entry Item)} {handle : ℕ} {gone : Item}
+    (item : Item) (f : IsLeft contents stamp l es (stamp item) handle gone) where
   abbrev e : Entry Item
   e = record { handle = handle; item = item }
 
