@@ -18,6 +18,22 @@ use Rattle.chain_walk.proofs.Handing.{few_before, as_walked}
 use Rattle.chain_walk.proofs.Appending.{IsWalkOf-appended}
 use Rattle.late_index.specs.Late.{LateState, goal_of, OwnsMemory, IsShortOf, IsPrepared, IsLateOf}
 
+module _ {P Item : Type 0} {contents : P → Contents Item} where
+  pub handed_kept : {r r' r'' : Walked P Item} {most : ℕ} → HandsOver contents most r r' → IsKept contents r' r'' → HandsOver contents most r r''
+  handed_kept h k = record {
+    no_fewer = omega (arith, h.no_fewer, ap length k.live);
+    at_most = omega (arith, h.at_most, ap length k.live);
+    weight = omega (arith, h.weight, ap length k.live, k.weight);
+  }
+
+  -- as many at most
+  pub handed_more : {r r' : Walked P Item} {few most : ℕ} → few ≤ most → HandsOver contents few r r' → HandsOver contents most r r'
+  handed_more less h = record { no_fewer = h.no_fewer; at_most = omega (arith, h.at_most, less); weight = h.weight }
+
+  pub short_appended : (l : LateState P Item) (front : List (Entry Item)) (e : Entry Item) → IsPrepared contents l front
+      → IsShortOf contents (goal_of l + 1) l (front ++ e ∷ [])
+  short_appended l front e p = omega (arith, length-append front (e ∷ []), p.short)
+
 module _ {P Item : Type 0} {contents : P → Contents Item} {stamp : Item → ℕ} where
   module _ {l : LateState P Item} {es : List (Entry Item)} {stamps : ℕ} (h : IsLateOf contents stamp l es stamps) where
     -- the stack weighs a third more than all items at most
@@ -58,10 +74,10 @@ module _ {P Item : Type 0} {contents : P → Contents Item} {stamp : Item → �
     }
 
   -- a walk that took as many as it was to, or came past the end, is at the goal
-  pub reaches : {l' : LateState P Item} {es : List (Entry Item)} {stamps live most : ℕ} → IsLateOf contents stamp l' es stamps
+  pub reaches : {l' : LateState P Item} {es : List (Entry Item)} {stamps : ℕ} (live most : ℕ) → IsLateOf contents stamp l' es stamps
       → (l'.walk.cursor ≡ None) ⊎ (live_in contents l'.walk.stack ≡ live + most) → live + most + goal_of l' ≡ length es
       → IsShortOf contents (goal_of l') l' es
-  reaches h taken far =
+  reaches live most h taken far =
       ⊎_elim (λ none. omega (arith, all_walked h none, h.at_least)) (λ all. omega (arith, all, far)) taken
 
   -- memory is taken
@@ -91,17 +107,6 @@ module _ {P Item : Type 0} {contents : P → Contents Item} {stamp : Item → �
         → (weight_of r'.stack.levels < 2 ^ 31 → IsStocked r'.stack.levels store 2)
         → IsPrepared contents (record { store = store; walk = r'; waiting = l.waiting }) es
     readied h short stocked = record { short = omega (arith, short, ap length k.live); stocked = stocked (omega (arith, light h, k.weight)) }
-
-  pub handed_kept : {r r' r'' : Walked P Item} {most : ℕ} → HandsOver contents most r r' → IsKept contents r' r'' → HandsOver contents most r r''
-  handed_kept h k = record {
-    no_fewer = omega (arith, h.no_fewer, ap length k.live);
-    at_most = omega (arith, h.at_most, ap length k.live);
-    weight = omega (arith, h.weight, ap length k.live, k.weight);
-  }
-
-  -- as many at most
-  pub handed_more : {r r' : Walked P Item} {few most : ℕ} → few ≤ most → HandsOver contents few r r' → HandsOver contents most r r'
-  handed_more less h = record { no_fewer = h.no_fewer; at_most = omega (arith, h.at_most, less); weight = h.weight }
 
   -- the walk starts
   pub starts : (es : List (Entry Item)) (stamps : ℕ) (cursor : Option ℕ) → IsCursor cursor es → before_cursor cursor es ≡ [] → HandlesDiffer es
@@ -145,10 +150,6 @@ module _ {P Item : Type 0} {contents : P → Contents Item} {stamp : Item → �
       at : (cursor : Option ℕ) → l.walk.cursor ≡ cursor → IsWalkOf contents stamp l.walk (front ++ e ∷ []) (stamp e.item + 1)
       at None ended = absurd (going ended)
       at (Some handle) stands = IsWalkOf-appended contents stamp l.walk front e handle stands h.walk
-
-  pub short_appended : (l : LateState P Item) (front : List (Entry Item)) (e : Entry Item) → IsPrepared contents l front
-      → IsShortOf contents (goal_of l + 1) l (front ++ e ∷ [])
-  short_appended l front e p = omega (arith, length-append front (e ∷ []), p.short)
 
 pub owns_none : {P Item : Type 0} → OwnsMemory {P = P} {Item = Item} (record { levels = [] }) (record { builders = []; tables = [] })
 owns_none = record { lends = record { builders = λ k. refl; tables = λ k. refl }; few = λ k. omega arith }
