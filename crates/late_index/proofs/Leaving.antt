@@ -15,7 +15,7 @@ use Rattle.chain_walk.proofs.Forgetting.{length-without_handle, IsWalkOf-deleted
 use Rattle.chain_walk.proofs.Appending.{IsWalkOf-appended}
 use Rattle.chain_walk.proofs.Stocking.{ticks_less}
 use Rattle.chain_walk.proofs.Renewing.{HandlesDiffer-without, rise_without, renewed_differ, renewed_at}
-use Rattle.late_index.specs.Late.{LateState, goal_of, OwnsMemory, IsShortOf, IsPrepared, IsLateOf, LetsGo}
+use Rattle.late_index.specs.Late.{LateState, goal_of, OwnsMemory, IsPrepared, IsLateOf, LetsGo}
 use Rattle.late_index.proofs.Catching.{lent, some_wait}
 
 -- it has memory for a tick

@@ -1,5 +1,5 @@
-use Rattle.std.proofs.Common.{rules, ◌≡◌, true, false, ◌∙◌, refl, sym, arith}
-use Rattle.id_chain.specs.Chain.{is_linked, after, first_handle, before_cursor}
+use Rattle.std.proofs.Common.{rules, ◌≡◌, true, false, ◌∙◌, refl, sym}
+use Rattle.id_chain.specs.Chain.{after, first_handle}
 use Rattle.late_index.proofs.Catching.{some_wait}
 use Rattle.late_index.proofs.Leaving.{HasLetGo, was_handed, as_heavy, drops_walked, drops_other, short_gone, short_kept}
 use Rattle.late_index.proofs.late.Late.commit_delete.Given.{Over}

@@ -1,5 +1,5 @@
 use Rattle.std.proofs.Common.{rules, ◌≡◌, true, false, ◌∙◌, Some, refl, sym}
-use Rattle.id_chain.specs.Chain.{is_linked, after, first_or, before_cursor}
+use Rattle.id_chain.specs.Chain.{after, first_or}
 use Rattle.late_index.proofs.Leaving.{HasLetGo, was_handed, as_heavy, replaces_walked, replaces_other, short_replaced, short_replaced_other}
 use Rattle.late_index.proofs.late.Late.commit_move.Given.{Over}
 use Rattle.late_index.proofs.late.Late.commit_move.Goals.{After-let_go}
