@@ -9,7 +9,7 @@ use Rattle.id_chain.specs.Chain.{Entry}
 use Rattle.id_chain.proofs.Entries.{no_end}
 use Rattle.chain_walk.specs.Walk.{IsWalkOf}
 use Rattle.chain_walk.proofs.Handing.{few_before, as_walked}
-use Rattle.global_rebuild.specs.Index.{IsIndexOf}
+use Rattle.global_rebuild.specs.Index.{Indexed, IsIndexOf}
 use Rattle.global_rebuild.proofs.Adopting.{IsIndexOf-adopted, IsPrepared-adopted}
 use Rattle.late_index.specs.Late.{LateState, IsLateOf, IsShortOf, goal_of}
 use Rattle.late_index.proofs.Catching.{some_wait, all_walked}
@@ -32,6 +32,17 @@ module _ {P Item : Type 0} where
       at : (cursor : Option ℕ) → l.walk.cursor ≡ cursor → IsGoing (adopted_at l cursor)
       at None ended = tt
       at (Some handle) stands = λ ended. no_end (sym ended ∙ stands)
+
+  pub adopted_going : (l : LateState P Item) → l.walk.cursor ≢ None → Late l ≡ adopted_at l l.walk.cursor
+  adopted_going l on = at l.walk.cursor refl
+    where
+      at : (cursor : Option ℕ) → l.walk.cursor ≡ cursor → Late l ≡ adopted_at l cursor
+      at None ended = absurd (on ended)
+      at (Some handle) stands = refl
+
+  pub adopted_ended : (l : LateState P Item) (i : Indexed P Item) → l.walk.cursor ≡ None
+      → i ≡ record { store = l.store; main = l.walk.stack; shadow = None; retired = [] } → Whole i ≡ adopted_at l l.walk.cursor
+  adopted_ended l i ended is = ap Whole is ∙ ap (adopted_at l) (sym ended)
 
   -- it is there as before
   pub as_there : (rate : Rate) (p : Placed P Item) → rates_of rate (adopted p) ≡ rates_of rate p

@@ -8,7 +8,7 @@ use Rattle.query_laws.proofs.Counting.{Spends-nothing}
 use Rattle.builder_trait.specs.Parts.{Contents}
 use Rattle.id_chain.specs.Chain.{Entry, HandlesDiffer, is_linked, before_cursor, without_handle}
 use Rattle.id_chain.proofs.Entries.{Apart-parts, linked_head}
-use Rattle.part_store.specs.Store.{KeepsBoth}
+use Rattle.part_store.specs.Store.{Stored, KeepsBoth}
 use Rattle.log_levels.specs.Cost.{IsWithin, quotas}
 use Rattle.log_levels.proofs.Spending.{IsWithin-of, IsWithin-more}
 use Rattle.chain_walk.specs.Walk.{HandsOver, live_in, renewed}
@@ -54,6 +54,14 @@ module _ {P Item : Type 0} (contents : P → Contents Item) {rate : Rate} {after
     cost = record { within = cost };
   }
 
+  -- by other names
+  pub commits_as : {before later later' : Counts} (old old' new new' : Placed P Item) → old ≡ old' → new ≡ new' → later ≡ later'
+      → Commits contents rate after turns marks many old' new' before later' → Commits contents rate after turns marks many old new before later
+  commits_as {before} {later} {later'} old old' new new' is is' same c =
+      subst (λ q. Commits contents rate after turns marks many q new before later) (sym is)
+      (subst (λ q. Commits contents rate after turns marks many old' q before later) (sym is')
+      (subst (λ s. Commits contents rate after turns marks many old' new' before s) (sym same) c))
+
   pub late_commits : {before later : Counts} (l l' : LateState P Item) → l'.waiting ≡ after l.waiting → KeepsBoth l.store l'.store
       → ((g : ℕ) → many < 2 ^ (g + 1) → IsShared (turns g) (marks g) (Some rate ∷ []) g before later)
       → Commits contents rate after turns marks many (Late l) (Late l') before later
@@ -86,10 +94,10 @@ module _ {P Item : Type 0} (contents : P → Contents Item) where
       (IsWithin-more cost (times_more (quotas rate.slope rate.base 0 g) ticks 4 four) (times_more (2 * g) ticks 4 four) (omega arith))
 
   -- its number where an item is appended
-  pub late_appended : {stamp : Item → ℕ} {l : LateState P Item} {front : List (Entry Item)} {stamps : ℕ} (e : Entry Item) → l.walk.cursor ≢ None
-      → IsLateOf contents stamp l front stamps → IsPrepared contents l front → HandlesDiffer (front ++ e ∷ [])
+  pub late_appended : {stamp : Item → ℕ} {l : LateState P Item} {es : List (Entry Item)} {stamps : ℕ} (front : List (Entry Item)) (e : Entry Item)
+      → l.walk.cursor ≢ None → IsLateOf contents stamp l es stamps → IsPrepared contents l es → HandlesDiffer (front ++ e ∷ [])
       → goal_of l + 1 ≡ wait_by true e.handle front l.waiting
-  late_appended {stamp} {l} {front} e going of prepared differ =
+  late_appended {stamp} {l} {es} front e going of prepared differ =
       let apart = Apart-parts front (e ∷ []) differ in
       sym (appended_after e.handle front l.waiting (apart.back_only e.handle (linked_head e [])) (some_wait of prepared going))
 
@@ -101,9 +109,37 @@ module _ {P Item : Type 0} (contents : P → Contents Item) where
       sym (gone_after comes handle es l.walk.cursor l.waiting of.differ of.walk.cursor linked
           (omega (arith, prepared.short, as_walked contents stamp l.walk es of.walk)) (some_wait of prepared going))
 
+  pub late_dropped : {stamp : Item → ℕ} {l : LateState P Item} {es : List (Entry Item)} {stamps : ℕ} (handle : ℕ) → l.walk.cursor ≢ None
+      → IsLateOf contents stamp l es stamps → IsPrepared contents l es → is_linked handle es ≡ true
+      → (if is_linked handle (before_cursor l.walk.cursor es) then goal_of l else goal_of l - 1) ≡ wait_by false handle es l.waiting
+  late_dropped {stamp} {l} {es} handle going of prepared linked =
+      by (is_linked handle (before_cursor l.walk.cursor es)) ∙ late_gone false handle going of prepared linked
+    where
+      by : (b : Bool) → (if b then goal_of l else goal_of l - 1) ≡ (if b then goal_of l else goal_of l - 1) + one_if false
+      by true = omega arith
+      by false = omega arith
+
+  pub late_moved : {stamp : Item → ℕ} {l : LateState P Item} {es : List (Entry Item)} {stamps : ℕ} (handle : ℕ) → l.walk.cursor ≢ None
+      → IsLateOf contents stamp l es stamps → IsPrepared contents l es → is_linked handle es ≡ true
+      → (if is_linked handle (before_cursor l.walk.cursor es) then goal_of l + 1 else goal_of l) ≡ wait_by true handle es l.waiting
+  late_moved {stamp} {l} {es} handle going of prepared linked =
+      by (some_wait of prepared going) (is_linked handle (before_cursor l.walk.cursor es)) ∙ late_gone true handle going of prepared linked
+    where
+      by : 1 ≤ goal_of l → (b : Bool) → (if b then goal_of l + 1 else goal_of l) ≡ (if b then goal_of l else goal_of l - 1) + one_if true
+      by some true = omega arith
+      by some false = omega (arith, some)
+
+  pub moved_some : {stamp : Item → ℕ} {l : LateState P Item} {es : List (Entry Item)} {stamps : ℕ} (b : Bool) → l.walk.cursor ≢ None
+      → IsLateOf contents stamp l es stamps → IsPrepared contents l es → 1 ≤ (if b then goal_of l + 1 else goal_of l)
+  moved_some true going of prepared = omega arith
+  moved_some false going of prepared = some_wait of prepared going
+
   -- one that isn't handed all items is not ready after the update
   pub late_unready : {stamp : Item → ℕ} {l : LateState P Item} {es : List (Entry Item)} {stamps : ℕ} → l.walk.cursor ≢ None
       → IsLateOf contents stamp l es stamps → IsPrepared contents l es → ready_count (waits_of (Late l)) ≡ 0
   late_unready {stamp} {l} {es} going of prepared =
       let late : counted (nat_le l.waiting 4) ≡ 0 = ap counted (lt-leb l.waiting 4 (omega (arith, some_wait of prepared going))) in
       omega (arith, sum_by-cons (λ x. cond (is_ready_after x) 1 0) (Some l.waiting) [], late)
+
+pub keeps_both : (store : Stored) → KeepsBoth store store
+keeps_both store = record { builders = λ k. refl; tables = λ k. refl }

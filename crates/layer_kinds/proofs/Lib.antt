@@ -7,3 +7,4 @@ pub mod Waiting
 pub mod Adopting
 pub mod Branches
 pub mod Turns
+pub mod Beginning

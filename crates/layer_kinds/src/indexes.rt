@@ -153,7 +153,7 @@ impl<B: MapStructure> Model for LayerIndex<B> {
 impl<B: MapStructure> LayerIndex<B> {
     /// An index without items, where it is wanted. It takes no memory.
     pub fn new(alloc: Global, wanted: bool) -> LayerIndex<B>
-        ensures there { result ≡ (if wanted then Whole no_items else Absent) }
+        ensures made { result ≡ (if wanted then Whole no_items else Absent) }
         ensures of { IsOf B.Part.Part.contents B.Item.stamp result [] 0 }
     {
         let place = if wanted {

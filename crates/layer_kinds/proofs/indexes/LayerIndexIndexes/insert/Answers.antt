@@ -1,63 +1,101 @@
-use Rattle.std.proofs.Common.{◌≡◌, ◌+◌, ◌∙◌, [], ◌∷◌, Some, length, ap, sym, subst, arith}
-use Rattle.std.proofs.lemmas.List.{length-append}
+use Rattle.std.proofs.Common.{◌≡◌, ◌+◌, ◌*◌, ◌≤◌, ◌∙◌, true, List, [], ◌∷◌, ◌++◌, Some, length, ap, sym, subst, arith}
 use Rattle.id_chain.specs.Chain.{Entry, HandlesDiffer, item_at}
 use Rattle.id_chain.proofs.Entries.{Apart-parts, item_at-split, linked_head}
-use Rattle.global_rebuild.specs.Index.{IsIndexOf}
-use Rattle.global_rebuild.proofs.Weights.{as_many}
-use Rattle.layer_kinds.specs.Shares.{Rate, IsShared, insert_turns, insert_marks}
-use Rattle.layer_kinds.specs.Indexing.{rates_of, IsOf}
-use Rattle.layer_kinds.specs.Memory.{KeepsAll}
-use Rattle.layer_kinds.proofs.Keeping.{Each-there, Each-none, keeps_all}
-use Rattle.layer_kinds.proofs.Shared.{IsShared-there, IsShared-none}
+use Rattle.map_model.specs.Cost.{Rate}
+use Rattle.layer_kinds.specs.Shares.{insert_turns, insert_marks, ready_count}
+use Rattle.layer_kinds.specs.Indexing.{waits_of, wait_by, IsReady}
+use Rattle.layer_kinds.specs.Committing.{IsGoing, IsOver, Commits}
+use Rattle.layer_kinds.proofs.Adopting.{going, over-of, over, ready, as_waits, as_ready, commits_after}
+use Rattle.layer_kinds.proofs.Waiting.{none_left}
 use Rattle.layer_kinds.proofs.indexes.LayerIndexIndexes.insert.Goals as goal
-use Rattle.layer_kinds.proofs.indexes.LayerIndexIndexes.insert.Goals.{in-Some, in_default}
 
-pub returns-clause-cost : goal.returns-clause-cost
-returns-clause-cost g c = record {
-  within = λ g' light.
-      let contents = g.B.Part.Part.contents in
-      let stamp = g.B.Item.Item.stamp in
-      let rate : Rate = record { slope = g.B.Builder.SLOPE; base = g.B.Builder.BASE } in
-      let index = c.self.inside.index in
-      subst (λ o. IsShared (insert_turns g') (insert_marks g') (rates_of rate o) g' c.args.steps.now c.match-self.steps) c.self.view_is (elim c.match-self.branch [
-        | in-Some w ↦
-            let last = c.requires.last in
-            let of = subst (λ o. IsOf contents stamp o last.0 (stamp last.1)) (sym c.self.view_is) last.3 in
-            let h : IsIndexOf contents stamp w.in-Some.index last.0 (stamp last.1) = subst (λ o. IsOf contents stamp o last.0 (stamp last.1)) w.in-Some.is of in
-            let e : Entry g.row.B-Item.Denot = record { handle = c.args.handle; item = last.1 } in
-            let more = ap length last.2 ∙ length-append last.0 (e ∷ []) in
-            subst (λ s. IsShared (insert_turns g') (insert_marks g') (rates_of rate index) g' c.args.steps.now s) (sym w.steps-is)
-            (IsShared-there (insert_turns g') (insert_marks g') g' rate index w.in-Some.index w.in-Some.is (g.met.B.MapStructure.few_touches g')
-            (w.commit_insert.ensures.cost g' (omega (arith, light, more, as_many contents stamp w.in-Some.index last.0 h))))
-        | in_default w ↦
-            subst (λ s. IsShared (insert_turns g') (insert_marks g') (rates_of rate index) g' c.args.steps.now s) (sym w.steps-is)
-            (IsShared-none (insert_turns g') (insert_marks g') g' rate c.args.steps.now index w.in_default.is)
-      ]);
-}
+pub adopt-requires : goal.adopt-requires
+adopt-requires g c =
+    let stamp = g.B.Item.Item.stamp in
+    let last = c.requires.last in
+    record { of = (last.0, stamp last.1, over-of g.B.Part.Part.contents stamp c.args.self.now last.0 (stamp last.1) last.3) }
+
+pub take_in-requires-clause-going : goal.take_in-requires-clause-going
+take_in-requires-clause-going g c = subst IsGoing (sym c.adopt.ensures) (going c.args.self.now)
+
+pub take_in-requires-clause-last : goal.take_in-requires-clause-last
+take_in-requires-clause-last g c =
+    let contents = g.B.Part.Part.contents in
+    let stamp = g.B.Item.Item.stamp in
+    let last = c.requires.last in
+    let p = c.args.self.now in (
+      last.0,
+      last.1,
+      last.2,
+      subst (λ q. IsOver contents stamp q last.0 (stamp last.1)) (sym c.adopt.ensures)
+          (over contents stamp p last.0 (stamp last.1) (over-of contents stamp p last.0 (stamp last.1) last.3)),
+      subst (λ q. IsReady contents q last.0) (sym c.adopt.ensures) (ready contents p last.0 last.4),
+    )
+
 
 pub returns-clause-of : goal.returns-clause-of
 returns-clause-of g c front item is =
-    let contents = g.B.Part.Part.contents in
-    let stamp = g.B.Item.Item.stamp in
     let es = c.args.chain.now.entries in
     let e : Entry g.row.B-Item.Denot = record { handle = c.args.handle; item = item } in
     let apart = Apart-parts front (e ∷ []) (subst HandlesDiffer is c.requires.differ) in
     let at : item_at c.args.handle es ≡ Some item =
     ap (item_at c.args.handle) is ∙ item_at-split c.args.handle item front [] (apart.back_only c.args.handle (linked_head e [])) in
-    elim c.match-self.branch [
-      | in-Some w ↦ subst (λ l. IsOf contents stamp l.index es (stamp item + 1)) (sym w.self-inside-is) (w.commit_insert.ensures.chain item at)
-      | in_default w ↦ subst (λ l. IsOf contents stamp l.index es (stamp item + 1)) (sym w.self-inside-is) (subst (λ o. IsOf contents stamp o es (stamp item + 1)) (sym w.in_default.is) tt)
-    ]
+    c.take_in.ensures.of item at
+
+pub returns-clause-waits : goal.returns-clause-waits
+returns-clause-waits g c front item is =
+    let contents = g.B.Part.Part.contents in
+    let stamp = g.B.Item.Item.stamp in
+    let last = c.requires.last in
+    let p = c.args.self.now in
+    let after = wait_by true c.args.handle front in
+    (commits_after contents p c.take_in.new.self
+    (as_waits contents stamp last.0 (stamp last.1) after (none_left true c.args.handle front) p (over-of contents stamp p last.0 (stamp last.1) last.3) last.4)
+    (subst (λ q. Commits contents (record { slope = g.B.Builder.SLOPE; base = g.B.Builder.BASE }) after insert_turns insert_marks (2 * length c.args.chain.now.entries + 8)
+    q c.take_in.new.self c.args.steps.now c.take_in.new.steps) c.adopt.ensures (c.take_in.ensures.commits front item is))).waits
+
+pub returns-clause-there : goal.returns-clause-there
+returns-clause-there g c =
+    let contents = g.B.Part.Part.contents in
+    let stamp = g.B.Item.Item.stamp in
+    let last = c.requires.last in
+    let p = c.args.self.now in
+    let after = wait_by true c.args.handle last.0 in
+    (commits_after contents p c.take_in.new.self
+    (as_waits contents stamp last.0 (stamp last.1) after (none_left true c.args.handle last.0) p (over-of contents stamp p last.0 (stamp last.1) last.3) last.4)
+    (subst (λ q. Commits contents (record { slope = g.B.Builder.SLOPE; base = g.B.Builder.BASE }) after insert_turns insert_marks (2 * length c.args.chain.now.entries + 8)
+    q c.take_in.new.self c.args.steps.now c.take_in.new.steps) c.adopt.ensures (c.take_in.ensures.commits last.0 last.1 last.2))).there
 
 pub returns-clause-held : goal.returns-clause-held
 returns-clause-held g c =
     let contents = g.B.Part.Part.contents in
-    elim c.match-self.branch [
-      | in-Some w ↦
-          let e = w.commit_insert.ensures in
-          Each-there contents KeepsAll c.args.self.now c.match-self.self-inside.index w.in-Some.index w.commit_insert.new.self (sym c.self.view_is ∙ w.in-Some.is)
-          (ap (λ l. l.index) w.self-inside-is) (keeps_all contents w.in-Some.index w.commit_insert.new.self e.held)
-      | in_default w ↦
-          Each-none contents KeepsAll c.args.self.now c.match-self.self-inside.index (sym c.self.view_is ∙ w.in_default.is)
-          (ap (λ l. l.index) w.self-inside-is ∙ w.in_default.is)
-    ]
+    let stamp = g.B.Item.Item.stamp in
+    let last = c.requires.last in
+    let p = c.args.self.now in
+    let after = wait_by true c.args.handle last.0 in
+    (commits_after contents p c.take_in.new.self
+    (as_waits contents stamp last.0 (stamp last.1) after (none_left true c.args.handle last.0) p (over-of contents stamp p last.0 (stamp last.1) last.3) last.4)
+    (subst (λ q. Commits contents (record { slope = g.B.Builder.SLOPE; base = g.B.Builder.BASE }) after insert_turns insert_marks (2 * length c.args.chain.now.entries + 8)
+    q c.take_in.new.self c.args.steps.now c.take_in.new.steps) c.adopt.ensures (c.take_in.ensures.commits last.0 last.1 last.2))).held
+
+pub returns-clause-cost : goal.returns-clause-cost
+returns-clause-cost g c =
+    let contents = g.B.Part.Part.contents in
+    let stamp = g.B.Item.Item.stamp in
+    let last = c.requires.last in
+    let p = c.args.self.now in
+    let after = wait_by true c.args.handle last.0 in
+    (commits_after contents p c.take_in.new.self
+    (as_waits contents stamp last.0 (stamp last.1) after (none_left true c.args.handle last.0) p (over-of contents stamp p last.0 (stamp last.1) last.3) last.4)
+    (subst (λ q. Commits contents (record { slope = g.B.Builder.SLOPE; base = g.B.Builder.BASE }) after insert_turns insert_marks (2 * length c.args.chain.now.entries + 8)
+    q c.take_in.new.self c.args.steps.now c.take_in.new.steps) c.adopt.ensures (c.take_in.ensures.commits last.0 last.1 last.2))).cost
+
+pub returns-clause-some_turns : goal.returns-clause-some_turns
+returns-clause-some_turns g c =
+    let contents = g.B.Part.Part.contents in
+    let stamp = g.B.Item.Item.stamp in
+    let last = c.requires.last in
+    let p = c.args.self.now in
+    let same : ready_count (waits_of c.adopt.new.self) ≡ ready_count (waits_of p) =
+    ap (λ q. ready_count (waits_of q)) c.adopt.ensures ∙ as_ready contents stamp last.0 (stamp last.1) p (over-of contents stamp p last.0 (stamp last.1) last.3) last.4 in
+    omega (arith, c.take_in.ensures.some_turns, same)

@@ -1,40 +1,99 @@
-use Rattle.std.proofs.Common.{◌∙◌, refl, sym, subst, arith}
-use Rattle.global_rebuild.specs.Index.{IsIndexOf}
-use Rattle.global_rebuild.proofs.Weights.{as_many}
-use Rattle.layer_kinds.specs.Shares.{Rate, move_turns, move_marks}
-use Rattle.layer_kinds.specs.Indexing.{IsOf}
-use Rattle.layer_kinds.specs.Memory.{KeepsAll}
-use Rattle.layer_kinds.proofs.Keeping.{Each-there, Each-none, keeps_all}
-use Rattle.layer_kinds.proofs.Shared.{IsShared-there, IsShared-none}
+use Rattle.std.proofs.Common.{◌≡◌, ◌+◌, ◌*◌, ◌≤◌, ◌∙◌, true, length, ap, sym, subst, arith}
+use Rattle.map_model.specs.Cost.{Rate}
+use Rattle.layer_kinds.specs.Shares.{move_turns, move_marks, ready_count}
+use Rattle.layer_kinds.specs.Indexing.{waits_of, wait_by, IsReady}
+use Rattle.layer_kinds.specs.Committing.{IsGoing, IsOver, Commits}
+use Rattle.layer_kinds.proofs.Adopting.{going, over-of, over, ready, as_waits, as_ready, commits_after}
+use Rattle.layer_kinds.proofs.Waiting.{none_left}
 use Rattle.layer_kinds.proofs.indexes.LayerIndexIndexes.relocate.Goals as goal
 
-pub returns-clause-cost : goal.returns-clause-cost
-returns-clause-cost g c = record {
-  within = λ g' light.
-      let contents = g.B.Part.Part.contents in
-      let stamp = g.B.Item.Item.stamp in
-      let rate : Rate = record { slope = g.B.Builder.SLOPE; base = g.B.Builder.BASE } in
-      let es = c.args.chain.now.entries in
-      let there = sym c.self.view_is ∙ c.in-Some.is in
-      let h : IsIndexOf contents stamp c.in-Some.index es (stamp c.args.item) = subst (λ o. IsOf contents stamp o es (stamp c.args.item)) there c.requires.of in
-      IsShared-there (move_turns g') (move_marks g') g' rate c.args.self.now c.in-Some.index there (g.met.B.MapStructure.few_touches g')
-      (c.commit_move.ensures.cost g' (omega (arith, light, as_many contents stamp c.in-Some.index es h)));
-}
+pub adopt-requires : goal.adopt-requires
+adopt-requires g c =
+    let stamp = g.B.Item.Item.stamp in
+    let es = c.args.chain.now.entries in
+    record { of = (es, stamp c.args.item, over-of g.B.Part.Part.contents stamp c.args.self.now es (stamp c.args.item) c.requires.of) }
 
-pub returns-in_default-clause-cost : goal.returns-in_default-clause-cost
-returns-in_default-clause-cost g c = record {
-  within = λ g' light.
-      let rate : Rate = record { slope = g.B.Builder.SLOPE; base = g.B.Builder.BASE } in
-      IsShared-none (move_turns g') (move_marks g') g' rate c.args.steps.now c.args.self.now (sym c.self.view_is ∙ c.in_default.is);
-}
+pub put_anew-requires-clause-going : goal.put_anew-requires-clause-going
+put_anew-requires-clause-going g c = subst IsGoing (sym c.adopt.ensures) (going c.args.self.now)
+
+pub put_anew-requires-clause-ready : goal.put_anew-requires-clause-ready
+put_anew-requires-clause-ready g c =
+    let contents = g.B.Part.Part.contents in
+    let es = c.args.chain.now.entries in
+    subst (λ q. IsReady contents q es) (sym c.adopt.ensures) (ready contents c.args.self.now es c.requires.ready)
+
+pub put_anew-requires-clause-of : goal.put_anew-requires-clause-of
+put_anew-requires-clause-of g c =
+    let contents = g.B.Part.Part.contents in
+    let stamp = g.B.Item.Item.stamp in
+    let p = c.args.self.now in
+    let es = c.args.chain.now.entries in
+    let stamps = stamp c.args.item in
+    subst (λ q. IsOver contents stamp q es stamps) (sym c.adopt.ensures) (over contents stamp p es stamps (over-of contents stamp p es stamps c.requires.of))
+
+pub returns-clause-there : goal.returns-clause-there
+returns-clause-there g c =
+    let contents = g.B.Part.Part.contents in
+    let stamp = g.B.Item.Item.stamp in
+    let rate : Rate = record { slope = g.B.Builder.SLOPE; base = g.B.Builder.BASE } in
+    let p = c.args.self.now in
+    let es = c.args.chain.now.entries in
+    let stamps = stamp c.args.item in
+    let after = wait_by true c.args.handle es in
+    let commits = Commits contents rate after move_turns move_marks (2 * length es + 10) in
+    (commits_after contents p c.put_anew.new.self
+    (as_waits contents stamp es stamps after (none_left true c.args.handle es) p (over-of contents stamp p es stamps c.requires.of) c.requires.ready)
+    (subst (λ q. commits q c.put_anew.new.self c.args.steps.now c.put_anew.new.steps) c.adopt.ensures c.put_anew.ensures.commits)).there
+
+pub returns-clause-waits : goal.returns-clause-waits
+returns-clause-waits g c =
+    let contents = g.B.Part.Part.contents in
+    let stamp = g.B.Item.Item.stamp in
+    let rate : Rate = record { slope = g.B.Builder.SLOPE; base = g.B.Builder.BASE } in
+    let p = c.args.self.now in
+    let es = c.args.chain.now.entries in
+    let stamps = stamp c.args.item in
+    let after = wait_by true c.args.handle es in
+    let commits = Commits contents rate after move_turns move_marks (2 * length es + 10) in
+    (commits_after contents p c.put_anew.new.self
+    (as_waits contents stamp es stamps after (none_left true c.args.handle es) p (over-of contents stamp p es stamps c.requires.of) c.requires.ready)
+    (subst (λ q. commits q c.put_anew.new.self c.args.steps.now c.put_anew.new.steps) c.adopt.ensures c.put_anew.ensures.commits)).waits
 
 pub returns-clause-held : goal.returns-clause-held
 returns-clause-held g c =
     let contents = g.B.Part.Part.contents in
-    let old = c.in-Some.index in
-    let new = c.commit_move.new.self in
-    Each-there contents KeepsAll c.args.self.now _ old new (sym c.self.view_is ∙ c.in-Some.is) refl
-    (keeps_all contents old new c.commit_move.ensures.held)
+    let stamp = g.B.Item.Item.stamp in
+    let rate : Rate = record { slope = g.B.Builder.SLOPE; base = g.B.Builder.BASE } in
+    let p = c.args.self.now in
+    let es = c.args.chain.now.entries in
+    let stamps = stamp c.args.item in
+    let after = wait_by true c.args.handle es in
+    let commits = Commits contents rate after move_turns move_marks (2 * length es + 10) in
+    (commits_after contents p c.put_anew.new.self
+    (as_waits contents stamp es stamps after (none_left true c.args.handle es) p (over-of contents stamp p es stamps c.requires.of) c.requires.ready)
+    (subst (λ q. commits q c.put_anew.new.self c.args.steps.now c.put_anew.new.steps) c.adopt.ensures c.put_anew.ensures.commits)).held
 
-pub returns-in_default-clause-held : goal.returns-in_default-clause-held
-returns-in_default-clause-held g c = Each-none g.B.Part.Part.contents KeepsAll c.args.self.now _ (sym c.self.view_is ∙ c.in_default.is) c.in_default.is
+pub returns-clause-cost : goal.returns-clause-cost
+returns-clause-cost g c =
+    let contents = g.B.Part.Part.contents in
+    let stamp = g.B.Item.Item.stamp in
+    let rate : Rate = record { slope = g.B.Builder.SLOPE; base = g.B.Builder.BASE } in
+    let p = c.args.self.now in
+    let es = c.args.chain.now.entries in
+    let stamps = stamp c.args.item in
+    let after = wait_by true c.args.handle es in
+    let commits = Commits contents rate after move_turns move_marks (2 * length es + 10) in
+    (commits_after contents p c.put_anew.new.self
+    (as_waits contents stamp es stamps after (none_left true c.args.handle es) p (over-of contents stamp p es stamps c.requires.of) c.requires.ready)
+    (subst (λ q. commits q c.put_anew.new.self c.args.steps.now c.put_anew.new.steps) c.adopt.ensures c.put_anew.ensures.commits)).cost
+
+pub returns-clause-some_turns : goal.returns-clause-some_turns
+returns-clause-some_turns g c =
+    let contents = g.B.Part.Part.contents in
+    let stamp = g.B.Item.Item.stamp in
+    let p = c.args.self.now in
+    let es = c.args.chain.now.entries in
+    let stamps = stamp c.args.item in
+    let same : ready_count (waits_of c.adopt.new.self) ≡ ready_count (waits_of p) =
+    ap (λ q. ready_count (waits_of q)) c.adopt.ensures ∙ as_ready contents stamp es stamps p (over-of contents stamp p es stamps c.requires.of) c.requires.ready in
+    omega (arith, c.put_anew.ensures.some_turns, same)

@@ -1,4 +1,4 @@
-use Rattle.std.proofs.Common.{rules, ◌≡◌, ◌≤◌, ◌<◌, ◌^◌, ◌+◌, ◌*◌, ◌∙◌, false, ◌∷◌, ◌++◌, [], Err, length, ap, sym, subst, arith}
+use Rattle.std.proofs.Common.{rules, ◌≡◌, ◌≤◌, ◌<◌, ◌^◌, ◌+◌, ◌*◌, ◌∙◌, true, false, ◌∷◌, ◌++◌, [], Err, length, ap, sym, subst, arith}
 use Rattle.std.specs.Option.{is_some, is_none}
 use Rattle.std.proofs.lemmas.List.{length-append, map-append}
 use Rattle.id_chain.specs.Chain.{Entry, HandlesDiffer}
