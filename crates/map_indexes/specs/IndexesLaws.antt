@@ -163,6 +163,13 @@ one_ready : (a : Bool) → ready_count (where_there 0 a ∷ []) ≡ 0 + 0 + 0 + 
 one_ready true = refl
 one_ready false = refl
 
+pub segments-by_waits : (f : ℕ → ℕ) → f 0 ≡ 0 → no_waits ≡ each_after f no_waits
+segments-by_waits f zero = λ i. record { range = sym zero i; near = sym zero i; top = sym zero i }
+
+abbrev first_wait : Waits → ℕ
+first_wait [] = 0
+first_wait (w ∷ waits) = wait_or_none w
+
 module _ {P I : Type 0} where
   segments-by : (r : Rate) (a : Placed P I) → set_of (segments_held a) ≡ segments_by (rates_of r a)
   segments-by r Absent = refl
@@ -182,15 +189,8 @@ module _ {P I : Type 0} where
       ap ready_count (one_wait a) ∙ ap (λ n. ready_count (where_there n (is_there a) ∷ [])) none ∙ one_ready (is_there a)
       ∙ (λ i. 0 + 0 + 0 + (if sym (there-held a) i then 1 else 0) + 0)
 
-  pub segments-by_waits : (f : ℕ → ℕ) → f 0 ≡ 0 → no_waits ≡ each_after f no_waits
-  segments-by_waits f zero = λ i. record { range = sym zero i; near = sym zero i; top = sym zero i }
-
   pub segments-few : (r : Rate) (a : Placed P I) → length (rates_of r a) ≡ 1
   segments-few r a = ap length (one_rate r a)
-
-  abbrev first_wait : Waits → ℕ
-  first_wait [] = 0
-  first_wait (w ∷ waits) = wait_or_none w
 
   wait-first : (a : Placed P I) → wait_in a ≡ first_wait (waits_of a)
   wait-first Absent = refl
