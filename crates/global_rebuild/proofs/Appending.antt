@@ -1,11 +1,9 @@
 -- An index and its chain, where an item was appended.
-use Rattle.std.proofs.Common.{◌≡◌, ℕ, ◌+◌, ◌^◌, ◌<◌, ◌∙◌, List, [], ◌∷◌, ◌++◌, Option, Some, None, All, length, refl, sym, ap, subst, arith}
+use Rattle.std.proofs.Common.{◌≡◌, ℕ, ◌+◌, ◌^◌, ◌<◌, List, [], ◌∷◌, ◌++◌, Option, Some, None, length, refl, arith}
 use Rattle.query_laws.specs.Permuted.{Permuted}
 use Rattle.query_laws.proofs.Permutations.{Permuted-length}
 use Rattle.builder_trait.specs.Parts.{Contents}
-use Rattle.id_chain.specs.Chain.{Entry, HandlesDiffer, item_at, IsCursor}
-use Rattle.id_chain.proofs.Cursors.{before-append, others-append}
-use Rattle.id_chain.proofs.Entries.{Apart-parts, item_at-linked, item_at-split, linked_head}
+use Rattle.id_chain.specs.Chain.{Entry, HandlesDiffer}
 use Rattle.id_chain.proofs.Stamps.{StampsRise-append}
 use Rattle.log_levels.specs.Slots.{IsPartOf}
 use Rattle.log_levels.specs.Levels.{live_items, all_items, weight_of}
@@ -16,7 +14,7 @@ use Rattle.chain_walk.specs.Walk.{Walked as Shadow, IsWalkOf as IsShadowOf}
 use Rattle.global_rebuild.specs.Index.{Indexed, IsIndexOf, IsIndex, IsPrepared}
 use Rattle.chain_walk.proofs.Appending.{IsWalkOf-appended}
 use Rattle.global_rebuild.proofs.Owning.{owns-main}
-use Rattle.chain_walk.proofs.Walking.{Permuted-appended, below-appended, stamp_at-item}
+use Rattle.chain_walk.proofs.Walking.{Permuted-appended, below-appended}
 use Rattle.global_rebuild.proofs.Weights.{IsSoundOf, ended_all}
 
 module _ {P Item : Type 0} (contents : P → Contents Item) (stamp : Item → ℕ) (i : Indexed P Item) (front : List (Entry Item)) (e : Entry Item)

@@ -1,5 +1,5 @@
 -- An index from which an item is dropped, beside the chain from which it is to be unlinked.
-use Rattle.std.proofs.Common.{◌≡◌, ◌≢◌, ℕ, ◌+◌, ◌-◌, ◌*◌, ◌^◌, ◌<◌, ◌≤◌, ◌==◌, ◌∙◌, true, false, if◌then◌else◌, not, nat_lt, List, [], ◌∷◌, Option, Some, None, All, Contains, map, sym, ap, subst, arith}
+use Rattle.std.proofs.Common.{◌≡◌, ◌≢◌, ℕ, ◌+◌, ◌-◌, ◌*◌, ◌^◌, ◌<◌, ◌==◌, ◌∙◌, true, false, if◌then◌else◌, not, nat_lt, List, [], Option, Some, None, All, Contains, map, sym, ap, subst, arith}
 use Rattle.std.specs.Option.{option_map}
 use Rattle.std.proofs.lemmas.Bool.Decides.{nat_tests}
 use Rattle.std.proofs.lemmas.List.{length-map}
@@ -8,10 +8,7 @@ use Rattle.query_laws.specs.Permuted.{Permuted, nothing, composed}
 use Rattle.query_laws.proofs.Permutations.{Permuted-filter, Permuted-length}
 use Rattle.query_laws.specs.StepLedger.{Counts}
 use Rattle.builder_trait.specs.Parts.{Contents, without}
-use Rattle.id_chain.specs.Chain.{Entry, HandlesDiffer, is_linked, item_at, before, after, IsCursor, before_cursor, without_handle, first_handle}
-use Rattle.id_chain.specs.StampsRise.{StampsRise}
-use Rattle.id_chain.proofs.Entries.{Apart-parts, Apart-without, HandlesDiffer-append, split_at}
-use Rattle.id_chain.proofs.Stamps.{StampsRise-without}
+use Rattle.id_chain.specs.Chain.{Entry, is_linked, item_at, after, IsCursor, before_cursor, without_handle, first_handle}
 use Rattle.log_levels.specs.Levels.{live_items, all_items, weight_of}
 use Rattle.log_levels.specs.Trades.{Trades, Ticks}
 use Rattle.log_method.specs.Retired.{used_of}

@@ -1,28 +1,25 @@
 -- An index in which an item is moved: another one is put under its handle, at the end of the chain.
-use Rattle.std.proofs.Common.{◌≡◌, ◌≢◌, ℕ, ◌+◌, ◌-◌, ◌*◌, ◌^◌, ◌<◌, ◌≤◌, ◌∙◌, true, false, if◌then◌else◌, List, [], ◌∷◌, ◌++◌, Option, Some, None, inl, inr, map, refl, sym, ap, subst, arith}
+use Rattle.std.proofs.Common.{◌≡◌, ◌≢◌, ℕ, ◌+◌, ◌-◌, ◌*◌, ◌^◌, ◌<◌, ◌∙◌, true, false, if◌then◌else◌, List, [], ◌∷◌, ◌++◌, Option, Some, None, map, refl, sym, ap, subst, arith}
 use Rattle.std.specs.Option.{option_map}
-use Rattle.std.proofs.lemmas.Bool.{cases_eq}
-use Rattle.std.proofs.lemmas.List.{append-nil, length-append}
+use Rattle.std.proofs.lemmas.List.{length-append}
 use Rattle.std.proofs.lemmas.List.Elements.{All-nil}
 use Rattle.query_laws.specs.Permuted.{Permuted, nothing}
-use Rattle.query_laws.specs.StepLedger.{Counts}
 use Rattle.query_laws.proofs.Permutations.{Permuted-length}
 use Rattle.builder_trait.specs.Parts.{Contents, without}
-use Rattle.id_chain.specs.Chain.{Entry, HandlesDiffer, is_linked, item_at, before, after, first_or, first_handle, IsCursor, before_cursor, without_handle}
-use Rattle.id_chain.proofs.Cursors.{unlinked-without, linked-append, before-append, others-append}
-use Rattle.id_chain.proofs.Entries.{HandlesDiffer-append, before-split, item_at-split, unlinked_more}
+use Rattle.id_chain.specs.Chain.{Entry, is_linked, before, after, first_or, IsCursor, before_cursor, without_handle}
+use Rattle.id_chain.proofs.Cursors.{linked-append, before-append, others-append}
+use Rattle.id_chain.proofs.Entries.{before-split}
 use Rattle.id_chain.proofs.Stamps.{StampsRise-append}
 use Rattle.log_levels.specs.Levels.{live_items, all_items, weight_of}
-use Rattle.log_levels.specs.Cost.{IsWithin}
 use Rattle.log_levels.specs.Trades.{Trades, Ticks}
 use Rattle.log_method.specs.Stack.{Stacked, Inserts, Deletes}
 use Rattle.part_store.specs.Store.{Stored, KeepsBoth}
 use Rattle.chain_walk.specs.Walk.{Walked as Shadow, IsWalkOf as IsShadowOf, live_in, stamp_at, renewed}
 use Rattle.global_rebuild.specs.Index.{Indexed, OwnsMemory, IsIndex, IsInTime, IsQuiet, unwalked}
-use Rattle.chain_walk.proofs.Walking.{item_of, All-part, Permuted-appended, below-appended, stamp_at-item, item_at-below}
-use Rattle.chain_walk.proofs.Forgetting.{length-without_handle, IsWalkOf-deleted, IsWalkOf-moved, IsWalkOf-after, one_fewer}
+use Rattle.chain_walk.proofs.Walking.{item_of, All-part, Permuted-appended, below-appended}
+use Rattle.chain_walk.proofs.Forgetting.{length-without_handle, IsWalkOf-deleted, IsWalkOf-after, one_fewer}
 use Rattle.chain_walk.proofs.Appending.{IsWalkOf-appended}
-use Rattle.chain_walk.proofs.Renewing.{HandlesDiffer-without, rise_without}
+use Rattle.chain_walk.proofs.Renewing.{rise_without}
 use Rattle.global_rebuild.proofs.Dropping.{IsDropped, in_order, h, p, others_left, one_dropped, owned, own, ahead, same}
 use Rattle.chain_walk.proofs.Renewing.{renewed_differ, renewed_at}
 use Rattle.global_rebuild.proofs.Weights.{IsSoundOf, as_many, ended_all}

@@ -1,12 +1,12 @@
 -- What ticks of both stacks find in their store.
-use Rattle.std.proofs.Common.{◌≡◌, ◌==◌, ℕ, ◌+◌, ◌^◌, ◌<◌, ◌≤◌, ◌∙◌, ◌&&◌, Bool, true, false, if◌then◌else◌, nat_le, List, [], ◌∷◌, Option, Some, None, length, inl, inr, refl, ap, sym, subst, arith}
+use Rattle.std.proofs.Common.{◌≡◌, ◌==◌, ℕ, ◌^◌, ◌<◌, ◌≤◌, ◌∙◌, Bool, true, false, if◌then◌else◌, List, Option, Some, None, inl, inr, refl, ap, sym, subst, arith}
 use Rattle.std.proofs.lemmas.Bool.{cases_eq, cases_lt}
 use Rattle.std.proofs.lemmas.Bool.Decides.{nat_tests}
-use Rattle.part_store.specs.Shelves.{one_if, kept_at}
+use Rattle.part_store.specs.Shelves.{kept_at}
 use Rattle.part_store.specs.Store.{Stored, HasRooms, tables_for}
-use Rattle.log_levels.specs.Slots.{Slots, ticks_of}
+use Rattle.log_levels.specs.Slots.{Slots}
 use Rattle.log_levels.specs.Levels.{weight_of}
-use Rattle.log_levels.specs.Trades.{is_due, due_at, wanted_at, IsQuietAbove, IsQuiet, IsStocked, Ticks}
+use Rattle.log_levels.specs.Trades.{due_at, wanted_at, Ticks}
 use Rattle.log_method.specs.Stack.{Stacked, MayTick}
 use Rattle.log_method.specs.Preparing.{AreEnough, HasRoomsBelow}
 use Rattle.log_method.proofs.Forecasting.{none_at_zero}

@@ -1,14 +1,12 @@
 -- How much the two stacks of an index weigh.
-use Rattle.std.proofs.Common.{◌≡◌, ◌≢◌, ℕ, ◌+◌, ◌*◌, ◌^◌, ◌<◌, ◌≤◌, ◌∙◌, ◌⊎◌, List, [], ◌∷◌, Option, Some, None, inl, inr, true, length, min, refl, sym, ap, subst, arith}
-use Rattle.std.proofs.lemmas.Bool.Decides.{nat_tests}
-use Rattle.std.proofs.lemmas.Grind.{common_steps}
+use Rattle.std.proofs.Common.{◌≡◌, ◌≢◌, ℕ, ◌+◌, ◌*◌, ◌^◌, ◌<◌, ◌≤◌, ◌∙◌, List, [], Option, Some, None, inl, inr, length, min, refl, sym, ap, subst, arith}
 use Rattle.std.proofs.lemmas.List.{length-map}
 use Rattle.std.proofs.lemmas.List.Elements.{All-nil}
 use Rattle.query_laws.specs.Permuted.{nothing}
 use Rattle.query_laws.specs.StepLedger.{Counts}
 use Rattle.query_laws.proofs.Permutations.{Permuted-length}
 use Rattle.builder_trait.specs.Parts.{Contents}
-use Rattle.id_chain.specs.Chain.{Entry, is_linked, before, IsCursor, before_cursor}
+use Rattle.id_chain.specs.Chain.{Entry, before_cursor}
 use Rattle.log_levels.specs.Levels.{weight_of}
 use Rattle.log_levels.specs.Cost.{IsWithin}
 use Rattle.log_levels.proofs.Spending.{IsWithin-times}
@@ -21,7 +19,6 @@ use Rattle.global_rebuild.specs.Index.{Indexed, HasPaused, IsIndexOf, IsIndex, I
 use Rattle.global_rebuild.specs.Index.{OwnsMemory}
 use Rattle.chain_walk.specs.Memory.{HoldsNoLess}
 use Rattle.global_rebuild.proofs.Owning.{owns-empty}
-use Rattle.chain_walk.proofs.Walking.{item_of}
 
 module _ {P Item : Type 0} (contents : P → Contents Item) where
   pub IsIndex-empty : IsIndex contents (record { store = record { builders = []; tables = [] }; main = record { levels = [] }; shadow = None; retired = [] })

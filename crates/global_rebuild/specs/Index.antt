@@ -1,5 +1,5 @@
 -- What contracts see of an index, beside the chain of its items (Overmars 1983).
-use Rattle.std.specs.Prelude.{◌≡◌, ℕ, ◌+◌, ◌-◌, ◌*◌, ◌^◌, ◌<◌, ◌≤◌, Bool, List, [], ◌∷◌, ◌++◌, Option, Some, None, All, ◌⊎◌, if◌then◌else◌, nat_le, nat_lt, length, map, sum_by}
+use Rattle.std.specs.Prelude.{◌≡◌, ℕ, ◌+◌, ◌-◌, ◌*◌, ◌^◌, ◌<◌, ◌≤◌, Bool, List, Option, Some, None, All, ◌⊎◌, if◌then◌else◌, nat_le, nat_lt, length, map, sum_by}
 use Rattle.std.specs.Option.{option_map, option_map_or}
 use Rattle.query_laws.specs.Permuted.{Permuted}
 use Rattle.builder_trait.specs.Parts.{Contents}

@@ -1,5 +1,5 @@
 -- A late index that gets the items of a chain.
-use Rattle.std.proofs.Common.{◌≡◌, ◌≢◌, ℕ, ◌+◌, ◌-◌, ◌*◌, ◌^◌, ◌<◌, ◌≤◌, ◌⊎◌, ⊎_elim, List, [], ◌∷◌, ◌++◌, Option, Some, None, length, map, refl, sym, ap, subst, arith}
+use Rattle.std.proofs.Common.{◌≡◌, ◌≢◌, ℕ, ◌+◌, ◌*◌, ◌^◌, ◌<◌, ◌≤◌, ◌⊎◌, ⊎_elim, List, [], ◌∷◌, ◌++◌, Option, Some, None, inl, inr, length, map, refl, sym, ap, subst, arith}
 use Rattle.std.proofs.lemmas.List.{length-append}
 use Rattle.std.proofs.lemmas.List.Elements.{All-nil}
 use Rattle.query_laws.specs.Permuted.{Permuted, nothing}
@@ -9,14 +9,30 @@ use Rattle.id_chain.specs.StampsRise.{StampsRise}
 use Rattle.id_chain.proofs.Stamps.{StampsRise-append}
 use Rattle.part_store.specs.Store.{Stored}
 use Rattle.log_levels.specs.Levels.{weight_of}
-use Rattle.log_levels.specs.Trades.{AreLent}
+use Rattle.log_levels.specs.Trades.{AreLent, IsStocked}
 use Rattle.log_method.specs.Stack.{Stacked}
 use Rattle.chain_walk.specs.Walk.{Walked, IsWalkOf, IsKept, HandsOver, live_in, stamp_at}
-use Rattle.chain_walk.specs.Memory.{LendsFew}
+use Rattle.chain_walk.specs.Memory.{HoldsNoLess, LendsFew}
 use Rattle.chain_walk.proofs.Walking.{item_of}
 use Rattle.chain_walk.proofs.Handing.{few_before, as_walked}
 use Rattle.chain_walk.proofs.Appending.{IsWalkOf-appended}
 use Rattle.late_index.specs.Late.{LateState, goal_of, OwnsMemory, IsShortOf, IsPrepared, IsLateOf}
+
+module _ {P Item : Type 0} {contents : P → Contents Item} where
+  pub handed_kept : {r r' r'' : Walked P Item} {most : ℕ} → HandsOver contents most r r' → IsKept contents r' r'' → HandsOver contents most r r''
+  handed_kept h k = record {
+    no_fewer = omega (arith, h.no_fewer, ap length k.live);
+    at_most = omega (arith, h.at_most, ap length k.live);
+    weight = omega (arith, h.weight, ap length k.live, k.weight);
+  }
+
+  -- as many at most
+  pub handed_more : {r r' : Walked P Item} {few most : ℕ} → few ≤ most → HandsOver contents few r r' → HandsOver contents most r r'
+  handed_more less h = record { no_fewer = h.no_fewer; at_most = omega (arith, h.at_most, less); weight = h.weight }
+
+  pub short_appended : (l : LateState P Item) (front : List (Entry Item)) (e : Entry Item) → IsPrepared contents l front
+      → IsShortOf contents (goal_of l + 1) l (front ++ e ∷ [])
+  short_appended l front e p = omega (arith, length-append front (e ∷ []), p.short)
 
 module _ {P Item : Type 0} {contents : P → Contents Item} {stamp : Item → ℕ} where
   module _ {l : LateState P Item} {es : List (Entry Item)} {stamps : ℕ} (h : IsLateOf contents stamp l es stamps) where
@@ -58,10 +74,10 @@ module _ {P Item : Type 0} {contents : P → Contents Item} {stamp : Item → �
     }
 
   -- a walk that took as many as it was to, or came past the end, is at the goal
-  pub reaches : {l' : LateState P Item} {es : List (Entry Item)} {stamps live most : ℕ} → IsLateOf contents stamp l' es stamps
+  pub reaches : {l' : LateState P Item} {es : List (Entry Item)} {stamps : ℕ} (live most : ℕ) → IsLateOf contents stamp l' es stamps
       → (l'.walk.cursor ≡ None) ⊎ (live_in contents l'.walk.stack ≡ live + most) → live + most + goal_of l' ≡ length es
       → IsShortOf contents (goal_of l') l' es
-  reaches h taken far =
+  reaches live most h taken far =
       ⊎_elim (λ none. omega (arith, all_walked h none, h.at_least)) (λ all. omega (arith, all, far)) taken
 
   -- memory is taken
@@ -73,16 +89,24 @@ module _ {P Item : Type 0} {contents : P → Contents Item} {stamp : Item → �
     below = rw (k.items, k.cursor) h.below;
   }
 
-  pub handed_kept : {r r' r'' : Walked P Item} {most : ℕ} → HandsOver contents most r r' → IsKept contents r' r'' → HandsOver contents most r r''
-  handed_kept h k = record {
-    no_fewer = omega (arith, h.no_fewer, ap length k.live);
-    at_most = omega (arith, h.at_most, ap length k.live);
-    weight = omega (arith, h.weight, ap length k.live, k.weight);
-  }
+  module _ {l : LateState P Item} {r' : Walked P Item} (store : Stored) (k : IsKept contents l.walk r') {es : List (Entry Item)} where
+    pub kept_late : {stamps : ℕ} → IsLateOf contents stamp l es stamps
+        → IsLateOf contents stamp (record { store = store; walk = r'; waiting = l.waiting }) es stamps
+    kept_late h = record {
+      walk = kept k h.walk;
+      at_most = omega (arith, h.at_most, ap length k.live);
+      at_least = omega (arith, h.at_least, ap length k.live);
+      light = omega (arith, h.light, ap length k.live, k.weight);
+      rise = h.rise;
+      differ = h.differ;
+      few = h.few;
+    }
 
-  -- as many at most
-  pub handed_more : {r r' : Walked P Item} {few most : ℕ} → few ≤ most → HandsOver contents few r r' → HandsOver contents most r r'
-  handed_more less h = record { no_fewer = h.no_fewer; at_most = omega (arith, h.at_most, less); weight = h.weight }
+    -- two ticks find it, where no more items wait than may
+    pub readied : {stamps : ℕ} → IsLateOf contents stamp l es stamps → IsShortOf contents (goal_of l) l es
+        → (weight_of r'.stack.levels < 2 ^ 31 → IsStocked r'.stack.levels store 2)
+        → IsPrepared contents (record { store = store; walk = r'; waiting = l.waiting }) es
+    readied h short stocked = record { short = omega (arith, short, ap length k.live); stocked = stocked (omega (arith, light h, k.weight)) }
 
   -- the walk starts
   pub starts : (es : List (Entry Item)) (stamps : ℕ) (cursor : Option ℕ) → IsCursor cursor es → before_cursor cursor es ≡ [] → HandlesDiffer es
@@ -127,10 +151,6 @@ module _ {P Item : Type 0} {contents : P → Contents Item} {stamp : Item → �
       at None ended = absurd (going ended)
       at (Some handle) stands = IsWalkOf-appended contents stamp l.walk front e handle stands h.walk
 
-  pub short_appended : (l : LateState P Item) (front : List (Entry Item)) (e : Entry Item) → IsPrepared contents l front
-      → IsShortOf contents (goal_of l + 1) l (front ++ e ∷ [])
-  short_appended l front e p = omega (arith, length-append front (e ∷ []), p.short)
-
 pub owns_none : {P Item : Type 0} → OwnsMemory {P = P} {Item = Item} (record { levels = [] }) (record { builders = []; tables = [] })
 owns_none = record { lends = record { builders = λ k. refl; tables = λ k. refl }; few = λ k. omega arith }
 
@@ -147,3 +167,10 @@ module _ {P Item : Type 0} {stack : Stacked P Item} {store : Stored} (o : OwnsMe
     };
     few = λ k. omega (arith, o.few k, m.few k);
   }
+
+-- no less is in memory, and then again
+pub holds_then : {s t u : Stored} → HoldsNoLess s t → HoldsNoLess t u → HoldsNoLess s u
+holds_then h k = record {
+  builders = λ n. omega (arith, h.builders n, k.builders n);
+  tables = λ n. omega (arith, h.tables n, k.tables n);
+}

@@ -88,9 +88,7 @@ impl<B: Builder> Late<B> {
             → let ticks = live_in B.Part.Part.contents self.new.walk.stack - live_in B.Part.Part.contents self.old.walk.stack in
             IsWithin (ticks * quotas B.SLOPE B.BASE 0 g) (ticks * (2 * g)) (B.Part.Part.mark_touches g) steps.old steps.new }
     {
-        let left = chain.len() as u64 - self.walk.live();
-        let most = left - self.goal();
-        self.walk.walk(chain, most, &mut self.store, steps)?;
+        self.catch_up(chain, steps)?;
         self.walk.prepare(&mut self.store)
     }
 
@@ -217,6 +215,32 @@ impl<B: Builder> Late<B> {
             waiting: _,
         } = self;
         (walk.into_stack(), store)
+    }
+
+    /// Hands items over until no more wait than the goal.
+    ///
+    /// `NoMemory` where memory for one isn't given; those before it are handed over.
+    fn catch_up<L: Ledger>(
+        &mut self,
+        chain: &Chain<B::Item>,
+        steps: &mut Steps<L>,
+    ) -> Result<(), NoMemory>
+        requires chain { (stamps : ℕ) × IsLateOf B.Part.Part.contents B.Item.stamp self.old chain.now.entries stamps }
+        ensures chain { (stamps : ℕ) → IsLateOf B.Part.Part.contents B.Item.stamp self.old chain.now.entries stamps
+            → IsLateOf B.Part.Part.contents B.Item.stamp self.new chain.now.entries stamps }
+        ensures waiting { self.new.waiting ≡ self.old.waiting }
+        ensures caught_up { IfOk result (λ _. IsShortOf B.Part.Part.contents (goal_of self.new) self.new chain.now.entries) }
+        ensures handed { HandsOver B.Part.Part.contents 4 self.old.walk self.new.walk }
+        ensures held { HoldsNoLess self.old.store self.new.store }
+        ensures some_turns { let ticks = live_in B.Part.Part.contents self.new.walk.stack - live_in B.Part.Part.contents self.old.walk.stack in
+            steps.old.turns + 3 * ticks ≤ steps.new.turns }
+        ensures cost { (g : ℕ) → 2 * length chain.now.entries + 10 < 2 ^ (g + 1)
+            → let ticks = live_in B.Part.Part.contents self.new.walk.stack - live_in B.Part.Part.contents self.old.walk.stack in
+            IsWithin (ticks * quotas B.SLOPE B.BASE 0 g) (ticks * (2 * g)) (B.Part.Part.mark_touches g) steps.old steps.new }
+    {
+        let left = chain.len() as u64 - self.walk.live();
+        let most = left - self.goal();
+        self.walk.walk(chain, most, &mut self.store, steps)
     }
 
     /// Deletes a linked item from the stack where it was handed over, and says whether it was; else a cursor at it goes on to another place.

@@ -1,0 +1,71 @@
+use Rattle.std.proofs.Common.{rules, ◌≡◌, true, false, ◌∙◌, Some, refl, sym}
+use Rattle.id_chain.specs.Chain.{after, first_or}
+use Rattle.late_index.proofs.Leaving.{HasLetGo, was_handed, as_heavy, replaces_walked, replaces_other, short_replaced, short_replaced_other}
+use Rattle.late_index.proofs.late.Late.commit_move.Given.{Over}
+use Rattle.late_index.proofs.late.Late.commit_move.Goals.{After-let_go}
+use Rattle.late_index.proofs.late.Late.commit_move.Goals as goal
+
+has_let_go : (g : Over) (c : After-let_go g) → HasLetGo g.B.Part.Part.contents g.B.Item.Item.stamp c.args.self.now c.args.chain.now.entries c.args.handle
+    (first_or (after c.args.handle c.args.chain.now.entries) (Some c.args.handle)) c.let_go.result c.let_go.new.self.walk
+has_let_go g c = record {
+  prepared = c.requires.prepared;
+  going = c.requires.going;
+  linked = c.requires.linked;
+  goes = λ item is. rw c.next_renewed-next.ensures at (c.let_go.ensures.goes item is);
+}
+
+pub returns-then-let_go-clause-chain : goal.returns-then-let_go-clause-chain
+returns-then-let_go-clause-chain g c item h =
+    let was : c.let_go.result ≡ true = search rules in
+    let d = has_let_go g (goal.at.returns-then-let_go-clause-chain g c).After-let_go in
+    let late = rw (← c.self.view_is) at (replaces_walked d item h c.let_go.new.self.store was) in
+    rw c.goal-others.ensures late
+
+pub returns-then-let_go-clause-short : goal.returns-then-let_go-clause-short
+returns-then-let_go-clause-short g c item =
+    let was : c.let_go.result ≡ true = search rules in
+    let d = has_let_go g (goal.at.returns-then-let_go-clause-short g c).After-let_go in
+    let short = rw (← c.self.view_is) at (short_replaced d item c.requires.chain.1 was) in
+    rw c.goal-others.ensures short
+
+pub returns-then-let_go-clause-waiting : goal.returns-then-let_go-clause-waiting
+returns-then-let_go-clause-waiting g c =
+    let was : c.let_go.result ≡ true = search rules in
+    let handed = sym (was_handed (has_let_go g (goal.at.returns-then-let_go-clause-waiting g c).After-let_go)) ∙ was in
+    rw (c.goal-others.ensures, handed) refl
+
+pub returns-then-let_go-clause-weight : goal.returns-then-let_go-clause-weight
+returns-then-let_go-clause-weight g c = rw (← c.self.view_is) at (as_heavy (has_let_go g (goal.at.returns-then-let_go-clause-weight g c).After-let_go))
+
+pub returns-then-let_go-clause-marks : goal.returns-then-let_go-clause-marks
+returns-then-let_go-clause-marks g c item is =
+    let handed = was_handed (has_let_go g (goal.at.returns-then-let_go-clause-marks g c).After-let_go) in
+    rw (handed, ← c.self.view_is) at (c.let_go.ensures.marks item is)
+
+pub returns-else-let_go-clause-chain : goal.returns-else-let_go-clause-chain
+returns-else-let_go-clause-chain g c item h =
+    let was : c.let_go.result ≡ false = search rules in
+    let d = has_let_go g (goal.at.returns-else-let_go-clause-chain g c).After-let_go in
+    let late = rw (← c.self.view_is) at (replaces_other d item h c.let_go.new.self.store was) in
+    rw c.goal-others.ensures late
+
+pub returns-else-let_go-clause-short : goal.returns-else-let_go-clause-short
+returns-else-let_go-clause-short g c item =
+    let was : c.let_go.result ≡ false = search rules in
+    let d = has_let_go g (goal.at.returns-else-let_go-clause-short g c).After-let_go in
+    let short = rw (← c.self.view_is) at (short_replaced_other d item c.requires.chain.1 was) in
+    rw c.goal-others.ensures short
+
+pub returns-else-let_go-clause-waiting : goal.returns-else-let_go-clause-waiting
+returns-else-let_go-clause-waiting g c =
+    let was : c.let_go.result ≡ false = search rules in
+    let handed = sym (was_handed (has_let_go g (goal.at.returns-else-let_go-clause-waiting g c).After-let_go)) ∙ was in
+    rw (c.goal-others.ensures, handed) refl
+
+pub returns-else-let_go-clause-weight : goal.returns-else-let_go-clause-weight
+returns-else-let_go-clause-weight g c = rw (← c.self.view_is) at (as_heavy (has_let_go g (goal.at.returns-else-let_go-clause-weight g c).After-let_go))
+
+pub returns-else-let_go-clause-marks : goal.returns-else-let_go-clause-marks
+returns-else-let_go-clause-marks g c item is =
+    let handed = was_handed (has_let_go g (goal.at.returns-else-let_go-clause-marks g c).After-let_go) in
+    rw (handed, ← c.self.view_is) at (c.let_go.ensures.marks item is)
