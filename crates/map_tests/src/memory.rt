@@ -36,14 +36,20 @@ impl<X: Indexes> Indexes for Unfed<X> {
 
     ghost rates = { λ s. X.rates s.indexes };
 
+    ghost waits = { λ s. X.waits s.indexes };
+
     ghost are_of = { λ s es stamps. X.are_of s.indexes es stamps };
 
-    ghost are_ready = { λ s. X.are_ready s.indexes };
+    ghost are_ready = { λ s es. X.are_ready s.indexes es };
 
     ghost memory = { λ s. X.memory s.indexes };
 
     fn count(&self) -> u64 {
         self.indexes.count()
+    }
+
+    fn turns_up_to(&self, ticks: u64, level: u32) -> u64 {
+        self.indexes.turns_up_to(ticks, level)
     }
 
     fn prepare<L: Ledger>(
@@ -83,8 +89,6 @@ impl<X: Indexes> Indexes for Unfed<X> {
         self.indexes.relocate(chain, handle, item, steps);
         ask_for(self.alloc, GIVE);
     }
-
-    ghost low = { λ s. X.low s.indexes };
 }
 
 /// Adds a point of a weight, or moves it where it is live; or drops one where the weight is 0.
