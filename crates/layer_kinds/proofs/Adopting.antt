@@ -1,5 +1,5 @@
 -- The place of an index, where a late one that was handed all items goes on as an index.
-use Rattle.std.proofs.Common.{◌≡◌, ◌≢◌, ℕ, ◌+◌, ◌-◌, ◌*◌, ◌≤◌, ◌<◌, ◌∙◌, ◌⊎◌, ⊎_elim, Bool, true, false, List, [], ◌∷◌, Option, Some, None, inl, inr, cond, length, refl, sym, ap, subst, arith}
+use Rattle.std.proofs.Common.{◌≡◌, ◌≢◌, ℕ, ◌-◌, ◌≤◌, ◌∙◌, Bool, List, [], ◌∷◌, Option, Some, None, inl, inr, cond, refl, sym, ap, subst, arith}
 use Rattle.std.specs.Prelude.{nat_le}
 use Rattle.std.proofs.lemmas.Bool.{le-leb}
 use Rattle.std.proofs.lemmas.List.Sums.{sum_by-cons}
@@ -9,15 +9,15 @@ use Rattle.id_chain.specs.Chain.{Entry}
 use Rattle.id_chain.proofs.Entries.{no_end}
 use Rattle.chain_walk.specs.Walk.{IsWalkOf}
 use Rattle.chain_walk.proofs.Handing.{few_before, as_walked}
-use Rattle.global_rebuild.specs.Index.{Indexed, IsIndexOf}
+use Rattle.global_rebuild.specs.Index.{Indexed}
 use Rattle.global_rebuild.proofs.Adopting.{IsIndexOf-adopted, IsPrepared-adopted}
 use Rattle.late_index.specs.Late.{LateState, IsLateOf, IsShortOf, goal_of}
-use Rattle.late_index.proofs.Catching.{some_wait, all_walked}
+use Rattle.late_index.proofs.Catching.{all_walked}
 use Rattle.map_model.specs.Cost.{Rate}
 use Rattle.map_model.specs.State.{handed}
 use Rattle.layer_kinds.specs.Shares.{CostsShares, all_after, is_ready_after, ready_count}
 use Rattle.layer_kinds.specs.Indexing.{Placed, Absent, Whole, Late, rates_of, waits_of, adopted, adopted_at, IsOf, IsReady}
-use Rattle.layer_kinds.specs.Memory.{Memory, Each, KeepsAll, memories_of}
+use Rattle.layer_kinds.specs.Memory.{Each, KeepsAll, memories_of}
 use Rattle.layer_kinds.specs.Committing.{IsGoing, IsOver, IsExact, Commits}
 
 abbrev counted : Bool → ℕ

@@ -1,5 +1,5 @@
 -- An index that is made late of the items of a chain.
-use Rattle.std.proofs.Common.{◌≡◌, ◌≢◌, ℕ, ◌+◌, ◌^◌, ◌<◌, ◌≤◌, true, List, [], ◌∷◌, Some, None, length, refl, arith}
+use Rattle.std.proofs.Common.{◌≡◌, ◌≢◌, ℕ, ◌^◌, ◌<◌, List, [], ◌∷◌, Some, length, refl, arith}
 use Rattle.std.proofs.lemmas.Bool.Decides.{nat_tests}
 use Rattle.std.proofs.lemmas.List.Elements.{All-nil}
 use Rattle.query_laws.specs.Permuted.{nothing}
@@ -7,10 +7,9 @@ use Rattle.builder_trait.specs.Parts.{Contents}
 use Rattle.id_chain.specs.Chain.{Entry, HandlesDiffer, before, first_handle}
 use Rattle.id_chain.specs.StampsRise.{StampsRise}
 use Rattle.id_chain.proofs.Entries.{linked_head}
-use Rattle.global_rebuild.specs.Index.{Indexed, IsIndexOf}
-use Rattle.late_index.specs.Late.{LateState, IsLateOf}
+use Rattle.global_rebuild.specs.Index.{IsIndexOf}
 use Rattle.late_index.proofs.Catching.{starts}
-use Rattle.layer_kinds.specs.Indexing.{Placed, Whole, Late, no_items, begun, IsOf}
+use Rattle.layer_kinds.specs.Indexing.{Whole, Late, no_items, begun, IsOf}
 
 module _ {P Item : Type 0} where
   pub begun_none : (es : List (Entry Item)) → es ≡ [] → begun {P = P} es ≡ Whole no_items

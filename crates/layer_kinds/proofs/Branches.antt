@@ -1,33 +1,31 @@
 -- What an update makes of the place of an index: where there is none, where it answers, and where it is late.
-use Rattle.std.proofs.Common.{◌≡◌, ◌≢◌, ℕ, ◌+◌, ◌-◌, ◌*◌, ◌^◌, ◌≤◌, ◌<◌, ◌∙◌, Bool, true, false, if◌then◌else◌, List, [], ◌∷◌, ◌++◌, Option, Some, None, cond, length, map, refl, sym, ap, subst, arith}
+use Rattle.std.proofs.Common.{◌≡◌, ◌≢◌, ℕ, ◌+◌, ◌-◌, ◌*◌, ◌^◌, ◌≤◌, ◌<◌, ◌∙◌, Bool, true, false, if◌then◌else◌, List, [], ◌∷◌, ◌++◌, Some, None, cond, refl, sym, ap, subst, arith}
 use Rattle.std.specs.Prelude.{nat_le}
 use Rattle.std.proofs.lemmas.Bool.{lt-leb}
 use Rattle.std.proofs.lemmas.List.Sums.{sum_by-cons}
 use Rattle.query_laws.specs.StepLedger.{Counts}
-use Rattle.query_laws.proofs.Counting.{Spends-nothing}
 use Rattle.builder_trait.specs.Parts.{Contents}
-use Rattle.id_chain.specs.Chain.{Entry, HandlesDiffer, is_linked, before_cursor, without_handle}
+use Rattle.id_chain.specs.Chain.{Entry, HandlesDiffer, is_linked, before_cursor}
 use Rattle.id_chain.proofs.Entries.{Apart-parts, linked_head}
 use Rattle.part_store.specs.Store.{Stored, KeepsBoth}
 use Rattle.log_levels.specs.Cost.{IsWithin, quotas}
-use Rattle.log_levels.proofs.Spending.{IsWithin-of, IsWithin-more}
-use Rattle.chain_walk.specs.Walk.{HandsOver, live_in, renewed}
+use Rattle.log_levels.proofs.Spending.{IsWithin-more}
+use Rattle.chain_walk.specs.Walk.{HandsOver, live_in}
 use Rattle.chain_walk.specs.Memory.{HoldsNoLess}
 use Rattle.chain_walk.proofs.Handing.{as_walked}
 use Rattle.global_rebuild.specs.Index.{Indexed, HoldsAsMuch}
-use Rattle.late_index.specs.Late.{LateState, IsLateOf, IsShortOf, IsPrepared, goal_of}
+use Rattle.late_index.specs.Late.{LateState, IsLateOf, IsPrepared, goal_of}
 use Rattle.late_index.proofs.Catching.{some_wait}
 use Rattle.map_structures.specs.Touches.{touches_at}
 use Rattle.map_model.specs.Cost.{Rate}
 use Rattle.map_model.specs.Index.{one_if}
-use Rattle.map_model.specs.State.{handed}
-use Rattle.layer_kinds.specs.Shares.{IsShared, CostsShares, prepare_turns, prepare_marks, delete_turns, delete_marks, move_turns, move_marks, is_ready_after, ready_count}
-use Rattle.layer_kinds.specs.Indexing.{Placed, Absent, Whole, Late, waits_of, wait_by, IsOf}
-use Rattle.layer_kinds.specs.Memory.{Each, KeepsAll, IsReadied, late_memory, memories_of}
+use Rattle.layer_kinds.specs.Shares.{IsShared, prepare_turns, prepare_marks, is_ready_after, ready_count}
+use Rattle.layer_kinds.specs.Indexing.{Placed, Absent, Whole, Late, waits_of, wait_by}
+use Rattle.layer_kinds.specs.Memory.{IsReadied, late_memory}
 use Rattle.layer_kinds.specs.Committing.{Commits}
 use Rattle.layer_kinds.proofs.Keeping.{keeps_all, parts_in}
 use Rattle.layer_kinds.proofs.Shared.{IsShared-there, IsShared-nothing}
-use Rattle.layer_kinds.proofs.Waiting.{none_left, appended_after, gone_after}
+use Rattle.layer_kinds.proofs.Waiting.{appended_after, gone_after}
 
 abbrev counted : Bool → ℕ
 counted b = cond b 1 0
@@ -85,7 +83,7 @@ module _ {P Item : Type 0} (contents : P → Contents Item) where
   pub late_prepares : (rate : Rate) (l l' : LateState P Item) {touches : ℕ} {before later : Counts} (g : ℕ) → HandsOver contents 4 l.walk l'.walk
       → touches ≤ touches_at g
       → (let ticks = live_in contents l'.walk.stack - live_in contents l.walk.stack in
-        IsWithin (ticks * quotas rate.slope rate.base 0 g) (ticks * (2 * g)) touches before later)
+      IsWithin (ticks * quotas rate.slope rate.base 0 g) (ticks * (2 * g)) touches before later)
       → IsShared (prepare_turns g) (prepare_marks g) (Some rate ∷ []) g before later
   late_prepares rate l l' g taken few cost =
       let ticks = live_in contents l'.walk.stack - live_in contents l.walk.stack in
@@ -107,7 +105,7 @@ module _ {P Item : Type 0} (contents : P → Contents Item) where
       → (if is_linked handle (before_cursor l.walk.cursor es) then goal_of l else goal_of l - 1) + one_if comes ≡ wait_by comes handle es l.waiting
   late_gone {stamp} {l} {es} comes handle going of prepared linked =
       sym (gone_after comes handle es l.walk.cursor l.waiting of.differ of.walk.cursor linked
-          (omega (arith, prepared.short, as_walked contents stamp l.walk es of.walk)) (some_wait of prepared going))
+      (omega (arith, prepared.short, as_walked contents stamp l.walk es of.walk)) (some_wait of prepared going))
 
   pub late_dropped : {stamp : Item → ℕ} {l : LateState P Item} {es : List (Entry Item)} {stamps : ℕ} (handle : ℕ) → l.walk.cursor ≢ None
       → IsLateOf contents stamp l es stamps → IsPrepared contents l es → is_linked handle es ≡ true

@@ -1,5 +1,5 @@
 -- Turns of an index, at all levels up to one.
-use Rattle.std.proofs.Common.{◌≡◌, ℕ, ◌+◌, ◌*◌, ◌/◌, ◌^◌, ◌≤◌, arith}
+use Rattle.std.proofs.Common.{ℕ, ◌+◌, ◌*◌, ◌/◌, ◌^◌, ◌≤◌, arith}
 
 more : (a b n : ℕ) → a ≤ b → a * n ≤ b * n
 more a b n less = grind (arith, less)

@@ -1,15 +1,15 @@
 -- For how many items an index waits after an update.
-use Rattle.std.proofs.Common.{◌≡◌, ℕ, zero, suc, ◌+◌, ◌-◌, ◌==◌, ◌≤◌, ◌<◌, ◌∙◌, ◌||◌, Bool, true, false, if◌then◌else◌, List, [], ◌∷◌, ◌++◌, Option, Some, None, length, map, drop, refl, sym, ap, subst, arith}
+use Rattle.std.proofs.Common.{◌≡◌, ℕ, zero, suc, ◌+◌, ◌-◌, ◌==◌, ◌≤◌, ◌∙◌, ◌||◌, Bool, true, false, if◌then◌else◌, List, [], ◌∷◌, ◌++◌, Option, Some, None, length, drop, refl, sym, ap, subst, arith}
 use Rattle.std.specs.Option.{is_some, option_map}
 use Rattle.std.proofs.lemmas.Bool.Decides.{nat_tests}
 use Rattle.std.proofs.lemmas.Grind.{common_steps}
-use Rattle.std.proofs.lemmas.List.{length-append, map-append, drop-map}
+use Rattle.std.proofs.lemmas.List.{map-append, drop-map}
 use Rattle.id_chain.specs.Chain.{Entry, HandlesDiffer, is_linked, before, IsCursor, before_cursor}
 use Rattle.id_chain.proofs.Entries.{Apart, Apart-parts, is_linked-append}
 use Rattle.id_directory.specs.Directory.{handle_of, IdsDiffer}
 use Rattle.map_model.specs.Index.{one_if}
 use Rattle.map_model.specs.State.{Item, handed, is_live, wait_after}
-use Rattle.layer_kinds.specs.Shares.{Waits, all_after, ready_count}
+use Rattle.layer_kinds.specs.Shares.{Waits, all_after}
 use Rattle.layer_kinds.specs.Indexing.{wait_by}
 use Rattle.layer_kinds.specs.Layered.{items_of}
 use Rattle.layer_kinds.proofs.Items.{live_found, linked_found, as_many_items}
@@ -92,7 +92,7 @@ module _ {Item : Type 0} where
   gone_after comes handle es (Some at) w differ is linked long some =
       some_left (w - handed) comes (is_linked handle (drop (length es - (w - handed)) es)) some
       ∙ ap (λ b. (w - handed - one_if b) + one_if comes)
-        (from_cursor handle at (length es - (w - handed)) es differ linked (omega (arith, long)))
+      (from_cursor handle at (length es - (w - handed)) es differ linked (omega (arith, long)))
       ∙ by (is_linked handle (before at es))
     where
       by : (b : Bool) → (w - handed - one_if (if b then false else true)) + one_if comes ≡ (if b then w - handed else w - handed - 1) + one_if comes
@@ -111,9 +111,9 @@ module _ {I : Type 0} (id_of : I → ℕ) (item_of : I → Item) (same : (x : I)
       → (w : ℕ) → wait_by comes handle es w ≡ wait_after comes id (items_of item_of es) w
   wait_same comes handle id es alike w =
       ap (left_after (w - handed) comes) (
-        alike (length es - (w - handed))
-        ∙ ap (is_live id) (sym (drop-map (λ e. item_of e.item) (length es - (w - handed)) es))
-        ∙ ap (λ n. is_live id (drop (n - (w - handed)) (items_of item_of es))) (sym (as_many_items item_of es))
+      alike (length es - (w - handed))
+      ∙ ap (is_live id) (sym (drop-map (λ e. item_of e.item) (length es - (w - handed)) es))
+      ∙ ap (λ n. is_live id (drop (n - (w - handed)) (items_of item_of es))) (sym (as_many_items item_of es))
       )
 
   dead_drop : (id n : ℕ) (es : List (Entry I)) → handle_of id_of id es ≡ None → is_live id (items_of item_of (drop n es)) ≡ false

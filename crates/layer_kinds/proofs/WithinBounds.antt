@@ -1,5 +1,5 @@
 -- The bounds of a layer are those of its indexes.
-use Rattle.std.proofs.Common.{◌≡◌, ℕ, zero, suc, ◌+◌, ◌-◌, ◌*◌, ◌/◌, ◌^◌, ◌<◌, ◌≤◌, ◌∙◌, true, List, [], ◌∷◌, Option, Some, None, cond, sum_by, length, refl, ap, subst, arith, pow-suc}
+use Rattle.std.proofs.Common.{◌≡◌, ℕ, zero, suc, ◌+◌, ◌-◌, ◌*◌, ◌/◌, ◌^◌, ◌<◌, ◌≤◌, ◌∙◌, true, [], ◌∷◌, Option, Some, None, cond, sum_by, length, ap, subst, arith, pow-suc}
 use Rattle.std.specs.List.{range_with_len}
 use Rattle.std.specs.Option.{is_some, option_map_or}
 use Rattle.std.proofs.lemmas.List.Sums.{sum_by-cons}
@@ -89,8 +89,14 @@ module _ (f f' most : Rate → ℕ) (each : (rate : Rate) → f rate + f' rate �
   shares : (rates : Rates) → share f rates + share f' rates ≤ share most rates
   shares [] = omega arith
   shares (r ∷ rest) =
-      omega (arith, sum_by-cons (λ x. option_map_or f x 0) r rest, sum_by-cons (λ x. option_map_or f' x 0) r rest,
-          sum_by-cons (λ x. option_map_or most x 0) r rest, one r, shares rest)
+      omega (
+        arith,
+        sum_by-cons (λ x. option_map_or f x 0) r rest,
+        sum_by-cons (λ x. option_map_or f' x 0) r rest,
+        sum_by-cons (λ x. option_map_or most x 0) r rest,
+        one r,
+        shares rest,
+      )
     where
       one : (r : Option Rate) → option_map_or f r 0 + option_map_or f' r 0 ≤ option_map_or most r 0
       one None = omega arith

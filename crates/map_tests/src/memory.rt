@@ -36,9 +36,9 @@ impl<X: Indexes> Indexes for Unfed<X> {
 
     ghost rates = { λ s. X.rates s.indexes };
 
-    ghost are_of = { λ s es stamps. X.are_of s.indexes es stamps };
-
     ghost waits = { λ s. X.waits s.indexes };
+
+    ghost are_of = { λ s es stamps. X.are_of s.indexes es stamps };
 
     ghost are_ready = { λ s es. X.are_ready s.indexes es };
 

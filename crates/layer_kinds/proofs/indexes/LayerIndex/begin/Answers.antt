@@ -1,6 +1,6 @@
 use Rattle.std.proofs.Common.{rules, ◌≡◌, ◌≢◌, ◌∙◌, [], ap, sym, subst}
 use Rattle.id_chain.specs.Chain.{HandlesDiffer}
-use Rattle.layer_kinds.specs.Indexing.{Whole, Late, begun, IsOf}
+use Rattle.layer_kinds.specs.Indexing.{Whole, Late, IsOf}
 use Rattle.layer_kinds.specs.Places.{placed}
 use Rattle.layer_kinds.proofs.Beginning.{begun_none, begun_some, begun_of}
 use Rattle.layer_kinds.proofs.indexes.LayerIndex.begin.Goals as goal

@@ -1,15 +1,13 @@
-use Rattle.std.proofs.Common.{◌≡◌, ◌+◌, ◌-◌, ◌*◌, ◌≤◌, ◌∙◌, true, false, List, [], ◌∷◌, Some, length, ap, refl, sym, subst, arith}
+use Rattle.std.proofs.Common.{◌≡◌, ◌+◌, ◌*◌, ◌∙◌, false, length, ap, refl, sym, subst, arith}
 use Rattle.log_levels.proofs.Spending.{IsWithin-more}
-use Rattle.id_chain.specs.Chain.{Entry, is_linked, before_cursor}
 use Rattle.global_rebuild.specs.Index.{IsIndexOf}
 use Rattle.global_rebuild.proofs.Weights.{as_many}
-use Rattle.chain_walk.specs.Walk.{renewed}
-use Rattle.late_index.specs.Late.{IsLateOf, IsPrepared, goal_of}
+use Rattle.late_index.specs.Late.{IsLateOf, IsPrepared}
 use Rattle.map_model.specs.Cost.{Rate}
-use Rattle.layer_kinds.specs.Shares.{delete_turns, delete_marks, ready_count}
-use Rattle.layer_kinds.specs.Indexing.{Placed, Absent, Whole, Late, waits_of, wait_by, IsOf, IsReady}
+use Rattle.layer_kinds.specs.Shares.{delete_turns, delete_marks}
+use Rattle.layer_kinds.specs.Indexing.{Absent, Whole, Late, wait_by, IsReady}
 use Rattle.layer_kinds.specs.Places.{placed}
-use Rattle.layer_kinds.specs.Committing.{IsGoing, IsOver, Commits}
+use Rattle.layer_kinds.specs.Committing.{IsGoing, IsOver}
 use Rattle.layer_kinds.proofs.Branches.{absent_commits, whole_commits, late_commits, commits_as, late_dropped}
 use Rattle.layer_kinds.proofs.Shared.{IsShared-there}
 use Rattle.layer_kinds.proofs.Waiting.{none_left}
@@ -38,8 +36,8 @@ returns-clause-commits g c =
           commits_as contents {rate = rate} {after = after} {turns = delete_turns} {marks = delete_marks} {many = 2 * length es + 10} old (Whole i) new (Whole i')
           at (ap (λ l. placed l.place) w.self-inside-is) w.steps-is
           (whole_commits contents i i' (none_left false c.args.handle es 0 refl) w.commit_delete.ensures.held (λ g' less.
-              IsShared-there (delete_turns g') (delete_marks g') g' rate (g.met.B.MapStructure.few_touches g')
-              (w.commit_delete.ensures.cost g' (omega (arith, less, as_many contents stamp i es h)))))
+          IsShared-there (delete_turns g') (delete_marks g') g' rate (g.met.B.MapStructure.few_touches g')
+          (w.commit_delete.ensures.cost g' (omega (arith, less, as_many contents stamp i es h)))))
       | in-Late w ↦
           let l = w.in-Late.late in
           let l' = w.commit_delete-in-Late.new.self in
@@ -50,6 +48,6 @@ returns-clause-commits g c =
           at (ap (λ l. placed l.place) w.self-inside-is) w.steps-is
           (late_commits contents l l' (w.commit_delete-in-Late.ensures.waiting ∙ late_dropped contents c.args.handle (subst IsGoing at c.requires.going) h prepared c.requires.linked)
           w.commit_delete-in-Late.ensures.held (λ g' less.
-              IsShared-there (delete_turns g') (delete_marks g') g' rate (g.met.B.MapStructure.few_touches g')
-              (IsWithin-more (w.commit_delete-in-Late.ensures.cost g' less) (omega arith) (omega arith) (omega arith))))
+          IsShared-there (delete_turns g') (delete_marks g') g' rate (g.met.B.MapStructure.few_touches g')
+          (IsWithin-more (w.commit_delete-in-Late.ensures.cost g' less) (omega arith) (omega arith) (omega arith))))
     ]

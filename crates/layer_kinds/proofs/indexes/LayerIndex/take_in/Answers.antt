@@ -1,4 +1,4 @@
-use Rattle.std.proofs.Common.{◌≡◌, ◌+◌, ◌-◌, ◌*◌, ◌≤◌, ◌∙◌, true, List, [], ◌∷◌, ◌++◌, Some, length, ap, refl, sym, subst, arith}
+use Rattle.std.proofs.Common.{◌≡◌, ◌+◌, ◌*◌, ◌∙◌, true, [], ◌∷◌, Some, length, ap, refl, sym, subst, arith}
 use Rattle.std.specs.Option.{option_map_or}
 use Rattle.std.proofs.lemmas.List.{length-append}
 use Rattle.id_chain.specs.Chain.{Entry, HandlesDiffer, item_at}
@@ -8,9 +8,9 @@ use Rattle.global_rebuild.proofs.Weights.{as_many}
 use Rattle.late_index.specs.Late.{IsLateOf, IsPrepared, goal_of}
 use Rattle.map_model.specs.Cost.{Rate}
 use Rattle.layer_kinds.specs.Shares.{insert_turns, insert_marks, ready_count}
-use Rattle.layer_kinds.specs.Indexing.{Placed, Absent, Whole, Late, waits_of, wait_by, IsOf, IsReady}
+use Rattle.layer_kinds.specs.Indexing.{Absent, Whole, Late, waits_of, wait_by, IsOf, IsReady}
 use Rattle.layer_kinds.specs.Places.{placed}
-use Rattle.layer_kinds.specs.Committing.{IsGoing, IsOver, Commits}
+use Rattle.layer_kinds.specs.Committing.{IsGoing, IsOver}
 use Rattle.layer_kinds.proofs.Branches.{absent_commits, whole_commits, late_commits, commits_as, keeps_both, late_appended, late_unready}
 use Rattle.layer_kinds.proofs.Shared.{IsShared-there, IsShared-nothing}
 use Rattle.layer_kinds.proofs.Waiting.{none_left}
@@ -43,8 +43,8 @@ returns-clause-commits g c front item is =
           commits_as contents {rate = rate} {after = after} {turns = insert_turns} {marks = insert_marks} {many = 2 * length es + 8} old (Whole i) new (Whole i')
           at (ap (λ l. placed l.place) w.self-inside-is) w.steps-is
           (whole_commits contents i i' (none_left true c.args.handle front 0 refl) w.commit_insert.ensures.held (λ g' less.
-              IsShared-there (insert_turns g') (insert_marks g') g' rate (g.met.B.MapStructure.few_touches g')
-              (w.commit_insert.ensures.cost g' (omega (arith, less, more, as_many contents stamp i last.0 h)))))
+          IsShared-there (insert_turns g') (insert_marks g') g' rate (g.met.B.MapStructure.few_touches g')
+          (w.commit_insert.ensures.cost g' (omega (arith, less, more, as_many contents stamp i last.0 h)))))
       | in-Late w ↦
           let l = w.in-Late.late in
           let l' = w.commit_insert-in-Late.new.self in

@@ -1,4 +1,4 @@
-use Rattle.std.proofs.Common.{◌≡◌, ◌+◌, ◌*◌, ◌∙◌, false, length, sym, subst, arith}
+use Rattle.std.proofs.Common.{◌+◌, ◌*◌, false, length, sym, subst}
 use Rattle.id_chain.specs.Chain.{without_handle}
 use Rattle.map_model.specs.Cost.{Rate}
 use Rattle.layer_kinds.specs.Shares.{delete_turns, delete_marks}

@@ -1,7 +1,6 @@
-use Rattle.std.proofs.Common.{◌≡◌, ◌+◌, ◌*◌, ◌≤◌, ◌∙◌, true, List, [], ◌∷◌, ◌++◌, Some, length, ap, sym, subst, arith}
+use Rattle.std.proofs.Common.{◌≡◌, ◌+◌, ◌*◌, ◌∙◌, true, [], ◌∷◌, Some, length, ap, sym, subst, arith}
 use Rattle.id_chain.specs.Chain.{Entry, HandlesDiffer, item_at}
 use Rattle.id_chain.proofs.Entries.{Apart-parts, item_at-split, linked_head}
-use Rattle.map_model.specs.Cost.{Rate}
 use Rattle.layer_kinds.specs.Shares.{insert_turns, insert_marks, ready_count}
 use Rattle.layer_kinds.specs.Indexing.{waits_of, wait_by, IsReady}
 use Rattle.layer_kinds.specs.Committing.{IsGoing, IsOver, Commits}
@@ -31,7 +30,6 @@ take_in-requires-clause-last g c =
           (over contents stamp p last.0 (stamp last.1) (over-of contents stamp p last.0 (stamp last.1) last.3)),
       subst (λ q. IsReady contents q last.0) (sym c.adopt.ensures) (ready contents p last.0 last.4),
     )
-
 
 pub returns-clause-of : goal.returns-clause-of
 returns-clause-of g c front item is =

@@ -1,9 +1,9 @@
-use Rattle.std.proofs.Common.{◌≡◌, ◌+◌, ◌*◌, ◌∙◌, [], ◌∷◌, Some, None, length, ap, sym, subst, arith}
+use Rattle.std.proofs.Common.{◌≡◌, ◌*◌, ◌∙◌, ap, sym, subst, arith}
 use Rattle.log_levels.specs.Cost.{quotas}
 use Rattle.global_rebuild.specs.Index.{IsIndexOf}
 use Rattle.global_rebuild.proofs.Weights.{as_many, four_ticks}
 use Rattle.map_model.specs.Cost.{Rate}
-use Rattle.layer_kinds.specs.Shares.{IsShared, CostsShares, prepare_turns, prepare_marks}
+use Rattle.layer_kinds.specs.Shares.{IsShared, prepare_turns, prepare_marks}
 use Rattle.layer_kinds.specs.Indexing.{Absent, Whole, Late, rates_of, IsOf}
 use Rattle.layer_kinds.specs.Places.{placed}
 use Rattle.layer_kinds.specs.Memory.{Each, IsReadied, memories_of}

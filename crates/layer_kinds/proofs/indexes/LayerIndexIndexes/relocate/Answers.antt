@@ -1,4 +1,4 @@
-use Rattle.std.proofs.Common.{◌≡◌, ◌+◌, ◌*◌, ◌≤◌, ◌∙◌, true, length, ap, sym, subst, arith}
+use Rattle.std.proofs.Common.{◌≡◌, ◌+◌, ◌*◌, ◌∙◌, true, length, ap, sym, subst, arith}
 use Rattle.map_model.specs.Cost.{Rate}
 use Rattle.layer_kinds.specs.Shares.{move_turns, move_marks, ready_count}
 use Rattle.layer_kinds.specs.Indexing.{waits_of, wait_by, IsReady}

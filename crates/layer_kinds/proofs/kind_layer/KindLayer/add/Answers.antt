@@ -182,6 +182,6 @@ returns-clause-waits g c =
     c.insert.ensures.waits es c.stamped.result all
     ∙ ap (all_after (wait_by true handle es)) c.prepare.ensures.waits
     ∙ waits_come id item_of laws (id c.args.item) handle es (apart.back_only handle (linked_head e [])) (none_found (handle_of id (id c.args.item) es) dead)
-      (g.X.Indexes.waits l.indexes)
+    (g.X.Indexes.waits l.indexes)
     ∙ ap (λ k. all_after (wait_after true k (items_of item_of es)) (g.X.Indexes.waits l.indexes)) (sym (laws c.args.item))
     ∙ ap (λ k. all_after (wait_after true (item_of c.args.item).id (items_of item_of k.entries)) (g.X.Indexes.waits k.indexes)) c.self.view_is

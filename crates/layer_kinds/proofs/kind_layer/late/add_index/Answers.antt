@@ -1,4 +1,4 @@
-use Rattle.std.proofs.Common.{rules, ◌≡◌, ◌+◌, ◌≤◌, ◌∙◌, None, length, ap, sym, subst, arith}
+use Rattle.std.proofs.Common.{rules, ◌≡◌, ◌∙◌, length, ap, sym, subst, arith}
 use Rattle.id_chain.specs.Chain.{HandlesDiffer}
 use Rattle.id_chain.specs.StampsRise.{StampsRise}
 use Rattle.layer_kinds.specs.Indexing.{begun}
