@@ -72,15 +72,9 @@ const LINES: [(&[u8], Result<&str, LineFault>); 81] = [
     (b"layer b segments range", Err(LineFault::Index)),
     (b"layer q points range range", Err(LineFault::Index)),
     (b"top a 9 0", Err(LineFault::Order)),
-    (
-        b"layer s segments cross stab",
-        Ok("layer s segments stab cross"),
-    ),
-    (b"layer s segments cross", Ok("layer s segments cross")),
-    (
-        b"layer a points batch range",
-        Ok("layer a points range batch"),
-    ),
+    (b"layer s segments cross stab", Err(LineFault::Index)),
+    (b"layer s segments cross", Err(LineFault::Index)),
+    (b"layer a points batch range", Err(LineFault::Index)),
     (b"index a top", Ok("index a top")),
     (b"\tindex  a near\r", Ok("index a near")),
     (b"index a range", Ok("index a range")),

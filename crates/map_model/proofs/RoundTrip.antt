@@ -416,7 +416,6 @@ unfolding command_of
 points_read true true true false false false v h = record { some = omega arith; read = refl }
 points_read true true false false false false v h = record { some = omega arith; read = refl }
 points_read true false true false false false v h = record { some = omega arith; read = refl }
-points_read true false false false false true v h = record { some = omega arith; read = refl }
 points_read true false false false false false v h = record { some = omega arith; read = refl }
 points_read false true true false false false v h = record { some = omega arith; read = refl }
 points_read false true false false false false v h = record { some = omega arith; read = refl }
@@ -425,9 +424,7 @@ points_read _ _ _ _ _ _ v h = absurd (false≢true h)
 
 segments_read : (range near top batch stab cross : Bool) (v : Values) → fits Segments (set_of range near top stab cross batch) ≡ true → IsRead Segments (set_of range near top stab cross batch) v
 unfolding command_of
-segments_read false false false false true true v h = record { some = omega arith; read = refl }
 segments_read false false false false true false v h = record { some = omega arith; read = refl }
-segments_read false false false false false true v h = record { some = omega arith; read = refl }
 segments_read _ _ _ _ _ _ v h = absurd (false≢true h)
 
 indexes_read : (kind : Kind) (s : IndexSet) (v : Values) → fits kind s ≡ true → IsRead kind s v

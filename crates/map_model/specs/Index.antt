@@ -48,11 +48,10 @@ may_be_late Top = true
 may_be_late Stab = false
 may_be_late Cross = false
 
--- a layer of this kind may have these indexes: at least one, and none that the kind doesn't take; parts that are joined at once are those of `range`
--- alone
+-- a layer of this kind may have these indexes: at least one, and none that the kind doesn't take; none takes `cross` or `batch` yet
 abbrev pub fits : Kind → IndexSet → Bool
-fits Points s = (s.range || s.near || s.top) && not (s.stab || s.cross) && (not s.batch || (s.range && not (s.near || s.top)))
-fits Segments s = not (s.range || s.near || s.top || s.batch) && (s.stab || s.cross)
+fits Points s = (s.range || s.near || s.top) && not (s.stab || s.cross || s.batch)
+fits Segments s = not (s.range || s.near || s.top || s.cross || s.batch) && s.stab
 
 -- 1 where something holds, and else 0
 abbrev pub one_if : Bool → ℕ

@@ -38,13 +38,6 @@ pub record WorkedRows : Type 0 where
   pub late_of_none : machine_text empty_map (lines (codes "layer a points range\nindex a top\ntop a 0 9\nindex a stab\nindex b near\n")) ≡ codes "ok\nok\ntop none\nno index\nno layer\n"
   -- a dropped item that it wasn't handed isn't waited for; a moved one is, as the last
   pub late_moves : machine_text empty_map (lines (codes "layer a points near\nadd a 1 1 1 1\nadd a 2 2 2 1\nadd a 3 3 3 1\nadd a 4 4 4 1\nadd a 5 5 5 1\nadd a 6 6 6 1\nindex a top\ndrop a 6\ntop a 0 9\nmove a 1 9 9 1\ntop a 0 9\nindex a range near\nindex a\nlayer s segments stab\nindex s range\n")) ≡ codes "ok\nok\nok\nok\nok\nok\nok\nok\nok\nno building 1\nok\ntop 1 9\nno fields\nno fields\nok\nno kind\n"
-  -- each end of a segment and of the span of heights counts
-  pub crossings : machine_text empty_map (lines (codes "layer s segments stab cross\nseg s 1 0 10 5\nseg s 2 5 5 7\nseg s 3 6 9 5\nseg s 4 0 4 2\ncross s 5 0 10\ncross s 5 6 7\ncrosscount s 6 5 5\ndrop s 1\ncross s 6 5 5\ncross s 4 3 9\ncross s 4 9 3\nstab s 5\n")) ≡ codes "ok\nok\nok\nok\nok\ncross 1 2\ncross 2\ncrosscount 2\nok\ncross 3\ncross none\nno order\nstab 2\n"
-  pub crossed_ends : machine_text empty_map (lines (codes "layer s segments cross\nseg s 1 0 2147483647 0\nseg s 2 3 7 2147483647\ncrosscount s 0 0 0\ncrosscount s 3 0 2147483647\ncrosscount s 7 1 2147483647\ncrosscount s 8 1 2147483647\ncross s 2147483647 0 0\n")) ≡ codes "ok\nok\nok\ncrosscount 1\ncrosscount 2\ncrosscount 1\ncrosscount 0\ncross 1\n"
-  pub crossings_signed : machine_text empty_map (lines (codes "livemap 2\nlayer s segments cross\nseg s 1 -5 -2 -9\ncross s -5 -9 -9\ncross s -2 -10 0\ncross s -1 -10 0\n")) ≡ codes "ok\nok\nok\ncross 1\ncross 1\ncross none\n"
-  pub other_index : machine_text empty_map (lines (codes "layer t segments cross\nstab t 0\nlayer u segments stab\ncross u 0 0 0\nlayer p points cross\nlayer p points range\ncross p 0 0 0\n")) ≡ codes "ok\nno index\nok\nno index\nno index\nok\nno kind\n"
-  -- parts that are joined at once answer alike
-  pub joined : machine_text empty_map (lines (codes "layer b points near batch\nlayer b points batch\nlayer b points range batch top\nlayer b segments stab batch\nlayer a points range batch\nadd a 1 1 1 1\nadd a 2 2 2 1\nadd a 3 3 3 1\nadd a 4 4 4 1\ndrop a 1\ncount a 0 0 9 9\nnear a 0 0\nindex a near\n")) ≡ codes "no index\nno index\nno index\nno index\nok\nok\nok\nok\nok\nok\ncount 3\nno index\nno kind\n"
-  pub joined_lists : machine_text empty_map (lines (codes "layer a points range batch\nadd a 1 1 1 1\nadd a 2 2 2 1\nadd a 3 3 3 1\nadd a 4 4 4 1\nadd a 5 5 5 1\ndrop a 1\nadd a 6 6 6 1\nadd a 7 7 7 1\nadd a 8 8 8 1\nlist a 0 0 9 9\n")) ≡ codes "ok\nok\nok\nok\nok\nok\nok\nok\nok\nok\nlist 2 3 4 5 6 7 8\n"
+  pub other_index : machine_text empty_map (lines (codes "layer t segments cross\nlayer u segments stab\ncross u 0 0 0\ncrosscount u 0 1 0\nlayer p points range batch\nlayer p points range\ncross p 0 0 0\n")) ≡ codes "no index\nok\nno index\nno order\nno index\nok\nno kind\n"
   -- an index whose layer is dropped to nothing meanwhile is ready then
   pub late_dropped : machine_text empty_map (lines (codes "layer a points range\nadd a 1 1 1 1\nadd a 2 2 2 1\nadd a 3 3 3 1\nadd a 4 4 4 1\nadd a 5 5 5 1\nindex a top\ndrop a 5\ntop a 0 9\ndrop a 1\ndrop a 2\ndrop a 3\ndrop a 4\ntop a 0 9\nindex a near\nnear a 0 0\n")) ≡ codes "ok\nok\nok\nok\nok\nok\nok\nok\ntop 4 4\nok\nok\nok\nok\ntop none\nok\nnear none\n"

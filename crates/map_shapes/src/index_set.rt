@@ -38,17 +38,15 @@ impl IndexSet {
         }
     }
 
-    /// Whether a layer of this kind can have them: points have some of `range`, `near` and `top`, segments some of `stab` and `cross`;
-    /// and `batch` is for points that have `range` alone.
+    /// Whether a layer of this kind can have them: points have some of `range`, `near` and `top`, segments `stab`. None can have `cross` or `batch`
+    /// yet.
     pub fn fits(&self, kind: Kind) -> bool
         ensures { result ≡ fits (kind_of kind) (index_set_of self.now) }
     {
         let of_points = self.range || self.near || self.top;
-        let of_segments = self.stab || self.cross;
-        let alone = self.range && !self.near && !self.top;
         match kind {
-            Kind::Points => of_points && !of_segments && (!self.batch || alone),
-            Kind::Segments => of_segments && !of_points && !self.batch,
+            Kind::Points => of_points && !(self.stab || self.cross || self.batch),
+            Kind::Segments => !(of_points || self.cross || self.batch) && self.stab,
         }
     }
 }
