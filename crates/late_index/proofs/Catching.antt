@@ -1,5 +1,5 @@
 -- A late index that gets the items of a chain.
-use Rattle.std.proofs.Common.{◌≡◌, ◌≢◌, ℕ, ◌+◌, ◌*◌, ◌^◌, ◌<◌, ◌≤◌, ◌⊎◌, ⊎_elim, List, [], ◌∷◌, ◌++◌, Option, Some, None, inl, inr, length, map, refl, sym, ap, subst, arith}
+use Rattle.std.proofs.Common.{◌≡◌, ◌≢◌, ℕ, ◌+◌, ◌-◌, ◌*◌, ◌^◌, ◌<◌, ◌≤◌, ◌⊎◌, ⊎_elim, List, [], ◌∷◌, ◌++◌, Option, Some, None, Result, IfOk, inl, inr, length, map, refl, sym, ap, subst, arith}
 use Rattle.std.proofs.lemmas.List.{length-append}
 use Rattle.std.proofs.lemmas.List.Elements.{All-nil}
 use Rattle.query_laws.specs.Permuted.{Permuted, nothing}
@@ -11,6 +11,7 @@ use Rattle.part_store.specs.Store.{Stored}
 use Rattle.log_levels.specs.Levels.{weight_of}
 use Rattle.log_levels.specs.Trades.{AreLent, IsStocked}
 use Rattle.log_method.specs.Stack.{Stacked}
+use Rattle.log_method.proofs.Forecasting.{when_ok}
 use Rattle.chain_walk.specs.Walk.{Walked, IsWalkOf, IsKept, HandsOver, live_in, stamp_at}
 use Rattle.chain_walk.specs.Memory.{HoldsNoLess, LendsFew}
 use Rattle.chain_walk.proofs.Walking.{item_of}
@@ -26,15 +27,15 @@ module _ {P Item : Type 0} {contents : P → Contents Item} where
     weight = omega (arith, h.weight, ap length k.live, k.weight);
   }
 
-  -- as many at most
-  pub handed_more : {r r' : Walked P Item} {few most : ℕ} → few ≤ most → HandsOver contents few r r' → HandsOver contents most r r'
-  handed_more less h = record { no_fewer = h.no_fewer; at_most = omega (arith, h.at_most, less); weight = h.weight }
-
-  pub short_appended : (l : LateState P Item) (front : List (Entry Item)) (e : Entry Item) → IsPrepared contents l front
-      → IsShortOf contents (goal_of l + 1) l (front ++ e ∷ [])
-  short_appended l front e p = omega (arith, length-append front (e ∷ []), p.short)
-
 module _ {P Item : Type 0} {contents : P → Contents Item} {stamp : Item → ℕ} where
+  -- a walk that has ended took all items
+  ended : {r : Walked P Item} {es : List (Entry Item)} {stamps : ℕ} → IsWalkOf contents stamp r es stamps → r.cursor ≡ None
+      → live_in contents r.stack ≡ length es
+  ended {r} {es} own none = elim (few_before r.cursor es own.cursor) [
+    | inl all ↦ omega (arith, as_walked contents stamp r es own, all.1)
+    | inr some ↦ absurd (some.0 none)
+  ]
+
   module _ {l : LateState P Item} {es : List (Entry Item)} {stamps : ℕ} (h : IsLateOf contents stamp l es stamps) where
     -- the stack weighs a third more than all items at most
     pub weighs : 3 * weight_of l.walk.stack.levels ≤ 4 * length es
@@ -42,9 +43,6 @@ module _ {P Item : Type 0} {contents : P → Contents Item} {stamp : Item → �
 
     pub light : weight_of l.walk.stack.levels + 4 ≤ 2 ^ 31
     light = omega (arith, weighs, h.few)
-
-    pub light_within : (g : ℕ) → 2 * length es + 10 < 2 ^ (g + 1) → weight_of l.walk.stack.levels < 2 ^ (g + 1)
-    light_within g few = omega (arith, weighs, few)
 
     -- where the walk hasn't ended, some items wait in the next update
     pub some_wait : IsPrepared contents l es → l.walk.cursor ≢ None → 1 ≤ goal_of l
@@ -55,30 +53,16 @@ module _ {P Item : Type 0} {contents : P → Contents Item} {stamp : Item → �
 
     -- where it has, all items are in the stack
     pub all_walked : l.walk.cursor ≡ None → live_in contents l.walk.stack ≡ length es
-    all_walked ended = elim (few_before l.walk.cursor es h.walk.cursor) [
-      | inl all ↦ omega (arith, as_walked contents stamp l.walk es h.walk, all.1)
-      | inr some ↦ absurd (some.0 ended)
-    ]
-
-    -- the walk goes on, no further than the goal
-    pub walks : (r' : Walked P Item) (store : Stored) {most : ℕ} → IsWalkOf contents stamp r' es stamps → HandsOver contents most l.walk r'
-        → live_in contents l.walk.stack + most + goal_of l ≡ length es → IsLateOf contents stamp (record { store = store; walk = r'; waiting = l.waiting }) es stamps
-    walks r' store own handed far = record {
-      walk = own;
-      at_most = omega (arith, h.at_most, handed.no_fewer);
-      at_least = omega (arith, handed.at_most, far);
-      light = omega (arith, h.light, handed.weight, handed.no_fewer);
-      rise = h.rise;
-      differ = h.differ;
-      few = h.few;
-    }
+    all_walked none = ended h.walk none
 
   -- a walk that took as many as it was to, or came past the end, is at the goal
-  pub reaches : {l' : LateState P Item} {es : List (Entry Item)} {stamps : ℕ} (live most : ℕ) → IsLateOf contents stamp l' es stamps
-      → (l'.walk.cursor ≡ None) ⊎ (live_in contents l'.walk.stack ≡ live + most) → live + most + goal_of l' ≡ length es
-      → IsShortOf contents (goal_of l') l' es
-  reaches live most h taken far =
-      ⊎_elim (λ none. omega (arith, all_walked h none, h.at_least)) (λ all. omega (arith, all, far)) taken
+  pub reaches : {A E : Type 0} (result : Result A E) {l : LateState P Item} {r' : Walked P Item} {es : List (Entry Item)} {stamps most waiting : ℕ}
+      → IsLateOf contents stamp l es stamps → IsWalkOf contents stamp r' es stamps → HandsOver contents most l.walk r'
+      → IfOk result (λ _. (r'.cursor ≡ None) ⊎ (live_in contents r'.stack ≡ live_in contents l.walk.stack + most))
+      → live_in contents l.walk.stack + most + goal_of l ≡ length es → waiting ≡ l.waiting
+      → IfOk result (λ _. live_in contents r'.stack + (waiting - 4) ≡ length es)
+  reaches result {l} {r'} {es} {stamps} {most} {waiting} h own handed taken far same =
+      when_ok result (⊎_elim (λ none. omega (arith, ended own none, far, handed.at_most, same)) (λ all. omega (arith, all, far, same))) taken
 
   -- memory is taken
   pub kept : {r r' : Walked P Item} {es : List (Entry Item)} {stamps : ℕ} → IsKept contents r r' → IsWalkOf contents stamp r es stamps

@@ -246,6 +246,13 @@ module _ {P Item : Type 0} {contents : P → Contents Item} {stamp : Item → �
       | inr other ↦ rw (o.elsewhere was_not other) (moved_after (sym o.handed_over ∙ was_not) other store)
     ]
 
+-- the place at which a walk goes on
+pub goes_on_at : {P Item : Type 0} {contents : P → Contents Item} {stamp : Item → ℕ} {handle : ℕ} {place next : Option ℕ} {es : List (Entry Item)} {was : Bool}
+    {r r' : Walked P Item} → ((item : Item) → item_at handle es ≡ Some item → LetsGo contents stamp handle item place es was r r') → place ≡ next
+    → (item : Item) → item_at handle es ≡ Some item → LetsGo contents stamp handle item next es was r r'
+goes_on_at {contents = contents} {stamp = stamp} {handle = handle} {es = es} {was = was} {r = r} {r' = r'} goes same item is =
+    subst (λ n. LetsGo contents stamp handle item n es was r r') same (goes item is)
+
 -- what was prepared, and lets go of a linked item
 pub record HasLetGo {P Item : Type 0} (contents : P → Contents Item) (stamp : Item → ℕ) (l : LateState P Item) (es : List (Entry Item)) (handle : ℕ)
     (next : Option ℕ) (was : Bool) (r' : Walked P Item) : Type 0 where

@@ -1,7 +1,7 @@
 use Rattle.std.proofs.Common.{rules, ◌≡◌, true, false, ◌∙◌, refl, sym}
 use Rattle.id_chain.specs.Chain.{after, first_handle}
 use Rattle.late_index.proofs.Catching.{some_wait}
-use Rattle.late_index.proofs.Leaving.{HasLetGo, was_handed, as_heavy, drops_walked, drops_other, short_gone, short_kept}
+use Rattle.late_index.proofs.Leaving.{HasLetGo, goes_on_at, was_handed, as_heavy, drops_walked, drops_other, short_gone, short_kept}
 use Rattle.late_index.proofs.late.Late.commit_delete.Given.{Over}
 use Rattle.late_index.proofs.late.Late.commit_delete.Goals.{After-let_go}
 use Rattle.late_index.proofs.late.Late.commit_delete.Goals as goal
@@ -12,7 +12,7 @@ has_let_go g c = record {
   prepared = c.requires.prepared;
   going = c.requires.going;
   linked = c.requires.linked;
-  goes = λ item is. rw c.next-next.ensures.neighbour at (c.let_go.ensures.goes item is);
+  goes = goes_on_at c.let_go.ensures.goes (search rules);
 }
 
 pub overflow_sub-self : goal.overflow_sub-self

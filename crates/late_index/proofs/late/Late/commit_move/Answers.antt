@@ -1,6 +1,6 @@
 use Rattle.std.proofs.Common.{rules, ◌≡◌, true, false, ◌∙◌, Some, refl, sym}
 use Rattle.id_chain.specs.Chain.{after, first_or}
-use Rattle.late_index.proofs.Leaving.{HasLetGo, was_handed, as_heavy, replaces_walked, replaces_other, short_replaced, short_replaced_other}
+use Rattle.late_index.proofs.Leaving.{HasLetGo, goes_on_at, was_handed, as_heavy, replaces_walked, replaces_other, short_replaced, short_replaced_other}
 use Rattle.late_index.proofs.late.Late.commit_move.Given.{Over}
 use Rattle.late_index.proofs.late.Late.commit_move.Goals.{After-let_go}
 use Rattle.late_index.proofs.late.Late.commit_move.Goals as goal
@@ -11,7 +11,7 @@ has_let_go g c = record {
   prepared = c.requires.prepared;
   going = c.requires.going;
   linked = c.requires.linked;
-  goes = λ item is. rw c.next_renewed-next.ensures at (c.let_go.ensures.goes item is);
+  goes = goes_on_at c.let_go.ensures.goes (search rules);
 }
 
 pub returns-then-let_go-clause-chain : goal.returns-then-let_go-clause-chain
