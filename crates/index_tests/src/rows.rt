@@ -61,6 +61,37 @@ where
     })
 }
 
+/// The parts of a stack, and its weight, after each of its inserts.
+const TRACED: [(u32, u64); 12] = [
+    (1, 1),
+    (2, 2),
+    (2, 3),
+    (3, 4),
+    (3, 5),
+    (4, 6),
+    (4, 7),
+    (4, 8),
+    (4, 9),
+    (5, 10),
+    (5, 11),
+    (5, 12),
+];
+
+/// The parts of a binary counter, and the turns of all its inserts, after each.
+const COUNTED: [(u32, u64); 11] = [
+    (1, 3),
+    (1, 12),
+    (2, 15),
+    (1, 36),
+    (2, 39),
+    (2, 48),
+    (3, 51),
+    (1, 96),
+    (2, 99),
+    (2, 108),
+    (3, 111),
+];
+
 #[test]
 fn rows_are_as_worked(rt: HostRuntime) -> Result<(), Fail> {
     let seen = seen::<FlatBuilder<Pair>, Brand>(rt.alloc(), blank())?;
@@ -79,22 +110,8 @@ fn rows_are_as_worked(rt: HostRuntime) -> Result<(), Fail> {
         seen.built,
         ([12, 6, 6, 0], [0, 0, 1, 0], [4, 3, 18, 2, 12, 12])
     );
-    let wanted = [
-        (1, 1),
-        (2, 2),
-        (2, 3),
-        (3, 4),
-        (3, 5),
-        (4, 6),
-        (4, 7),
-        (4, 8),
-        (4, 9),
-        (5, 10),
-        (5, 11),
-        (5, 12),
-    ];
     let (ref trace, sum, consulted, live) = seen.traced;
-    assert_eq!(rt; trace.as_slice(), wanted.as_slice());
+    assert_eq!(rt; trace.as_slice(), TRACED.as_slice());
     assert_eq!(rt; (sum, consulted, live), (12, 5, 12));
     assert_eq!(rt; seen.deleted, (5, 4, 3, 3));
     let [five, six, nine] = seen.prepared;
@@ -102,21 +119,8 @@ fn rows_are_as_worked(rt: HostRuntime) -> Result<(), Fail> {
     assert_eq!(rt; six, (16, [2, 1, 1, 1]));
     assert_eq!(rt; nine, (8, [3, 2, 1, 1]));
     assert_eq!(rt; seen.retired, (7, [4, 4, 3, 1], 1, Some(3)));
-    let wanted = [
-        (1, 3),
-        (1, 12),
-        (2, 15),
-        (1, 36),
-        (2, 39),
-        (2, 48),
-        (3, 51),
-        (1, 96),
-        (2, 99),
-        (2, 108),
-        (3, 111),
-    ];
     let (ref trace, sum, consulted, live) = seen.counted;
-    assert_eq!(rt; trace.as_slice(), wanted.as_slice());
+    assert_eq!(rt; trace.as_slice(), COUNTED.as_slice());
     assert_eq!(rt; (sum, consulted, live), (11, 3, 11));
     assert_eq!(rt; seen.shrunk, ([0, 1, 20], [35, 4, 3], [1, 0]));
     Ok(())

@@ -55,32 +55,28 @@ fn lines_have_256_bytes(rt: HostRuntime) -> Result<(), Fail> {
     Ok(())
 }
 
-/// 67,108,864 bytes: lines of 256 bytes, their line feeds included, and a last one of as many as are left over after the first so many lines, with
-/// no line feed where that is more.
-fn longest_script(alloc: Global, lines: u32) -> Result<Vec<u8>, AllocError> {
-    let mut line = comment(alloc, 255)?;
-    line.push(b'\n')?;
-    let mut script = Vec::with_capacity(alloc, 67_108_865)?;
-    for _ in 0..lines {
-        script.extend_from_slice(&line)?;
-    }
-    let left = 67_108_864usize.saturating_sub(script.len());
+/// A question, and a comment that no line feed ends: so many bytes together.
+fn question_and_comment(alloc: Global, len: usize) -> Result<Vec<u8>, AllocError> {
+    let mut script = Vec::with_capacity(alloc, len)?;
+    script.extend_from_slice(b"size a\n")?;
+    let left = len.saturating_sub(script.len());
     script.extend_from_slice(&comment(alloc, left)?)?;
     Ok(script)
 }
 
-/// A script with a byte more than the greatest length, and one of that length, whose last line no line feed ends, and is longer than a line can
-/// be.
+/// A script of the greatest length, whose last line is longer than a line can be; and one of a byte more, of which only the lines that a line
+/// feed ended are answered.
 #[test]
 fn scripts_have_64_mebibytes(rt: HostRuntime) -> Result<(), Fail> {
-    for (lines, is_longer, wanted, status) in [
-        (262_144, true, b"".as_slice(), Status::TooLong),
-        (262_142, false, b"no line\n", Status::Refusals),
+    for (len, wanted, status) in [
+        (
+            67_108_864,
+            b"no layer\nno line\n".as_slice(),
+            Status::Refusals,
+        ),
+        (67_108_865, b"no layer\n", Status::TooLong),
     ] {
-        let mut script = longest_script(rt.alloc(), lines)?;
-        if is_longer {
-            script.push(b'#')?;
-        }
+        let script = question_and_comment(rt.alloc(), len)?;
         let ran = run_words(rt.alloc(), &[], &script, WHOLE, WHOLE, 64)?;
         assert_eq!(rt; (ran.status, ran.written.as_slice()), (status, wanted));
     }
