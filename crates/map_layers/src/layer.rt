@@ -155,11 +155,7 @@ impl<P: OverPoints, S: OverSegments> Layer<P, S> {
     }
 
     /// Gives it an index that it hasn't, which waits for all items: `WrongKind` where it has segments, `Standing` where it has the index.
-    pub(crate) fn add_index(
-        &mut self,
-        alloc: Global,
-        index: PointIndex,
-    ) -> Result<(), IndexFault>
+    pub(crate) fn add_index(&mut self, alloc: Global, index: PointIndex) -> Result<(), IndexFault>
         ensures begun { IsIndexIn self.old.layer (index_of index) self.new.layer result }
         ensures name { name_in self.new ≡ name_in self.old }
         ensures limit { self.new.most_items ≡ self.old.most_items }

@@ -422,14 +422,14 @@ points_read false true false false false false v h = record { some = omega arith
 points_read false false true false false false v h = record { some = omega arith; read = refl }
 points_read _ _ _ _ _ _ v h = absurd (false≢true h)
 
-segments_read : (range near top batch stab cross : Bool) (v : Values) → fits Segments (set_of range near top stab cross batch) ≡ true → IsRead Segments (set_of range near top stab cross batch) v
+segments_read : (range near top cross batch stab : Bool) (v : Values) → fits Segments (set_of range near top stab cross batch) ≡ true → IsRead Segments (set_of range near top stab cross batch) v
 unfolding command_of
-segments_read false false false false true false v h = record { some = omega arith; read = refl }
+segments_read false false false false false true v h = record { some = omega arith; read = refl }
 segments_read _ _ _ _ _ _ v h = absurd (false≢true h)
 
 indexes_read : (kind : Kind) (s : IndexSet) (v : Values) → fits kind s ≡ true → IsRead kind s v
 indexes_read Points s v h = points_read s.range s.near s.top s.stab s.cross s.batch v h
-indexes_read Segments s v h = segments_read s.range s.near s.top s.batch s.stab s.cross v h
+indexes_read Segments s v h = segments_read s.range s.near s.top s.cross s.batch s.stab v h
 
 -- the words of a set are plain, and at most six
 one_word_plain : (b : Bool) (word : List ℕ) → IsPlainWord word → ArePlainWords (word_if b word)
