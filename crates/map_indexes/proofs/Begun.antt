@@ -23,7 +23,7 @@ use Rattle.map_indexes.specs.IndexesLaws.{there-held}
 abbrev pub no_memory : Memory
 no_memory = record { parts = []; unwalked = None }
 
-module _ {P I : Type 0} where
+module _ (P : Type 0) {I : Type 0} where
   -- it is there
   pub begun-held : (es : List (Entry I)) → is_some (parts_held (begun {P = P} es)) ≡ true
   begun-held [] = refl
@@ -34,6 +34,7 @@ module _ {P I : Type 0} where
   begun-waits item_of [] = refl
   begun-waits item_of (e ∷ es) = sym (as_many_items item_of (e ∷ es))
 
+module _ {P I : Type 0} where
   -- it has no memory
   begun-memory : (contents : P → Contents I) (es : List (Entry I)) → memories_of contents (begun es) ≡ no_memory ∷ []
   begun-memory contents [] = refl
@@ -96,8 +97,8 @@ module _ {X P I : Type 0} (old new : Layered X I) (place : Placed P I) (put : Pl
           ap (layer_seen kind item_of held) h.put_in ∙ (λ j. record {
             name = old.name;
             kind = kind;
-            indexes = set q (begun-held old.entries) j;
-            waits = (waits q ∙ ap (with_wait (held old.indexes).waits i) (begun-waits item_of old.entries)) j;
+            indexes = set q (begun-held P old.entries) j;
+            waits = (waits q ∙ ap (with_wait (held old.indexes).waits i) (begun-waits P item_of old.entries)) j;
             inserted = old.adds;
             items = items_of item_of old.entries;
           }),

@@ -143,11 +143,14 @@ module _ {P Q R I J K : Type 0} where
   points-by_waits a a' b b' c c' f zero same =
       points-named a' b' c' ∙ ap waits_by same ∙ named-after f zero a b c ∙ ap (each_after f) (sym (points-named a b c))
 
-  pub points-few : (r s t : Rate) (a : Placed P I) (b : Placed Q J) (c : Placed R K) → length (three r s t a b c) ≡ 3
-  points-few r s t a b c = ap length (three-is r s t a b c)
+  three-long : (r s t : Rate) (a : Placed P I) (b : Placed Q J) (c : Placed R K) → length (three r s t a b c) ≡ 3
+  three-long r s t a b c = ap length (three-is r s t a b c)
+
+  pub points-few : (r s t : Rate) (a : Placed P I) (b : Placed Q J) (c : Placed R K) → length (three r s t a b c) ≤ 4
+  points-few r s t a b c = omega (arith, three-long r s t a b c)
 
   pub points-as_many : (r s t : Rate) (a a' : Placed P I) (b b' : Placed Q J) (c c' : Placed R K) → length (three r s t a b c) ≡ length (three r s t a' b' c')
-  points-as_many r s t a a' b b' c c' = points-few r s t a b c ∙ sym (points-few r s t a' b' c')
+  points-as_many r s t a a' b b' c c' = three-long r s t a b c ∙ sym (three-long r s t a' b' c')
 
 -- ---- segments
 
@@ -189,8 +192,10 @@ module _ {P I : Type 0} where
       ap ready_count (one_wait a) ∙ ap (λ n. ready_count (where_there n (is_there a) ∷ [])) none ∙ one_ready (is_there a)
       ∙ (λ i. 0 + 0 + 0 + (if sym (there-held a) i then 1 else 0) + 0)
 
-  pub segments-few : (r : Rate) (a : Placed P I) → length (rates_of r a) ≡ 1
-  segments-few r a = ap length (one_rate r a)
+  pub segments-few : (r : Rate) (a : Placed P I) → length (rates_of r a) ≤ 4
+  segments-few r Absent = omega arith
+  segments-few r (Whole i) = omega arith
+  segments-few r (Late l) = omega arith
 
   wait-first : (a : Placed P I) → wait_in a ≡ first_wait (waits_of a)
   wait-first Absent = refl

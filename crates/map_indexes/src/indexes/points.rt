@@ -1,6 +1,6 @@
 //! The indexes of points.
 ghost use Rattle.std.specs.Prelude.{◌≡◌};
-ghost use Rattle.std.proofs.Common.{arith, refl};
+ghost use Rattle.std.proofs.Common.{refl};
 
 use crate::asking::ask_of;
 use id_chain::{Chain, Handle};
@@ -182,7 +182,7 @@ impl NamedIndexes for PointIndexes {
 
     ghost ready = { λ s. points-ready s.indexes.0 s.indexes.1.0 s.indexes.1.1 };
 
-    ghost few = { λ s. Prim.omega (arith, points-few _ _ _ s.indexes.0 s.indexes.1.0 s.indexes.1.1) };
+    ghost few = { λ s. points-few _ _ _ s.indexes.0 s.indexes.1.0 s.indexes.1.1 };
 }
 
 impl OverPoints for PointIndexes {

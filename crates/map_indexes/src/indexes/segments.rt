@@ -1,6 +1,6 @@
 //! The index of segments.
 ghost use Rattle.std.specs.Prelude.{◌≡◌};
-ghost use Rattle.std.proofs.Common.{arith, refl};
+ghost use Rattle.std.proofs.Common.{refl};
 ghost use Rattle.layer_kinds.specs.Indexing.{wait_in};
 
 use crate::asking::ask_of;
@@ -114,7 +114,7 @@ impl NamedIndexes for SegmentIndexes {
 
     ghost ready = { λ s. segments-ready s.index s.ready };
 
-    ghost few = { λ s. Prim.omega (arith, segments-few _ s.index) };
+    ghost few = { λ s. segments-few _ s.index };
 }
 
 impl OverSegments for SegmentIndexes {
