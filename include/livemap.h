@@ -44,13 +44,14 @@ enum {
     LIVEMAP_NO_LAYER,        /* layer: none of this name */
     LIVEMAP_WRONG_KIND,      /* kind: points for segments, or segments for points */
     LIVEMAP_NO_INDEX,        /* index: the layer lacks the one for this question */
-    LIVEMAP_TAKEN,           /* taken: there is a layer of this name */
+    LIVEMAP_TAKEN,           /* taken: there is a layer of this name, or it has this index */
     LIVEMAP_NO_ROOM,         /* room: there are eight layers */
     LIVEMAP_DUPLICATE,       /* duplicate: the identifier is live */
     LIVEMAP_UNKNOWN,         /* unknown: the identifier isn't live */
     LIVEMAP_FULL,            /* full: the layer has 65,536 items */
     LIVEMAP_NO_MEMORY,       /* memory: the map is as it was */
-    LIVEMAP_HAS_LAYERS       /* version: there is a layer already */
+    LIVEMAP_HAS_LAYERS,      /* version: there is a layer already */
+    LIVEMAP_BUILDING         /* building: the index for this question waits for items: livemap_numbers tells for how many */
 };
 
 /* The bytes of a map. */
@@ -97,7 +98,7 @@ static inline void livemap_free(livemap *at) {
 /* Why the last line was refused. */
 static inline int livemap_why(livemap *at) {
     static const char *const words[] = {"line", "command", "fields", "name", "number", "range", "order", "layer",
-                                        "kind", "index", "taken", "room", "duplicate", "unknown", "full", "memory", "version"};
+                                        "kind", "index", "taken", "room", "duplicate", "unknown", "full", "memory", "version", "building"};
     uint8_t text[16] = {0};
     livemap_text(at, text, sizeof text);
     for (size_t i = 0; i < sizeof words / sizeof *words; i++) {
@@ -174,6 +175,14 @@ static inline int livemap_choose_version(livemap *at, int version) {
 static inline int livemap_points(livemap *at, const char *layer, unsigned indexes) {
     return livemap_say(at, "layer %s points%s%s%s", layer, indexes & LIVEMAP_RANGE ? " range" : "", indexes & LIVEMAP_NEAR ? " near" : "",
                        indexes & LIVEMAP_TOP ? " top" : "");
+}
+
+/* Gives a layer of points in use a further index: LIVEMAP_RANGE, LIVEMAP_NEAR or LIVEMAP_TOP. It waits for all items, and each update hands it
+ * the next four; until it waits for none its questions are LIVEMAP_BUILDING. LIVEMAP_OK, LIVEMAP_NO_LAYER, LIVEMAP_WRONG_KIND of segments,
+ * LIVEMAP_TAKEN where the layer has it, and LIVEMAP_BAD_FIELDS of none or several. */
+static inline int livemap_add_index(livemap *at, const char *layer, unsigned index) {
+    return livemap_say(at, "index %s%s%s%s", layer, index & LIVEMAP_RANGE ? " range" : "", index & LIVEMAP_NEAR ? " near" : "",
+                       index & LIVEMAP_TOP ? " top" : "");
 }
 
 /* Makes a layer of segments. */

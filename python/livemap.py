@@ -31,7 +31,7 @@ from typing import Iterable, List, NamedTuple, Optional, Type, Union
 
 __all__ = [
     "Map", "Points", "Segments", "Found", "Peak", "Point", "Segment", "Refused", "BadLine", "NoLayer", "WrongKind", "NoIndex", "Taken",
-    "NoRoom", "Duplicate", "UnknownId", "Full", "HasLayers", "NoMemory", "WornOut",
+    "NoRoom", "Duplicate", "UnknownId", "Full", "HasLayers", "Building", "NoMemory", "WornOut",
 ]
 
 
@@ -86,7 +86,7 @@ class NoIndex(Refused):
 
 
 class Taken(Refused):
-    """There is a layer of this name."""
+    """There is a layer of this name, or it has this index."""
 
 
 class NoRoom(Refused):
@@ -95,6 +95,10 @@ class NoRoom(Refused):
 
 class HasLayers(Refused):
     """There is a layer already, so the version stays."""
+
+
+class Building(Refused):
+    """The index for this question waits for items, as many as the text says: `no building 6`."""
 
 
 class Duplicate(Refused):
@@ -119,7 +123,7 @@ class WornOut(Exception):
 
 _REFUSALS: dict[str, Type[Refused]] = {
     "layer": NoLayer, "kind": WrongKind, "index": NoIndex, "taken": Taken, "room": NoRoom, "duplicate": Duplicate, "unknown": UnknownId,
-    "full": Full, "version": HasLayers, "memory": NoMemory,
+    "full": Full, "version": HasLayers, "memory": NoMemory, "building": Building,
 }
 
 # The statuses of include/livemap.h.
@@ -262,6 +266,11 @@ class Layer:
 
 class Points(Layer):
     """A layer of points."""
+
+    def add_index(self, index: str) -> None:
+        """Gives the layer in use a further index, `range`, `near` or `top`. It waits for all items, and each update hands it the next four; until
+        it waits for none its questions raise `Building`."""
+        self.map._ask(f"index {self.name} {index}")
 
     def add(self, id: int, x: int, y: int, w: int = 0) -> None:
         """Adds a point of weight `w`."""

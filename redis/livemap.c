@@ -1,7 +1,7 @@
 /* Livemap behind Redis 7.0: a key is a map. Each command says one line of the language, and has the answer as Redis' own replies:
  *
  *     LM.LIVEMAP key V     LM.LAYER key NAME points|segments INDEX..     LM.ADD key NAME ID X Y W     LM.SEG key NAME ID LO HI Y
- *     LM.MOVE key NAME ID X Y W     LM.DROP key NAME ID
+ *     LM.INDEX key NAME INDEX     LM.MOVE key NAME ID X Y W     LM.DROP key NAME ID
  *     LM.COUNT, LM.SUM, LM.LIST key NAME X1 Y1 X2 Y2     LM.NEAR key NAME X Y     LM.NEAREST key NAME K X Y
  *     LM.TOP key NAME X1 X2     LM.ABOVE key NAME X1 X2 Y     LM.STAB, LM.STABCOUNT key NAME X
  *     LM.GET key NAME ID     LM.SIZE key NAME     LM.RECENT key NAME K     LM.LINE key LINE
@@ -11,8 +11,9 @@
  *
  * An update is replicated, and goes into the append-only file, once it is accepted; no refused one does, since a replay may have the
  * memory that it lacked. The lines that chose the version, made the layers and added what is live, a moved point where it is now, are kept
- * beside the map, in order: these are what a dump and a rewritten append-only file have. That they make a map with the same answers is what
- * the map's contract says; costs may differ.
+ * beside the map, in order: these are what a dump and a rewritten append-only file have. A further index is written behind the line that
+ * made its layer. That they make a map with the same answers is what the map's contract says; but no index waits there, and costs may
+ * differ.
  *
  * The few calls of the module API that are used are declared here, since Debian has no header of it. */
 #include <stdint.h>
@@ -79,6 +80,7 @@ enum { OK = 0, FAILED = 1, READ = 1, WRITE = 2, EMPTY = 0, LOADING = 1 << 13, RE
     X(void, FreeDict, (Ctx *, Dict *))                                                                                                          \
     X(uint64_t, DictSize, (Dict *))                                                                                                             \
     X(int, DictSetC, (Dict *, void *, size_t, void *))                                                                                          \
+    X(void *, DictGetC, (Dict *, void *, size_t, int *))                                                                                        \
     X(int, DictDelC, (Dict *, void *, size_t, void *))                                                                                          \
     X(DictIter *, DictIteratorStartC, (Dict *, const char *, void *, size_t))                                                                   \
     X(void *, DictNextC, (DictIter *, size_t *, void **))                                                                                       \
@@ -126,7 +128,7 @@ typedef struct {
     size_t kept;  /* of the lines */
     uint64_t next;
     Dict *lines;  /* by their numbers, in order: those that chose the version, made the layers and added what is live */
-    Dict *adds;   /* the number of the line that added an item, by layer and identifier */
+    Dict *adds;   /* the number of the line that made a layer, and of that which added an item, by layer and identifier */
 } Value;
 
 /* The words of a line, at most those of an add. */
@@ -153,7 +155,7 @@ static int is_word(const Words *words, int k, const char *word) {
 }
 
 static int is_update(const Words *words) {
-    static const char *const updates[] = {"livemap", "layer", "add", "seg", "move", "drop"};
+    static const char *const updates[] = {"livemap", "layer", "index", "add", "seg", "move", "drop"};
     for (size_t i = 0; i < sizeof updates / sizeof *updates; i++) {
         if (is_word(words, 0, updates[i])) return 1;
     }
@@ -169,18 +171,24 @@ static Number number_key(uint64_t n) {
     return key;
 }
 
-/* The layer and the identifier of an accepted update, as a key of a dict. */
+/* The layer of an accepted update, and behind it the identifier where there is one, as a key of a dict. */
 typedef struct { char bytes[16 + 1 + 8]; size_t size; } Item;
 
+static Item layer_key(const Words *words) {
+    Item layer;
+    memcpy(layer.bytes, words->at[1], words->size[1]);
+    layer.bytes[words->size[1]] = 0;
+    layer.size = words->size[1] + 1;
+    return layer;
+}
+
 static Item item_key(const Words *words) {
-    Item item;
+    Item item = layer_key(words);
     uint64_t id = 0;
     for (size_t i = 0; i < words->size[2]; i++) id = id * 10 + (uint64_t)(words->at[2][i] - '0');
     Number number = number_key(id);
-    memcpy(item.bytes, words->at[1], words->size[1]);
-    item.bytes[words->size[1]] = 0;
-    memcpy(item.bytes + words->size[1] + 1, number.bytes, 8);
-    item.size = words->size[1] + 9;
+    memcpy(item.bytes + item.size, number.bytes, 8);
+    item.size += 8;
     return item;
 }
 
@@ -226,11 +234,35 @@ static void keep(Value *value, const Words *words, const char *text, size_t size
     value->kept += RM_MallocSize(line);
     Number number = number_key(value->next);
     RM_DictSetC(value->lines, number.bytes, 8, line);
-    if (!is_word(words, 0, "livemap") && !is_word(words, 0, "layer")) {
-        Item item = item_key(words);
+    if (!is_word(words, 0, "livemap")) {
+        Item item = is_word(words, 0, "layer") ? layer_key(words) : item_key(words);
         RM_DictSetC(value->adds, item.bytes, item.size, (void *)(uintptr_t)value->next);
     }
     value->next++;
+}
+
+/* Keeps a further index of a layer, behind the line that made the layer. That is written anew by its words, so that it has no more than 256
+ * bytes. */
+static void keep_index(Value *value, const Words *words) {
+    Item layer = layer_key(words);
+    Number number = number_key((uint64_t)(uintptr_t)RM_DictGetC(value->adds, layer.bytes, layer.size, NULL));
+    void *at = NULL;
+    if (RM_DictDelC(value->lines, number.bytes, 8, &at) != OK) return;
+    Line *was = at;
+    Words all = words_of(was->text, was->size);
+    /* The layer lacked one of three indexes, so this is at most the sixth word. */
+    all.at[all.count] = words->at[2];
+    all.size[all.count++] = words->size[2];
+    Line *line = RM_Alloc(sizeof *line + was->size + 1 + words->size[2]);
+    line->size = 0;
+    for (int i = 0; i < all.count; i++) {
+        if (i) line->text[line->size++] = ' ';
+        memcpy(line->text + line->size, all.at[i], all.size[i]);
+        line->size += all.size[i];
+    }
+    RM_DictSetC(value->lines, number.bytes, 8, line);
+    value->kept += RM_MallocSize(line) - RM_MallocSize(was);
+    RM_Free(was);
 }
 
 /* Forgets the line that added an item, since it was moved or dropped. */
@@ -251,7 +283,8 @@ static uint32_t execute(Value *value, const char *text, size_t size) {
     if (status != LIVEMAP_OK) return status;
     Words words = words_of(text, size);
     if (is_word(&words, 0, "drop") || is_word(&words, 0, "move")) forget(value, &words);
-    if (is_update(&words) && !is_word(&words, 0, "drop")) keep(value, &words, text, size);
+    if (is_word(&words, 0, "index")) keep_index(value, &words);
+    else if (is_update(&words) && !is_word(&words, 0, "drop")) keep(value, &words, text, size);
     return status;
 }
 
@@ -400,8 +433,9 @@ static int line_command(Ctx *ctx, String **words, int count) {
 }
 
 #define SAYS(X)                                                                                                                                 \
-    X(livemap, READ | WRITE, "write deny-oom fast") X(layer, READ | WRITE, "write deny-oom fast") X(add, READ | WRITE, "write deny-oom fast")   \
-    X(seg, READ | WRITE, "write deny-oom fast") X(move, READ | WRITE, "write deny-oom fast") X(drop, READ | WRITE, "write fast")                \
+    X(livemap, READ | WRITE, "write deny-oom fast") X(layer, READ | WRITE, "write deny-oom fast")                                               \
+    X(index, READ | WRITE, "write deny-oom fast") X(add, READ | WRITE, "write deny-oom fast") X(seg, READ | WRITE, "write deny-oom fast")       \
+    X(move, READ | WRITE, "write deny-oom fast") X(drop, READ | WRITE, "write fast")                                                            \
     X(count, READ, "readonly fast") X(sum, READ, "readonly fast") X(list, READ, "readonly") X(near, READ, "readonly fast")                      \
     X(nearest, READ, "readonly fast") X(top, READ, "readonly fast") X(above, READ, "readonly") X(stab, READ, "readonly")                        \
     X(stabcount, READ, "readonly fast") X(get, READ, "readonly fast") X(size, READ, "readonly fast") X(recent, READ, "readonly fast")

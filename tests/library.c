@@ -154,7 +154,7 @@ static void try_refusals(void) {
         {LIVEMAP_BAD_FIELDS, "size"}, {LIVEMAP_BAD_NAME, "size a.b"}, {LIVEMAP_BAD_NUMBER, "get a -1"}, {LIVEMAP_BAD_RANGE, "recent a 65"},
         {LIVEMAP_BAD_ORDER, "top a 2 1"}, {LIVEMAP_NO_LAYER, "size b"}, {LIVEMAP_WRONG_KIND, "stab a 1"}, {LIVEMAP_NO_INDEX, "near a 1 1"},
         {LIVEMAP_TAKEN, "layer a points near"}, {LIVEMAP_DUPLICATE, "add a 1 2 2 2"}, {LIVEMAP_UNKNOWN, "drop a 2"},
-        {LIVEMAP_HAS_LAYERS, "livemap 2"}, {LIVEMAP_UNKNOWN, "move a 2 2 2 2"},
+        {LIVEMAP_HAS_LAYERS, "livemap 2"}, {LIVEMAP_UNKNOWN, "move a 2 2 2 2"}, {LIVEMAP_OK, "index a near"}, {LIVEMAP_BUILDING, "near a 1 1"},
     };
     livemap *map = livemap_new();
     CHECK(livemap_points(map, "a", LIVEMAP_RANGE) == LIVEMAP_OK && livemap_add_point(map, "a", 1, 1, 1, 1) == LIVEMAP_OK);
@@ -162,6 +162,28 @@ static void try_refusals(void) {
     CHECK(livemap_say(map, "size %0300d", 1) == LIVEMAP_BAD_LINE);
     for (int i = 1; i < 8; i++) CHECK(livemap_say(map, "layer l%d segments stab", i) == LIVEMAP_OK);
     CHECK(livemap_segments(map, "l8") == LIVEMAP_NO_ROOM);
+    livemap_free(map);
+}
+
+/* A further index waits for all items, and is handed four with each update. */
+static void try_late_index(void) {
+    livemap *map = livemap_new();
+    livemap_found found;
+    uint64_t waits = 0;
+    size_t count = 0;
+    CHECK(livemap_points(map, "a", LIVEMAP_RANGE) == LIVEMAP_OK && livemap_segments(map, "s") == LIVEMAP_OK);
+    for (uint32_t i = 1; i <= 10; i++) CHECK(livemap_add_point(map, "a", i, i, i, 1) == LIVEMAP_OK);
+    CHECK(livemap_add_index(map, "a", LIVEMAP_NEAR) == LIVEMAP_OK && livemap_near(map, "a", 0, 0, &found) == LIVEMAP_BUILDING);
+    CHECK(livemap_numbers(map, &waits, 1, &count) == LIVEMAP_OK && count == 1 && waits == 10);
+    CHECK(livemap_remove(map, "a", 1) == LIVEMAP_OK && livemap_near(map, "a", 0, 0, &found) == LIVEMAP_BUILDING);
+    CHECK(livemap_numbers(map, &waits, 1, &count) == LIVEMAP_OK && waits == 6);
+    CHECK(livemap_add_point(map, "a", 11, 11, 11, 1) == LIVEMAP_OK && livemap_near(map, "a", 0, 0, &found) == LIVEMAP_BUILDING);
+    CHECK(livemap_numbers(map, &waits, 1, &count) == LIVEMAP_OK && waits == 3);
+    CHECK(livemap_add_point(map, "a", 12, 12, 12, 1) == LIVEMAP_OK);
+    CHECK(livemap_near(map, "a", 0, 0, &found) == LIVEMAP_OK && found.id == 2 && found.distance == 8);
+    CHECK(livemap_add_index(map, "a", LIVEMAP_NEAR) == LIVEMAP_TAKEN && livemap_add_index(map, "s", LIVEMAP_TOP) == LIVEMAP_WRONG_KIND);
+    CHECK(livemap_add_index(map, "b", LIVEMAP_RANGE) == LIVEMAP_NO_LAYER);
+    CHECK(livemap_add_index(map, "a", 0) == LIVEMAP_BAD_FIELDS && livemap_add_index(map, "a", LIVEMAP_RANGE | LIVEMAP_TOP) == LIVEMAP_BAD_FIELDS);
     livemap_free(map);
 }
 
@@ -288,6 +310,7 @@ int main(int count, char **words) {
     try_all("segments", try_segments);
     try_all("version 2", try_version_2);
     try_all("refusals", try_refusals);
+    try_all("late_index", try_late_index);
     try_all("full", try_full);
     try_all("text", try_text);
     try_all("no_text", try_no_text);

@@ -92,6 +92,26 @@ class Library(unittest.TestCase):
             self.map.segments(f"layer{k}")
         self.assertRaises(livemap.NoRoom, self.map.segments, "one_more")
 
+    def test_late_index(self):
+        """A further index waits for all items, and is handed four with each update."""
+        cars, roads = self.map.points("cars", "range"), self.map.segments("roads")
+        for id in range(1, 11):
+            cars.add(id, id, id)
+        cars.add_index("near")
+        for waits, update in [(10, lambda: cars.drop(1)), (6, lambda: cars.add(11, 11, 11)), (3, lambda: cars.add(12, 12, 12))]:
+            for ask in (lambda: cars.near(0, 0), lambda: cars.nearest(2, 0, 0)):
+                with self.subTest(waits=waits), self.assertRaisesRegex(livemap.Building, f"^no building {waits}$"):
+                    ask()
+            self.assertEqual(cars.count(0, 0, 99, 99), len(cars))
+            update()
+        self.assertEqual((cars.near(0, 0), cars.nearest(2, 12, 12)), ((2, 8), [(12, 0), (11, 2)]))
+        for cause, layer, index in [
+            (livemap.Taken, cars, "near"), (livemap.Taken, cars, "range"), (livemap.NoIndex, cars, "stab"), (livemap.BadLine, cars, ""),
+            (livemap.WrongKind, livemap.Points(self.map, roads.name), "near"), (livemap.NoLayer, livemap.Points(self.map, "nowhere"), "near"),
+        ]:
+            with self.subTest(cause=cause.__name__), self.assertRaises(cause):
+                layer.add_index(index)
+
     def test_full(self):
         cars = self.map.points("cars", "range")
         self.assertEqual(self.map.answer(f"add cars {i} {i} {i} 1" for i in range(65536)), ["ok"] * 65536)

@@ -189,6 +189,47 @@ class Redis(unittest.TestCase):
         self.compare(ask, plain)
         self.assertNotIn("is refused", pathlib.Path(server.folder, "log").read_text())
 
+    def test_late_index(self):
+        """By the commands themselves a further index waits as it did. What is dumped or rewritten makes it with its layer, so that it doesn't wait,
+        and there is room for it however long the layer's line was."""
+        dumped = self.serve("--save", "", "--enable-debug-command", "yes").client()
+        server = self.serve("--save", "", "--appendonly", "yes", "--aof-use-rdb-preamble", "no")
+        written = server.client()
+        for ask in (dumped, written):
+            self.assertEqual(ask.line("map", "layer cars points range".ljust(256) + "\r"), "ok")
+            self.assertEqual(ask("LM.LAYER", "map", "roads", "segments", "stab"), "OK")
+            for id in range(1, 11):
+                ask("LM.ADD", "map", "cars", id, id, id, 1)
+            self.assertEqual((ask("LM.INDEX", "map", "cars", "near"), ask.line("map", "near cars 0 0")), ("OK", "no building 10"))
+            ask("LM.DROP", "map", "cars", 1)
+            for words, wanted in [
+                ("LM.NEAR map cars 0 0", "ERR no building 6"), ("LM.INDEX map cars near", "ERR no taken"), ("LM.INDEX map cars far", "ERR no index"),
+                ("LM.INDEX map roads near", "ERR no kind"), ("LM.INDEX map shops near", "ERR no layer"), ("LM.INDEX map cars", "ERR no fields"),
+            ]:
+                with self.subTest(words), self.assertRaises(Refused) as refused:
+                    ask(*words.split())
+                self.assertEqual(str(refused.exception), wanted)
+        self.assertEqual(dumped("DEBUG", "RELOAD"), "OK")
+        self.assertEqual((dumped.line("map", "index cars near"), dumped("LM.NEAR", "map", "cars", 0, 0)), ("no taken", [2, 8]))
+        self.assertEqual((dumped.line("map", "index cars top\r"), dumped.line("map", "top cars 0 99")), ("ok", "no building 9"))
+        self.assertEqual((dumped("DEBUG", "RELOAD"), dumped.line("map", "top cars 0 99")), ("OK", "top 10 10"))
+
+        server.kill()
+        server.start()
+        ask = server.client()
+        self.assertEqual(ask.line("map", "near cars 0 0"), "no building 6")
+        ask("LM.ADD", "map", "cars", 11, 11, 11, 1)
+        self.assertEqual(ask.line("map", "near cars 0 0"), "no building 3")
+        ask("BGREWRITEAOF")
+        self.wait_for(lambda: ask.info("aof_rewrite_in_progress") == "0" and ask.info("aof_rewrite_scheduled") == "0")
+        server.kill()
+        server.start()
+        ask = server.client()
+        self.assertEqual((ask("LM.NEAR", "map", "cars", 0, 0), ask("LM.RECENT", "map", "cars", 1)), ([2, 8], [11]))
+        ask("LM.ADD", "map", "cars", 12, 12, 12, 1)
+        self.assertEqual(ask("LM.NEAR", "map", "cars", 12, 12), [12, 0])
+        self.assertNotIn("is refused", pathlib.Path(server.folder, "log").read_text())
+
     def test_killed(self):
         """Of 30,000 updates each that was acknowledged is there after the server is killed, and at most one more."""
         def update(i):
