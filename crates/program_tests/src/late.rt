@@ -5,7 +5,7 @@ use program_run::Status;
 use std::alloc::{AllocError, Global};
 use std::test::Fail;
 
-const ROWS: [Row; 8] = [
+const ROWS: [Row; 9] = [
     // Four items an update, with one that is dropped and one that comes.
     (
         &[],
@@ -46,6 +46,13 @@ const ROWS: [Row; 8] = [
         &[],
         b"layer a points near\nadd a 1 1 1 1\nadd a 2 2 2 1\nadd a 3 3 3 1\nindex a range\nindex a top\ncount a 0 0 9 9\ntop a 0 9\nnear a 0 0\nadd a 4 4 4 4\ncount a 0 0 9 9\nsum a 0 0 9 9\nlist a 0 0 9 9\ntop a 0 9\nabove a 0 9 3\ndrop a 4\nsum a 0 0 9 9\ntop a 0 9\n",
         "ok\nok\nok\nok\nok\nok\nno building 3\nno building 3\nnear 1 2\nok\ncount 4\nsum 7\nlist 1 2 3 4\ntop 4 4\nabove 3 4\nok\nsum 3\ntop 3 3\n",
+        true,
+    ),
+    // Two wait for different numbers, beside moves, and the last items that they wait for are dropped. Other questions are answered meanwhile.
+    (
+        &[],
+        b"layer a points range\nadd a 1 1 1 1\nadd a 2 2 2 1\nadd a 3 3 3 1\nadd a 4 4 4 1\nadd a 5 5 5 1\nadd a 6 6 6 1\nadd a 7 7 7 1\nadd a 8 8 8 1\nadd a 9 9 9 1\nadd a 10 10 10 1\nindex a near\nmove a 1 20 20 5\nindex a top\nnear a 0 0\ntop a 0 99\nsize a\nget a 1\nrecent a 2\ncount a 0 0 9 9\nmove a 10 30 30 7\nnear a 0 0\ntop a 0 99\ndrop a 10\nnear a 30 30\ntop a 0 99\ndrop a 1\ntop a 0 99\nnear a 30 30\n",
+        "ok\nok\nok\nok\nok\nok\nok\nok\nok\nok\nok\nok\nok\nok\nno building 7\nno building 10\nsize 10\nget 20 20 5\nrecent 1 10\ncount 8\nok\nno building 3\nno building 6\nok\nnear 1 200\nno building 1\nok\ntop 9 9\nnear 9 882\n",
         true,
     ),
     // The first fault of each line.
