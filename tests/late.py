@@ -1,11 +1,11 @@
 #!/usr/bin/env python3
 """Tests an index that is made late, with costs: `late.py SIZE [PROGRAM]`, SIZE from 1 to 65,536, PROGRAM being ./livemap where none is named.
 
-A layer `points range near` is filled with SIZE points, and gets `top`. Then, SIZE times, its oldest point is dropped and a new one added. A question
-for `top` follows each update until the index is ready, and then some do. A second run does the same to a layer with all three from the start.
+A layer `points range` is filled with SIZE points, and gets `near`. Then, SIZE times, its oldest point is dropped and a new one added. A question
+for `near` follows each update until the index is ready, and then some do. A second run does the same to a layer with both from the start.
 
 It fails where an update costs more than the bound beside it, where `no building N` has another number than docs/LANGUAGE.md's rule, where the index
-isn't ready after between SIZE / 4 and SIZE / 3 + 1 updates, or where `top` isn't the answer of a scan.
+isn't ready after between SIZE / 4 and SIZE / 3 + 1 updates, or where `near` isn't the answer of a scan.
 
 It prints after how many updates the index was ready, and a table: for the updates until then and for all of them, in each of the two runs, the mean
 and the largest number of turns an update."""
@@ -33,10 +33,10 @@ def points():
         yield tuple(numbers)
 
 
-def highest(live, left, right):
-    """The answer to `top`, by a scan."""
-    found = min(((-y, id) for id, (x, y, _) in live.items() if left <= x <= right), default=None)
-    return f"top {found[1]} {-found[0]}" if found else "top none"
+def nearest(live, x, y):
+    """The answer to `near`, by a scan."""
+    found = min((((at[0] - x) ** 2 + (at[1] - y) ** 2, id) for id, at in live.items()), default=None)
+    return f"near {found[1]} {found[0]}" if found else "near none"
 
 
 def lines_of(size, is_late):
@@ -47,11 +47,11 @@ def lines_of(size, is_late):
         live[id] = next(come)
         return "add a {} {} {} {}".format(id, *live[id])
 
-    yield "layer a points range near" + ("" if is_late else " top"), "ok", False
+    yield "layer a points range" + ("" if is_late else " near"), "ok", False
     yield from ((add(id), "ok", False) for id in range(size))
     waits = size if is_late else 0
     if is_late:
-        yield "index a top", "ok", False
+        yield "index a near", "ok", False
     for done in range(1, 2 * size + 1):
         oldest, comes = (done - 1) // 2, done % 2 == 0
         if not comes:
@@ -61,11 +61,10 @@ def lines_of(size, is_late):
         waited, waits = waits, waits - HANDED
         waits = waits + comes if waits > 0 else 0
         if waits:
-            yield "top a 0 0", f"no building {waits}", False
+            yield "near a 0 0", f"no building {waits}", False
         elif waited or done % max(1, 2 * size // QUESTIONS) == 0:
-            left = done * 40_503 % 2**20
-            right = left + 2**24 // size
-            yield f"top a {left} {right}", highest(live, left, right), False
+            x, y = done * 40_503 % 2**20, done * 60_493 % 2**20
+            yield f"near a {x} {y}", nearest(live, x, y), False
 
 
 def ran(program, size, is_late):
